@@ -1,0 +1,71 @@
+use Prim.Native.Nat.{ℕ, _+_, _-_, _≤_}
+use mathlib.Core.Path.{_≡_, refl, sym, ap, _∙_}
+use mathlib.Core.List.{List, [], _++_}
+use native.Mathlib.Omega.{arith}
+use native.Mathlib.Nat.{zero-add}
+use lib.ListN.{length, getD, set, take, drop, length-set}
+use lib.Seq.{length-take-le, getD-take}
+use Rattle.cells.specs.NodeWords.{numbered, numberFrom}
+use Rattle.cells.proofs.Filled.{fill-turn, fill-ahead, fill-end}
+use Rattle.cells.proofs.CellRenumbered.{number-length}
+use Rattle.cells.proofs.Reordered.{number-at}
+use borrow.Author.Needs.{needs}
+use Rattle.cells.proofs.permute.number_all.Statement.{statement}
+use Rattle.cells.proofs.permute.number_all.Tie as tie
+
+abbrev Inv-loop : tie.InvT-loop
+Inv-loop nodes₀ n i₀ nodes i =
+    (i ≤ n) × (length nodes ≡ length nodes₀) × (nodes ≡ take i (numberFrom 0 (take n nodes₀)) ++ drop i nodes₀)
+
+abbrev μ-loop : tie.MeasureT-loop
+μ-loop nodes₀ n i₀ nodes i = n - i
+
+loop-holds : tie.Need-loop-holds Inv-loop μ-loop
+loop-holds c = (omega arith, search needs, refl)
+
+-- the list that is stored is as long as the nodes are many
+long : (n : ℕ) (l : List (List ℕ)) → n ≤ length l → length (numberFrom 0 (take n l)) ≡ n
+long n l h = number-length 0 (take n l) ∙ length-take-le n l h
+
+loop-again : tie.Need-loop-again Inv-loop μ-loop
+loop-again c =
+    let l = c .before .before .before .loop in
+    let a = c .before .before .before .before .args in
+    let D = numberFrom 0 (take (a .n) (a .nodes .now)) in
+    let len = long (a .n) (a .nodes .now) (omega arith) in
+    let read : getD (l .nodes) (l .i) [] ≡ getD (a .nodes .now) (l .i) [] =
+    ap (λ (x : List (List ℕ)). getD x (l .i) []) (l .inv .2) ∙ fill-ahead (a .nodes .now) D (l .i) [] (omega arith) (omega arith) in
+    let is : getD D (l .i) [] ≡ c .with-number .result =
+    number-at 0 (take (a .n) (a .nodes .now)) (l .i) (omega (arith, length-take-le (a .n) (a .nodes .now) (omega arith)))
+    ∙ rw (zero-add, getD-take (a .n) (a .nodes .now) (l .i) [] (omega arith)) (ap (numbered (l .i)) (sym read))
+    ∙ sym (c .with-number .ensures) in (
+      omega arith,
+      simp length-set (omega arith),
+      ap (λ (x : List (List ℕ)). set x (l .i) (c .with-number .result)) (l .inv .2) ∙ fill-turn (a .nodes .now) D (l .i) [] (c .with-number .result) (omega arith) (omega arith) is,
+    )
+
+returns : tie.Need-returns Inv-loop μ-loop
+returns c =
+    let l = c .before .loop in
+    let a = c .before .before .args in
+    let e : l .i ≡ a .n = omega arith in
+    (rw e at (l .inv .2)) ∙ fill-end (a .nodes .now) (numberFrom 0 (take (a .n) (a .nodes .now))) (a .n) (long (a .n) (a .nodes .now) (omega arith))
+
+pub number-all-spec : {M : Type 1} → statement M
+number-all-spec =
+    tie.close
+    (tie.spec
+    Inv-loop
+    μ-loop
+    loop-holds
+    (λ c. search needs)
+    (λ c. search needs)
+    (λ c. search needs)
+    (λ c κs. search needs)
+    (λ c. search needs)
+    (λ c. search needs)
+    (λ c. search needs)
+    (λ c. search needs)
+    loop-again
+    (λ c. search needs)
+    returns)

@@ -1,0 +1,38 @@
+-- Causes of refusal, the cell being written: 8 and 9 node by node, 8 first, then 10 junction by junction.
+use Prim.Native.Nat.{ℕ, _+_, _-_, min}
+use mathlib.Core.Bool.{Bool, true, false}
+use mathlib.Core.List.{List, [], _∷_}
+use lib.Dec.{ltb}
+use Rattle.cells.specs.NodeWords.{linkStart, linkCount, valueStart, valueCount}
+use Rattle.cells.specs.declared.count.Total.{Total}
+use Rattle.cells.specs.declared.count.Total.the-variants.{Sum, Refused}
+
+abbrev pub unless : Bool → Total → Total → Total
+unless true refusal next = refusal
+unless false refusal next = next
+
+abbrev pub accepted : Total → Bool
+accepted (Sum n) = true
+accepted (Refused cause place) = false
+
+-- how many entries of a list of `pool` a range holds, cut where it leaves the list
+unfoldable pub linksWithin : ℕ → List ℕ → ℕ
+linksWithin pool n = min (linkCount n) (pool - linkStart n)
+
+unfoldable pub valuesWithin : ℕ → List ℕ → ℕ
+valuesWithin pool j = min (valueCount j) (pool - valueStart j)
+
+-- 8: over 31 links. 9: links before this node over 65,535, even if it has none. Else how many links there are in all.
+unfoldable pub checkNodes : (List ℕ → ℕ) → ℕ → ℕ → List (List ℕ) → Total
+checkNodes count place before [] = Sum before
+checkNodes count place before (n ∷ ns) =
+    unless (ltb 31 (count n)) (Refused 8 place)
+    (unless (ltb 65535 before) (Refused 9 place)
+    (checkNodes count (place + 1) (before + count n) ns))
+
+-- 10: heightmap bytes before this junction over 65,535. Else how many bytes there are in all.
+unfoldable pub checkJunctions : (List ℕ → ℕ) → ℕ → ℕ → List (List ℕ) → Total
+checkJunctions count place before [] = Sum before
+checkJunctions count place before (j ∷ js) =
+    unless (ltb 65535 before) (Refused 10 place)
+    (checkJunctions count (place + 1) (before + count j) js)

@@ -1,0 +1,25 @@
+// The cell in memory: reading, lookups, edits, renumbering and writing.
+mod arrays;
+mod checks;
+pub mod count;
+mod fill;
+mod from_file;
+mod field;
+pub mod junction;
+pub mod junction_ref;
+pub mod link;
+mod link_flags;
+pub mod node;
+mod pack;
+pub mod read;
+mod node_words;
+mod number_index;
+mod order;
+mod permute;
+mod relink;
+pub mod renumber;
+mod room;
+mod node_flags;
+pub mod special;
+pub mod write;
+pub mod ynd;

@@ -1,0 +1,6 @@
+// Writing a cell into a lent section.
+
+pub enum Written {
+    Wrote(usize),
+    Refused(u32, usize),
+}

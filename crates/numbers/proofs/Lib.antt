@@ -1,0 +1,15 @@
+pub mod Patterns
+pub mod Units
+pub mod Every
+pub mod StepLaws
+pub mod AsCast
+pub mod PositionLaws
+pub mod Cuts
+pub mod GridLaws
+pub mod BoundLaws
+pub mod NameLaws
+pub mod NameBack
+pub mod Dots
+pub mod Roots
+pub mod TableLaws
+pub mod SquareLaws

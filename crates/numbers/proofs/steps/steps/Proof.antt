@@ -1,0 +1,37 @@
+-- `numbers::steps::steps` meets its contract. Assumes nothing.
+use mathlib.Core.Path.{_≡_, sym, ap, _∙_, subst, refl}
+use mathlib.Core.Bool.{Bool, true, false, not}
+use lib.Dec.{T}
+use lib.IntN.{ℤ, pos}
+use lib.Ieee.{Float, binary32, nan, inf, fin, ofBits, toBits, ne, isNan, fits}
+use lib.Ieee.Compare.{differs-from-itself, nan-differs}
+use lib.Ieee.Bits.{ofBits-toBits}
+use mir.Syntax.{w16}
+use mir.ValLaws.{toZ-ofZ}
+use Rattle.numbers.specs.Steps.{stepOf}
+use Rattle.numbers.proofs.Patterns.{only-nan, no-nan}
+use borrow.Author.Needs.{needs}
+use Rattle.numbers.proofs.steps.steps.Statement.{statement}
+use Rattle.numbers.proofs.steps.steps.Tie as tie
+
+-- what owning an `f32` tells: the format holds it
+held : (c : tie.Start) → T (fits binary32 (c .args .x))
+held c = subst T (sym (c .good .0 .1)) tt
+
+returns : tie.Need-returns
+unfolding stepOf
+returns c = sym (ap (stepOf (c .before .args .k)) (only-nan (c .before .args .x) (c .if1 .taken)))
+
+float-to-bits-steps-of-bits : tie.Need-float-to-bits-steps-of-bits
+float-to-bits-steps-of-bits c = no-nan (c .before .args .x) (c .if1 .left)
+
+returns-2 : tie.Need-returns-2
+returns-2 c =
+    let start = c .before .before in
+    toZ-ofZ w16 (c .steps-of-bits .result) (record { sfits = c .steps-of-bits .ok })
+    ∙ c .steps-of-bits .ensures
+    ∙ ap (stepOf (start .args .k)) (ofBits-toBits binary32 (start .args .x) (held start))
+
+pub steps-spec : {M : Type 1} → statement M
+steps-spec =
+    tie.close (tie.spec returns float-to-bits-steps-of-bits (λ c κs. search needs) returns-2)

@@ -1,0 +1,10 @@
+pub mod Steps
+pub mod Positions
+pub mod Grid
+pub mod Names
+pub mod Squares
+pub mod Lengths
+pub mod Table
+pub mod Lane
+pub mod Pairs
+pub mod NamePairs

@@ -1,0 +1,12 @@
+-- `records::bytes::bytes2` meets its contract.
+use Rattle.records.specs.Bytes.{numberBytes}
+use borrow.Author.Needs.{needs}
+use Rattle.records.proofs.bytes.bytes2.Statement.{statement}
+use Rattle.records.proofs.bytes.bytes2.Tie as tie
+
+returns : tie.Need-returns
+unfolding numberBytes
+returns c = search needs
+
+pub bytes2-spec : {M : Type 1} → statement M
+bytes2-spec = tie.close (tie.spec (λ c. search needs) (λ c. search needs) returns)

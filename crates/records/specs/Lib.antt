@@ -1,0 +1,6 @@
+pub mod Bytes
+pub mod Sections
+pub mod Root
+pub mod Records
+pub mod Put
+pub mod Layout

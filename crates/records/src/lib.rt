@@ -1,0 +1,10 @@
+// The file's sections, root and records, and where the blocks of a written file lie.
+pub mod bytes;
+pub mod junction;
+pub mod junction_ref;
+pub mod layout;
+pub mod link;
+pub mod node;
+pub mod put;
+pub mod root;
+pub mod section;

@@ -1,0 +1,48 @@
+// A link record, 8 bytes.
+ghost use mathlib.Core.Path.{_≡_};
+ghost use Rattle.records.specs.Records.{linkAt, linkBytes};
+use crate::bytes::byte_at;
+use crate::bytes::bytes2;
+use crate::bytes::u16_from;
+
+pub struct NodeLink {
+    pub area_id: u16,
+    pub node_id: u16,
+    pub flags0: u8,
+    pub flags1: u8,
+    pub flags2: u8,
+    pub link_length: u8,
+}
+
+// The link at a place of a section.
+pub fn link_at(s: &[u8], at: u32) -> NodeLink
+    ensures { λ r. ⌜ r ≡ linkAt (now (s .entry)) at ⌝ }
+{
+    let i = at as usize;
+    NodeLink {
+        area_id: u16_from(s, i),
+        node_id: u16_from(s, i + 2),
+        flags0: byte_at(s, i + 4),
+        flags1: byte_at(s, i + 5),
+        flags2: byte_at(s, i + 6),
+        link_length: byte_at(s, i + 7),
+    }
+}
+
+// A link as written.
+pub fn link_bytes(l: NodeLink) -> [u8; 8]
+    ensures { λ r. ⌜ r ≡ linkBytes l ⌝ }
+{
+    let area = bytes2(l.area_id);
+    let id = bytes2(l.node_id);
+    [
+        area[0],
+        area[1],
+        id[0],
+        id[1],
+        l.flags0,
+        l.flags1,
+        l.flags2,
+        l.link_length,
+    ]
+}

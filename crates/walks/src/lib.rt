@@ -1,0 +1,2 @@
+// Sound cells and walks.
+pub mod walk;
