@@ -30,7 +30,7 @@ use Rattle.cells.specs.WriteChecks.{accepted, checkNodes, checkJunctions
 use Rattle.cells.specs.Blocks.{refsBlock, heightsBlock, junctionRecord, junctionsBlock, nodeRecord, linksBlock, nodesBlock, blocks, rootFor, written}
 use Rattle.cells.specs.Write.{held, writeCall}
 use Rattle.cells.specs.WriteRead.{ifRead, ifWritten, writeReadOf}
-use Rattle.cells.specs.BackCheck.{then, areaAt, lacks, backCounts, backCheck}
+use Rattle.cells.specs.BackCheck.{then, areaAt, lacks, backCounts, lengths, backTests, backCheck}
 use Rattle.cells.specs.declared.arrays.Found.the-variants as found
 use Rattle.cells.specs.declared.count.Counts.{Counts}
 use Rattle.cells.specs.declared.count.Counted.{Counted}
@@ -213,8 +213,8 @@ long-enough h =
     omega (arith, length-append (headerBytes r) (lay headerSize (blocks h)), header-length r)
 
 -- reading back, after an accepted writing
-pub read-back-done : (h m : Memory) → Told h → readOf (written h) [] m .answer ≡ backCheck h m
-unfolding readOf backCheck sizesCheck arraysFound
+pub read-back-done : (h m : Memory) → Told h → readOf (written h) [] m .answer ≡ backCheck h (lengths m)
+unfolding readOf backCheck backTests sizesCheck arraysFound
 read-back-done h m told = go (ltb 16777216 (length (written h))) refl
   where
     w : List ℕ
@@ -256,7 +256,7 @@ read-back-done h m told = go (ltb 16777216 (length (written h))) refl
 
 -- so write-then-read may test first, and write only what will be read back
 pub tested-first : (m : Memory) (s : List ℕ) (n : ℕ) → writeCall m s .answer ≡ written.Wrote n
-    → writeReadOf m s ≡ ifRead n (writeCall m s .section) (backCheck (held m) m) (readOf (written (held m)) [] m .memory) m s
+    → writeReadOf m s ≡ ifRead n (writeCall m s .section) (backCheck (held m) (lengths m)) (readOf (written (held m)) [] m .memory) m s
 unfolding writeReadOf writeCall
 tested-first m s n e =
     let t = writeCall m s .section in

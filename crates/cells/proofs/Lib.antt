@@ -7,6 +7,7 @@ pub mod Filled
 pub mod Placed
 pub mod Named
 pub mod Looked
+pub mod LookupLaws
 pub mod Moved
 pub mod Reordered
 pub mod NewCell
@@ -28,3 +29,17 @@ pub mod BlocksBack
 pub mod SectionBack
 pub mod WrittenBack
 pub mod BackCheck
+pub mod Turns
+pub mod Ranges
+pub mod CheckTurns
+pub mod WriteTotals
+pub mod WriteSteps
+pub mod EditLaws
+pub mod AddLaws
+pub mod Inserted
+pub mod LinkAdded
+pub mod CellAdded
+pub mod CellStored
+pub mod PoolStored
+pub mod BackAnswer
+pub mod WritePairs

@@ -10,7 +10,7 @@ use Rattle.cells.specs.Checks.{refuseIf, scan}
 use Rattle.cells.specs.Memory.{Memory}
 use Rattle.cells.specs.Read.{roomCheck}
 use Rattle.cells.specs.Entries.{linksIn, valuesIn}
-use Rattle.cells.specs.Blocks.{written}
+use Rattle.cells.specs.Blocks.{heightsBlock, written}
 use Rattle.cells.specs.declared.count.Counts.{Counts}
 use Rattle.numbers.specs.declared.answer.Answer.{Answer}
 use Rattle.numbers.specs.declared.answer.Answer.the-variants.{Done, Refused}
@@ -27,20 +27,36 @@ areaAt js i = getD (getD js i []) 4 0 % 256 * (getD (getD js i []) 4 0 / 256 % 2
 abbrev pub lacks : List ℕ → List (List ℕ) → ℕ → Bool
 lacks heights js i = ltb (length (joined (valuesIn heights) js)) (length (joined (valuesIn heights) (take i js)) + areaAt js i)
 
-abbrev pub backCounts : Memory → Counts
-backCounts h = record {
+-- how much is written of the cell h
+abbrev pub heldCounts : Memory → Counts
+heldCounts h = record {
   nodes = length (h .nodes);
   links = length (joined (linksIn (h .links)) (h .nodes));
   junctions = length (h .junctions);
-  heights = sumTo (areaAt (h .junctions)) (length (h .junctions));
+  heights = length (heightsBlock (h .heights) (h .junctions));
   refs = length (h .refs);
 }
 
--- the cell h, written, read into the lists of m: 2, 6, 5, 7
-unfoldable pub backCheck : Memory → Memory → Answer
-backCheck h m =
-    refuseIf (ltb 16777216 (length (written h))) 2 0
-    (refuseIf (ltb 65536 (length (h .nodes))) 6 0
-    (refuseIf (ltb 4096 (length (h .junctions))) 6 1
-    (then (scan 5 (lacks (h .heights) (h .junctions)) 0 (length (h .junctions)))
-    (roomCheck (backCounts h) (length (m .nodes)) (length (m .links)) (length (m .junctions)) (length (m .heights)) (length (m .refs))))))
+-- how much is read where k is written: each junction has width × height values
+abbrev pub readCounts : Counts → List (List ℕ) → Counts
+readCounts k js = record { nodes = k .nodes; links = k .links; junctions = k .junctions; heights = sumTo (areaAt js) (length js); refs = k .refs }
+
+abbrev pub backCounts : Memory → Counts
+backCounts h = readCounts (heldCounts h) (h .junctions)
+
+-- how many entries the lists have
+abbrev pub lengths : Memory → Counts
+lengths m = record { nodes = length (m .nodes); links = length (m .links); junctions = length (m .junctions); heights = length (m .heights); refs = length (m .refs) }
+
+-- 2, 6, 5, 7: a section of `total` bytes with k entries and these heightmaps, read into lists of so many entries
+unfoldable pub backTests : ℕ → Counts → List ℕ → List (List ℕ) → Counts → Answer
+backTests total k heights js lent =
+    refuseIf (ltb 16777216 total) 2 0
+    (refuseIf (ltb 65536 (k .nodes)) 6 0
+    (refuseIf (ltb 4096 (k .junctions)) 6 1
+    (then (scan 5 (lacks heights js) 0 (length js))
+    (roomCheck (readCounts k js) (lent .nodes) (lent .links) (lent .junctions) (lent .heights) (lent .refs)))))
+
+-- the cell h, written, read into lists of so many entries
+unfoldable pub backCheck : Memory → Counts → Answer
+backCheck h lent = backTests (length (written h)) (heldCounts h) (h .heights) (h .junctions) lent

@@ -17,9 +17,16 @@ pub mod Cell
 pub mod CellOf
 pub mod FileCell
 pub mod Lookup
+pub mod LookupCall
+pub mod Edit
+pub mod Add
+pub mod AddLink
+pub mod EditedCell
 pub mod Entries
 pub mod WriteChecks
+pub mod WriteCounts
 pub mod Blocks
 pub mod Write
 pub mod WriteRead
 pub mod BackCheck
+pub mod BackAnswer

@@ -1,7 +1,7 @@
 -- The call: refusals in their order, then the section.
 use Prim.Native.Nat.{ℕ}
 use mathlib.Core.Bool.{Bool, true, false}
-use mathlib.Core.List.{List, [], _++_}
+use mathlib.Core.List.{List, _++_}
 use lib.Dec.{ltb}
 use lib.ListN.{length, take, drop}
 use Rattle.cells.specs.Entries.{linksIn, valuesIn}
@@ -55,7 +55,3 @@ writeHeld h lack s =
 
 unfoldable pub writeCall : Memory → List ℕ → WriteLeft
 writeCall m s = writeHeld (held m) (short m) s
-
-abbrev pub notOf : Total → Written
-notOf (Refused cause place) = written.Refused cause place
-notOf (Sum n) = written.Refused 0 0

@@ -63,7 +63,7 @@ pub(crate) fn values_start(j: &[u8], i: usize) -> usize
     wide16(u16_at(j, (i * 12) as u32 + 8))
 }
 
-fn product(a: u8, b: u8) -> usize
+pub(crate) fn product(a: u8, b: u8) -> usize
     ensures { λ r. ⌜ (r ≡ a * b) × (r < 65536) ⌝ }
 {
     a as usize * b as usize
@@ -73,10 +73,7 @@ pub(crate) fn values_at(j: &[u8], i: usize) -> usize
     requires { ⌜ i ≤ 65536 ⌝ }
     ensures { λ r. ⌜ (r ≡ valuesAt (now (j .entry)) i) × (r < 65536) ⌝ }
 {
-    product(
-        byte_at(j, i * 12 + 10),
-        byte_at(j, i * 12 + 11),
-    )
+    product(byte_at(j, i * 12 + 10), byte_at(j, i * 12 + 11))
 }
 
 // 4: each node's range is within `links` links; how many links they have together.
@@ -118,7 +115,7 @@ fn check_junctions(j: &[u8], bytes: usize) -> Total
 }
 
 // A refusal, handed on.
-fn refused(t: Total) -> Counted
+pub(crate) fn refused(t: Total) -> Counted
     ensures { λ r. ⌜ r ≡ handedOn t ⌝ }
 {
     match t {

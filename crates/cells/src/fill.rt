@@ -71,7 +71,13 @@ fn fill_node(
     held + count
 }
 
-pub(crate) fn fill_nodes(n: &[u8], l: &[u8], nodes: &mut [[u32; 8]], links: &mut [[u16; 4]], count: usize)
+pub(crate) fn fill_nodes(
+    n: &[u8],
+    l: &[u8],
+    nodes: &mut [[u32; 8]],
+    links: &mut [[u16; 4]],
+    count: usize,
+)
     requires { ⌜ (count ≤ 65536) × (count ≤ length (now nodes)) × (sumTo (linksAt (now n)) count ≤ length (now links)) ⌝ }
     ensures { λ _. ⌜ (now (nodes .exit) ≡ upTo (nodeIn (now (n .entry))) count ++ drop count (now (nodes .entry)))
         × (now (links .exit) ≡ joinTo (linksIn (now (n .entry)) (now (l .entry))) count ++ drop (sumTo (linksAt (now (n .entry))) count) (now (links .entry))) ⌝ }
@@ -107,7 +113,13 @@ fn fill_junction(
     held + count
 }
 
-pub(crate) fn fill_junctions(j: &[u8], h: &[u8], junctions: &mut [[u32; 6]], heights: &mut [u8], count: usize)
+pub(crate) fn fill_junctions(
+    j: &[u8],
+    h: &[u8],
+    junctions: &mut [[u32; 6]],
+    heights: &mut [u8],
+    count: usize,
+)
     requires { ⌜ (count ≤ 4096) × (count ≤ length (now junctions)) × (sumTo (valuesAt (now j)) count ≤ length (now heights)) ⌝ }
     ensures { λ _. ⌜ (now (junctions .exit) ≡ upTo (junctionIn (now (j .entry))) count ++ drop count (now (junctions .entry)))
         × (now (heights .exit) ≡ joinTo (valuesIn (now (j .entry)) (now (h .entry))) count ++ drop (sumTo (valuesAt (now (j .entry))) count) (now (heights .entry))) ⌝ }

@@ -3,13 +3,13 @@ ghost use mathlib.Core.Path.{_≡_};
 ghost use Rattle.cells.specs.NodeWords.{areaOf, numberOf, isPed, pedKind, numbered};
 use crate::node::NodeWords;
 
-pub(crate) fn area_of(w: NodeWords) -> u16
+pub fn area_of(w: NodeWords) -> u16
     ensures { λ r. ⌜ r ≡ areaOf w ⌝ }
 {
     (w[0] % 65536) as u16
 }
 
-pub(crate) fn number_of(w: NodeWords) -> u16
+pub fn number_of(w: NodeWords) -> u16
     ensures { λ r. ⌜ r ≡ numberOf w ⌝ }
 {
     (w[0] / 65536 % 65536) as u16

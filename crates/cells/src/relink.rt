@@ -13,7 +13,7 @@ use crate::number_index::index_numbers;
 use crate::number_index::new_number;
 
 // Whether a link or a ref of this area belongs to a cell of the area `own`.
-fn belongs_to(own: u16, area: u16) -> bool
+pub fn belongs_to(own: u16, area: u16) -> bool
     ensures { λ r. ⌜ r ≡ belongs own area ⌝ }
 {
     area == own

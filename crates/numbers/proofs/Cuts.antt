@@ -1,18 +1,16 @@
 -- The whole part of a float, and what the tests `q >= n.0` say of it. Assumes nothing.
-use mathlib.Core.Path.{_≡_, refl, sym, ap, _∙_, subst}
+use mathlib.Core.Path.{_≡_, sym, ap, _∙_, subst}
 use mathlib.Core.Logic.{_⊎_, inl, inr}
-use Prim.Native.Nat.{ℕ, zero, suc, _+_, _-_, _*_, _/_, _%_, _^_, _≤_, _<_, min, compare}
-use native.Mathlib.Nat.{mul-one, one-mul, mul-comm, mul-assoc, mul-pos, mul-right-comm, mul-lt-mul-of-pos-right, lt-of-mul-lt-mul-right, lt-of-lt-of-le, lt-of-le-of-lt, le-of-eq, le-trans, le-of-lt, zero-lt-suc, div-eq-of-lt, le-div-iff-mul-le, div-lt-iff-lt-mul, mul-le-mul-right, mul-le-mul-left, lt-irrefl}
+use Prim.Native.Nat.{ℕ, _+_, _-_, _*_, _/_, _^_, _≤_, _<_, min}
+use native.Mathlib.Nat.{mul-one, mul-pos, lt-of-lt-of-le, lt-of-le-of-lt, le-of-eq, le-trans, le-of-lt, zero-lt-suc, le-div-iff-mul-le, div-lt-iff-lt-mul, mul-le-mul-right, lt-irrefl}
 use native.Mathlib.Omega.{arith}
 use mathlib.Core.Bool.{Bool, true, false, not, _&&_, _||_, cond}
-use lib.IntN.{ℤ, pos, negsuc}
-use lib.Dec.{T, ltb, leb, eqb, ltb→lt, leb→le, nltb→le, lit<, lit≤, lt→ltb, eqb→eq}
-use lib.Pow.{pow-add, pow-pos, pow-mono, pow-lt}
-use lib.Ieee.{Float, nan, inf, fin, binary32, up, down, fits, size, nearest, odd, units, round, div, lt, le, toUnsigned}
+use lib.IntN.{ℤ, pos}
+use lib.Dec.{T, ltb, eqb, ltb→lt, nltb→le, lt→ltb, eqb→eq}
+use lib.Ieee.{Float, nan, inf, fin, up, down, lt, le, toUnsigned}
 use lib.Ieee.Fits.{down-pos, and-l, and-r, eq→eqb}
-use lib.Ieee.Exact.{HasValue, round-exact}
+use lib.Ieee.Exact.{HasValue}
 use lib.Ieee.Nearest.{div-same}
-use lib.Ieee.Order.{round-mono}
 
 -- the whole part of a float, 0 where it is negative or NaN, and 2 ^ 64 - 1 where it is infinite or larger
 abbrev pub cut : Float → ℕ

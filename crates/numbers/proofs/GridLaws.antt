@@ -1,17 +1,17 @@
 -- The cell of y is the whole part of the f32 quotient y / 512, limited: the quotient is exact, or both are below 1. Assumes nothing.
 use mathlib.Core.Path.{_≡_, refl, sym, ap, _∙_, subst}
-use mathlib.Core.Logic.{_⊎_, inl, inr}
+use mathlib.Core.Logic.{inl, inr}
 use Prim.Native.Nat.{ℕ, zero, suc, _+_, _-_, _*_, _/_, _%_, _^_, _≤_, _<_, min, compare}
-use native.Mathlib.Nat.{mul-one, one-mul, mul-comm, mul-assoc, mul-pos, mul-right-comm, mul-lt-mul-of-pos-right, lt-of-mul-lt-mul-right, lt-of-lt-of-le, lt-of-le-of-lt, le-of-eq, le-trans, le-of-lt, zero-lt-suc, div-eq-of-lt, le-div-iff-mul-le, div-lt-iff-lt-mul, mul-le-mul-right, mul-le-mul-left, lt-irrefl}
+use native.Mathlib.Nat.{mul-one, mul-comm, mul-assoc, mul-pos, mul-lt-mul-of-pos-right, lt-of-mul-lt-mul-right, lt-of-lt-of-le, lt-of-le-of-lt, le-of-eq, le-trans, zero-lt-suc, div-eq-of-lt, mul-le-mul-right, mul-le-mul-left}
 use native.Mathlib.Omega.{arith}
-use mathlib.Core.Bool.{Bool, true, false, not, _&&_, _||_, cond}
+use mathlib.Core.Bool.{Bool, true, false, cond}
 use lib.IntN.{ℤ, pos, negsuc}
-use lib.Dec.{T, ltb, leb, eqb, ltb→lt, leb→le, nltb→le, lit<, lit≤, lt→ltb, eqb→eq}
-use lib.Pow.{pow-add, pow-pos, pow-mono, pow-lt}
+use lib.Dec.{T, ltb, ltb→lt}
+use lib.Bits.{bitAnd, and-mask, and-high}
+use lib.Pow.{pow-add, pow-pos, pow-mono}
 use lib.Ieee.{Float, nan, inf, fin, binary32, up, down, fits, size, nearest, odd, units, round, div, lt, le, toUnsigned}
-use lib.Ieee.Fits.{down-pos, and-l, and-r, eq→eqb}
-use lib.Ieee.Exact.{HasValue, round-exact}
-use lib.Ieee.Nearest.{div-same}
+use lib.Ieee.Fits.{down-pos, and-l, and-r}
+use lib.Ieee.Exact.{round-exact}
 use lib.Ieee.Order.{round-mono}
 use Rattle.numbers.specs.Grid.{gridFloor, inGrid}
 use Rattle.numbers.proofs.Units.{Units, units-of, lt-or-ge}
@@ -114,3 +114,10 @@ cell-is (fin false m e) t = limit-twice (m * up e / (down e * 512)) ∙ sym (ap 
 pub in-grid : (cx cy : ℕ) → inGrid cx cy ≡ true → (cx < 32) × (cy < 32)
 in-grid cx cy e =
     (ltb→lt cx 32 (and-l (ltb cx 32) (ltb cy 32) (subst T (sym e) tt)), ltb→lt cy 32 (and-r (ltb cx 32) (ltb cy 32) (subst T (sym e) tt)))
+
+-- ---- the Rust's masks, `area & 1023` and `area & 1024`
+pub cell-mask : (a : ℕ) → bitAnd a 1023 ≡ a % 1024
+cell-mask a = and-mask a 10
+
+pub island-mask : (a : ℕ) → bitAnd a 1024 ≡ a / 1024 % 2 * 1024
+island-mask a = and-high a 1 10

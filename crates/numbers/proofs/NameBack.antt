@@ -1,5 +1,5 @@
 -- The file name of a cell, read back, gives the cell's area. One computed test of the 1,024 areas. Assumes nothing.
-use mathlib.Core.Path.{_≡_, ap, _∙_}
+use mathlib.Core.Path.{_≡_, ap}
 use mathlib.Core.Bool.{Bool, true, false}
 use Prim.Native.Nat.{ℕ, _+_, _*_, _<_}
 use native.Mathlib.Omega.{arith}
@@ -7,7 +7,6 @@ use lib.Dec.{T, eqb, eqb→eq}
 use lib.ListN.{take}
 use Rattle.numbers.specs.Grid.{inGrid, areaId}
 use Rattle.numbers.specs.Names.{named, nameOfArea, nameFor, cellFileName, areaIdFromFileName}
-use Rattle.numbers.specs.declared.grid.GridArea.the-variants.{Area}
 use Rattle.numbers.specs.declared.names.AreaId.{AreaId}
 use Rattle.numbers.specs.declared.names.AreaId.the-variants.{Known, Nothing}
 use Rattle.numbers.specs.declared.names.FileName.{FileName}

@@ -1,9 +1,8 @@
 -- A position that was read from stored steps is stored in the same steps, and so read as itself. Assumes nothing.
 use mathlib.Core.Path.{_≡_, ap}
-use Prim.Native.Nat.{ℕ, _≤_, _<_}
+use Prim.Native.Nat.{_≤_, _<_}
 use native.Mathlib.Omega.{arith}
 use lib.Signed.{mag}
-use Rattle.numbers.specs.Steps.{stepOf, unstep}
 use Rattle.numbers.specs.Positions.{quantised, dequantised}
 use Rattle.numbers.specs.declared.math.Vec3.{Vec3}
 use Rattle.numbers.specs.declared.position.Quantised.{Quantised}

@@ -1,12 +1,11 @@
 -- `stepOf` of a pattern, by cases on the exponent's field. Assumes nothing.
-use mathlib.Core.Path.{_≡_, refl, sym, ap, _∙_, subst}
-use mathlib.Core.Logic.{_⊎_, inl, inr}
-use Prim.Native.Nat.{ℕ, zero, suc, _+_, _-_, _*_, _/_, _%_, _^_, _≤_, _<_, min}
-use native.Mathlib.Nat.{mul-pos, mul-one, one-mul, mul-comm, zero-lt-suc, lt-of-le-of-lt, mul-div-cancel, mul-right-comm, mul-assoc, mul-le-mul-right, mul-lt-mul-of-pos-right, lt-of-lt-of-le, le-of-eq, le-of-lt, le-trans, div-eq-of-lt, le-div-iff-mul-le, eq-zero-or-pos}
+use mathlib.Core.Path.{_≡_, refl, sym, ap, _∙_}
+use mathlib.Core.Logic.{inl, inr}
+use Prim.Native.Nat.{ℕ, zero, suc, _+_, _-_, _*_, _/_, _^_, _≤_, _<_, min}
+use native.Mathlib.Nat.{mul-pos, one-mul, mul-comm, zero-lt-suc, mul-div-cancel, mul-right-comm, mul-assoc, mul-le-mul-right, mul-lt-mul-of-pos-right, lt-of-lt-of-le, le-of-eq, le-of-lt, le-trans, div-eq-of-lt, le-div-iff-mul-le, eq-zero-or-pos}
 use native.Mathlib.Omega.{arith}
-use mathlib.Core.Bool.{Bool, true, false, not, cond}
+use mathlib.Core.Bool.{Bool, true, false, not}
 use lib.IntN.{ℤ, pos, negsuc, negℤ, natAbs}
-use lib.Dec.{T, lit≤}
 use lib.Pow.{pow-add, pow-pos, pow-mono, shr-lt}
 use lib.Ieee.{Float, nan, inf, fin, binary32, up, down, ofBits, round, div, ofInt}
 use lib.Ieee.Fits.{down-pos}

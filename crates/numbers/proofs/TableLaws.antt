@@ -2,20 +2,20 @@
 -- entries, and that the rounded root grows with the pattern. Assumes nothing.
 use mathlib.Core.Path.{_≡_, refl, sym, ap, _∙_, subst}
 use mathlib.Core.Logic.{_⊎_, inl, inr}
-use Prim.Native.Nat.{ℕ, zero, suc, _+_, _-_, _*_, _/_, _%_, _^_, _≤_, _<_, min}
-use native.Mathlib.Nat.{le-trans, le-of-eq, le-of-lt, lt-of-lt-of-le, eq-or-lt-of-le, mul-one, mul-assoc, mul-comm, mul-right-comm, mul-le-mul-right, le-of-mul-le-mul-right, div-one, le-div-iff-mul-le, div-lt-iff-lt-mul, zero-lt-suc, lt-of-not-le}
+use Prim.Native.Nat.{ℕ, suc, _-_, _*_, _/_, _^_, _≤_, _<_, min}
+use native.Mathlib.Nat.{le-trans, le-of-eq, le-of-lt, eq-or-lt-of-le, mul-one, mul-assoc, mul-right-comm, mul-le-mul-right, le-of-mul-le-mul-right, div-one, le-div-iff-mul-le, div-lt-iff-lt-mul, zero-lt-suc}
 use native.Mathlib.Omega.{arith}
-use mathlib.Core.Bool.{Bool, true, false, not, _&&_, _||_, cond}
+use mathlib.Core.Bool.{Bool, true, false, not, _&&_, _||_}
 use lib.Dec.{T, ltb, leb, eqb, ltb→lt, leb→le, nleb→lt, le→leb, eqb→eq, T-not, not-T}
-use lib.ListN.{getD, length}
+use lib.ListN.{getD}
 use lib.Ieee.{Float, nan, inf, fin, binary32, up, down, ofBits, le}
-use lib.Ieee.Fits.{and-l, and-r, and-i, down-pos}
+use lib.Ieee.Fits.{and-l, and-r, down-pos}
 use lib.Ieee.Exact.{HasValue}
 use lib.Ieee.Nearest.{div-same}
 use Rattle.numbers.specs.Lengths.{rootOf, root, reaches, capped, lengthOf}
 use Rattle.numbers.specs.Table.{thresholds, Least}
 use Rattle.numbers.proofs.Every.{at}
-use Rattle.numbers.proofs.Patterns.{sign, field, fraction, val, finite-value, infinite, val-mono, unsigned}
+use Rattle.numbers.proofs.Patterns.{sign, field, val, finite-value, val-mono, unsigned}
 use Rattle.numbers.proofs.Roots.{rootOf-mono, no-sign}
 use Rattle.numbers.proofs.Units.{lt-or-ge}
 use Rattle.numbers.proofs.Cuts.{lt-or-eq}

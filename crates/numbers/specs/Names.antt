@@ -53,7 +53,7 @@ abbrev pub slash : ℕ → Bool
 slash c = eqb c 47 || eqb c 92
 
 -- what stands after the last of them: the best start so far, and what is left to look at
-abbrev pub baseFrom : List ℕ → List ℕ → List ℕ
+unfoldable pub baseFrom : List ℕ → List ℕ → List ℕ
 baseFrom best [] = best
 baseFrom best (c ∷ cs) = baseFrom (cond (slash c) cs best) cs
 
@@ -65,30 +65,34 @@ abbrev pub lower : ℕ → ℕ
 lower c = cond (leb 65 c && leb c 90) (c + 32) c
 
 -- s in lower case starts with the word
-abbrev pub starts : List ℕ → List ℕ → Bool
+unfoldable pub starts : List ℕ → List ℕ → Bool
 starts s [] = true
 starts [] (d ∷ ds) = false
 starts (c ∷ cs) (d ∷ ds) = eqb (lower c) d && starts cs ds
 
 -- Rust's u32 parse, from the number so far: each byte a digit, and no number above 4294967295
-abbrev pub digitsFrom : ℕ → List ℕ → AreaId
+unfoldable pub digitsFrom : ℕ → List ℕ → AreaId
 digitsFrom n [] = Known n
 digitsFrom n (c ∷ cs) = cond (leb 48 c && leb c 57 && leb (n * 10 + (c - 48)) 4294967295) (digitsFrom (n * 10 + (c - 48)) cs) Nothing
 
-abbrev pub digitsOf : List ℕ → AreaId
+unfoldable pub digitsOf : List ℕ → AreaId
+unfolding digitsFrom
 digitsOf [] = Nothing
 digitsOf (c ∷ cs) = digitsFrom 0 (c ∷ cs)
 
 -- one + may stand in front
-abbrev pub parsed : List ℕ → AreaId
+unfoldable pub parsed : List ℕ → AreaId
+unfolding digitsOf
 parsed [] = Nothing
 parsed (c ∷ cs) = cond (eqb c 43) (digitsOf cs) (digitsOf (c ∷ cs))
 
-abbrev pub areaOfBase : List ℕ → AreaId
+unfoldable pub areaOfBase : List ℕ → AreaId
+unfolding starts parsed
 areaOfBase b =
     cond (leb 9 (length b) && starts b nodes && starts (drop (length b - 4) b) ynd)
     (parsed (take (length b - 4 - 5) (drop 5 b)))
     Nothing
 
 unfoldable pub areaIdFromFileName : List ℕ → AreaId
+unfolding areaOfBase baseFrom
 areaIdFromFileName s = areaOfBase (baseOf s)

@@ -1,5 +1,4 @@
 -- Section 3: a position and the steps that it is stored in.
-use lib.IntN.{ℤ}
 use Rattle.numbers.specs.Steps.{stepOf, unstep}
 use Rattle.numbers.specs.declared.math.Vec3.{Vec3}
 use Rattle.numbers.specs.declared.position.Quantised.{Quantised}

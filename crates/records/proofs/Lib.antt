@@ -5,3 +5,4 @@ pub mod RootBack
 pub mod Puts
 pub mod Laid
 pub mod SectionBack
+pub mod Pairs

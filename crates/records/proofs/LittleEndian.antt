@@ -11,7 +11,10 @@ use lib.ListN.{length, getD, take, drop, length-append, List·getD-append}
 use lib.Seq.{getD-append-add, getD-drop, getD-take}
 use borrow.Author.Tests.{lt-ltb, le-ltb, ltb-true, ltb-false}
 use lib.Signed.{mag}
-use Rattle.records.specs.Bytes.{byteAt, numberAt, numberBytes, signed16, bits16}
+use mir.Syntax.{w16}
+use mir.Val.{toZ, ofZ}
+use mir.ValLaws.{toZ-ofZ}
+use Rattle.records.specs.Bytes.{byteAt, numberAt, numberBytes, bytes16, signed16, bits16}
 
 -- ---- a number and its bytes
 
@@ -120,3 +123,7 @@ signed-back (negsuc n) h =
     let over : 32768 ≤ 65535 - n = omega arith in
     let same : 65535 - (65535 - n) ≡ n = omega arith in
     rw (le-ltb (65535 - n) 32768 over) (ap negsuc same)
+
+-- a field with a sign: the bytes of its bits, as the code has the number
+pub signed-bytes : {b : List ℕ} {n : ℕ} (z : ℤ) → mag z < 32768 → b ≡ bytes16 n → n ≡ bits16 (toZ w16 (ofZ w16 z)) → b ≡ bytes16 (bits16 z)
+signed-bytes z h e f = e ∙ ap bytes16 (f ∙ ap bits16 (toZ-ofZ w16 z (record { sfits = h })))

@@ -1,6 +1,6 @@
 // Where the blocks of a written section lie.
 ghost use mathlib.Core.Path.{_≡_};
-ghost use mathlib.Core.List.{List, [], _∷_};
+ghost use mathlib.Core.List.{[], _∷_};
 ghost use Prim.Native.Nat.{_+_, _≤_};
 ghost use Rattle.records.specs.Layout.{gapFor, startOf, endOf, address, sizes, placesOf, headerBytes};
 ghost use Rattle.records.specs.Put.{putIn};

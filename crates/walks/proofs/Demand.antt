@@ -21,7 +21,7 @@ use Rattle.cells.proofs.FileRead.{read-cell}
 use Rattle.cells.proofs.Kept.{read-kept}
 use Rattle.walks.proofs.CallLists.{Alike, Fit, run-alike, run-numbers}
 use Rattle.walks.proofs.Routes.{same-walk, moveRoute}
-use Rattle.walks.proofs.WalksAlike.{Lies, read-lies, run-lies, walkLeft, calls-alike, answers-alike}
+use Rattle.walks.proofs.WalksAlike.{Lies, read-lies, run-lies, routeLeft, calls-alike, answers-alike}
 
 -- of a sound cell that storing keeps, in lists that hold it, and of every list of calls
 unnoticed : (m : Memory) → Fit (cellOf m) → Lies m → (calls : List Call) → Unnoticed (cellOf m) m calls
@@ -57,10 +57,10 @@ demand-3 system graphics lent e s calls =
 pub walks-unnoticed : (system graphics : List ℕ) (lent : Memory) → readOf system graphics lent .answer ≡ Done → sound (fileCell system graphics) ≡ true
     → (calls : List Call) (choices : List ℕ) (p : ℕ) → p < length (fileCell system graphics .nodes) → (visited : List ℕ)
     → walkCall (run (readOf system graphics lent .memory) calls) choices (moved (readOf system graphics lent .memory) calls p) visited
-    ≡ walkLeft (moveRoute (moved (readOf system graphics lent .memory) calls) (route (fileCell system graphics .nodes) choices p)) visited
+    ≡ routeLeft (moveRoute (moved (readOf system graphics lent .memory) calls) (route (fileCell system graphics .nodes) choices p)) visited
 walks-unnoticed system graphics lent e s calls choices p lt visited =
     let m = first system graphics lent e s in
     let h = lies system graphics lent e s in
     let c : cellOf m ≡ fileCell system graphics = same system graphics lent e s in
     calls-alike m (run m calls) (moved m calls) h (run-lies m calls h) (run-alike m calls (fit system graphics lent e s)) choices p (let q : p < length (cellOf m .nodes) = rw c lt in q) visited
-    ∙ ap (λ (x : Cell). walkLeft (moveRoute (moved m calls) (route (x .nodes) choices p)) visited) c
+    ∙ ap (λ (x : Cell). routeLeft (moveRoute (moved m calls) (route (x .nodes) choices p)) visited) c

@@ -1,4 +1,14 @@
 pub mod Numbers
+pub mod Ranges
+pub mod ScratchLaws
+pub mod SoundWords
+pub mod SoundCases
+pub mod StepLaws
+pub mod VisitedLaws
+pub mod Reaches
+pub mod Storing
+pub mod WalkCases
+pub mod ShownLaws
 pub mod NewSound
 pub mod NewWalks
 pub mod CallLists

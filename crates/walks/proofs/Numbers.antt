@@ -45,7 +45,7 @@ first-is (n ∷ ns) k (suc p) d h =
     (λ t. true-false (cc (ih, eqb-true n k t, and-left (not (isSome (firstWith ns n))) _ d)))
     (λ f. cc)
 
-first-last : (ns : List ℕ) (k : ℕ) → isSome (lastWith ns k) ≡ isSome (firstWith ns k)
+pub first-last : (ns : List ℕ) (k : ℕ) → isSome (lastWith ns k) ≡ isSome (firstWith ns k)
 unfolding firstWith lastWith
 first-last [] k = refl
 first-last (n ∷ ns) k = go (eqb n k) (lastWith ns k) (firstWith ns k) (first-last ns k)

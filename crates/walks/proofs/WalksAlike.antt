@@ -45,8 +45,8 @@ nodes-long m h =
     ∙ length-take-le (m .ynd .«node_count») (m .nodes) (h .nodes-lie)
 
 -- what a call leaves whose walk is the route r: 7 at 8 if the visited list is too short for its places
-abbrev pub walkLeft : Route → List ℕ → WalkLeft
-walkLeft r visited =
+abbrev pub routeLeft : Route → List ℕ → WalkLeft
+routeLeft r visited =
     cond (ltb (length visited) (length (r .places)))
     (record { answer = walked.Refused 7 8; visited = visited })
     (record { answer = walked.Ended (r .ending) (length (r .places)); visited = r .places ++ drop (length (r .places)) visited })
@@ -59,12 +59,12 @@ cond-answer false x y = refl
 abbrev answerBy : End → ℕ → ℕ → Walked
 answerBy e count room = cond (ltb room count) (walked.Refused 7 8) (walked.Ended e count)
 
-left-answer : (r : Route) (visited : List ℕ) → walkLeft r visited .answer ≡ answerBy (r .ending) (length (r .places)) (length visited)
+left-answer : (r : Route) (visited : List ℕ) → routeLeft r visited .answer ≡ answerBy (r .ending) (length (r .places)) (length visited)
 left-answer r visited = cond-answer (ltb (length visited) (length (r .places))) _ _
 
 -- the call, where the lists hold the cell
 pub walk-left : (m : Memory) → Lies m → (choices : List ℕ) (start : ℕ) (visited : List ℕ) → start < length (cellOf m .nodes)
-    → walkCall m choices start visited ≡ walkLeft (route (nodesOf m) choices start) visited
+    → walkCall m choices start visited ≡ routeLeft (route (nodesOf m) choices start) visited
 unfolding walkCall
 walk-left m h choices start visited lt =
     let inside : start < m .ynd .«node_count» = omega (arith, nodes-long m h) in
@@ -73,11 +73,11 @@ walk-left m h choices start visited lt =
 -- cells alike, in memory that holds them
 module _ (m d : Memory) (f : ℕ → ℕ) (hm : Lies m) (hd : Lies d) (a : Alike (cellOf m) (cellOf d) f) (choices : List ℕ) (p : ℕ) (lt : p < length (cellOf m .nodes)) where
   -- the call in the later one leaves the walk of the first, each place moved
-  pub calls-alike : (visited : List ℕ) → walkCall d choices (f p) visited ≡ walkLeft (moveRoute f (route (cellOf m .nodes) choices p)) visited
+  pub calls-alike : (visited : List ℕ) → walkCall d choices (f p) visited ≡ routeLeft (moveRoute f (route (cellOf m .nodes) choices p)) visited
   unfolding cellOf
   calls-alike visited =
       walk-left d hd choices (f p) visited (omega (arith, a .inside p lt, a .same-count))
-      ∙ ap (λ (r : Route). walkLeft r visited) (alike-route a choices p lt)
+      ∙ ap (λ (r : Route). routeLeft r visited) (alike-route a choices p lt)
 
   -- of two visited lists of one length, both are too short or neither is
   pub answers-alike : (visited later : List ℕ) → length later ≡ length visited → walkCall d choices (f p) later .answer ≡ walkCall m choices p visited .answer

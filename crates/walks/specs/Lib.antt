@@ -1,5 +1,10 @@
 pub mod Sound
+pub mod SoundCall
+pub mod SoundParts
 pub mod Walk
 pub mod WalkCall
+pub mod WalkParts
+pub mod Shown
+pub mod ShownParts
 pub mod Calls
 pub mod Claim

@@ -31,6 +31,9 @@ pub record WalkLeft : Type 0 where
   pub answer : Walked
   pub visited : List ℕ
 
+abbrev pub walkLeft : Walked → List ℕ → WalkLeft
+walkLeft a visited = record { answer = a; visited = visited }
+
 -- The first cause that fits, of a cell with n nodes and l links, in lists of so many entries, where `count` places go into a list of `room`.
 -- Causes of refusal: 13 no such place; 7 at 0 and 1 a list shorter than its count; 7 at 8 the visited list is too short.
 abbrev pub walkCases : {A : Type 0} → ℕ → ℕ → ℕ → ℕ → ℕ → ℕ → ℕ → (ℕ → ℕ → A) → A → A
@@ -46,5 +49,5 @@ unfoldable pub walkCall : Memory → List ℕ → ℕ → List ℕ → WalkLeft
 walkCall m choices start visited =
     let r = route (nodesOf m) choices start in
     walkCases (m .ynd .«node_count») (m .ynd .«link_count») (length (m .nodes)) (length (m .links)) start (length (r .places)) (length visited)
-    (λ cause place. record { answer = Refused cause place; visited = visited })
-    (record { answer = Ended (r .ending) (length (r .places)); visited = r .places ++ drop (length (r .places)) visited })
+    (λ cause place. walkLeft (Refused cause place) visited)
+    (walkLeft (Ended (r .ending) (length (r .places))) (r .places ++ drop (length (r .places)) visited))

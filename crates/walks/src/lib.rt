@@ -1,2 +1,5 @@
 // Sound cells and walks.
+pub mod shown;
+pub mod sound;
 pub mod walk;
+mod words;

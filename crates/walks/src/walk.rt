@@ -1,4 +1,20 @@
 // A walk from link to link.
+ghost use mathlib.Core.Path.{_≡_};
+ghost use mathlib.Core.List.{List};
+ghost use Prim.Native.Nat.{ℕ, _≤_, _<_};
+ghost use lib.ListN.{length, getD};
+ghost use Rattle.cells.specs.Memory.{memory};
+ghost use Rattle.walks.specs.WalkCall.{walkLeft, walkCall};
+ghost use Rattle.walks.specs.WalkParts.{lent, stepIn, stepTo, routeIn, traced, over};
+use cells::link::LinkWords;
+use cells::lookup::Place;
+use cells::lookup::node;
+use cells::node::NodeWords;
+use cells::node_words::area_of;
+use cells::relink::belongs_to;
+use cells::ynd::Ynd;
+use crate::words::link_count;
+use crate::words::link_start;
 
 // How a walk ends. `Left` has the area and the number that the link names.
 pub enum End {
@@ -12,4 +28,155 @@ pub enum End {
 pub enum Walked {
     Ended(End, usize),
     Refused(u32, usize),
+}
+
+// Where a choice leads.
+enum Step {
+    To(usize),
+    Stop(End),
+}
+
+// The end of a walk, and how many places it visits.
+struct Traced {
+    end: End,
+    count: usize,
+}
+
+fn area_named(w: LinkWords) -> u16
+    ensures { λ r. ⌜ r ≡ getD w 0 0 ⌝ }
+{
+    w[0]
+}
+
+fn number_named(w: LinkWords) -> u16
+    ensures { λ r. ⌜ r ≡ getD w 1 0 ⌝ }
+{
+    w[1]
+}
+
+fn step_to(p: Place) -> Step
+    ensures { λ r. ⌜ r ≡ stepTo p ⌝ }
+{
+    match p {
+        Place::At(q) => Step::To(q),
+        Place::Nothing => Step::Stop(End::NoNode),
+        Place::Refused(_, _) => Step::Stop(End::NoNode),
+    }
+}
+
+// Where the choice b leads from the node at place p.
+fn follow(ynd: Ynd, nodes: &[NodeWords], links: &[LinkWords], p: usize, b: usize) -> Step
+    requires { ⌜ (ynd .«node_count» ≤ length (now nodes)) × (ynd .«link_count» ≤ length (now links)) × (p < ynd .«node_count») × (b < 256) ⌝ }
+    ensures { λ r. ⌜ r ≡ stepIn (lent ynd (now (nodes .entry)) (now (links .entry))) p b ⌝ }
+{
+    let start = link_start(nodes[p]) as usize;
+    let count = link_count(nodes[p]) as usize;
+    if count <= b {
+        return Step::Stop(End::NoLink);
+    }
+    let at = start + b;
+    if ynd.link_count as usize <= at {
+        return Step::Stop(End::NoLink);
+    }
+    let area = area_named(links[at]);
+    let number = number_named(links[at]);
+    let own = area_of(nodes[0]);
+    if belongs_to(own, area) {
+        return step_to(node(ynd, nodes, number));
+    }
+    Step::Stop(End::Left(area, number))
+}
+
+// Nothing is stored.
+fn trace(ynd: Ynd, nodes: &[NodeWords], links: &[LinkWords], start: usize, choices: &[u8]) -> Traced
+    requires { ⌜ (ynd .«node_count» ≤ length (now nodes)) × (ynd .«link_count» ≤ length (now links)) × (start < ynd .«node_count») ⌝ }
+    ensures { λ r. ⌜ r ≡ traced (routeIn (lent ynd (now (nodes .entry)) (now (links .entry))) (now (choices .entry)) start) ⌝ }
+{
+    let mut p = start;
+    let mut i = 0;
+    while i < choices.len() {
+        let b = choices[i] as usize;
+        let x = follow(ynd, nodes, links, p, b);
+        match x {
+            Step::To(q) => {
+                p = q;
+                i += 1;
+            }
+            Step::Stop(e) => {
+                return Traced {
+                    end: e,
+                    count: i + 1,
+                };
+            }
+        }
+    }
+    Traced {
+        end: End::Done,
+        count: i + 1,
+    }
+}
+
+// Stores the places that a walk visits.
+fn store(
+    ynd: Ynd,
+    nodes: &[NodeWords],
+    links: &[LinkWords],
+    start: usize,
+    choices: &[u8],
+    visited: &mut [u32],
+)
+    requires { ⌜ (ynd .«node_count» ≤ length (now nodes)) × (ynd .«link_count» ≤ length (now links)) × (start < ynd .«node_count»)
+        × (ynd .«node_count» ≤ 4294967295)
+        × (length (routeIn (lent ynd (now nodes) (now links)) (now choices) start .places) ≤ length (now visited)) ⌝ }
+    ensures { λ r. ⌜ now (visited .exit)
+        ≡ over (routeIn (lent ynd (now (nodes .entry)) (now (links .entry))) (now (choices .entry)) start .places) (now (visited .entry)) ⌝ }
+{
+    let mut p = start;
+    let mut i = 0;
+    while i < choices.len() {
+        visited[i] = p as u32;
+        let b = choices[i] as usize;
+        let x = follow(ynd, nodes, links, p, b);
+        match x {
+            Step::To(q) => {
+                p = q;
+                i += 1;
+            }
+            Step::Stop(_) => {
+                return;
+            }
+        }
+    }
+    visited[i] = p as u32;
+}
+
+// A walk from a place, by a byte a choice, whatever the lists that are not lent. `visited` gets the places; a refusal changes nothing.
+pub fn walk(
+    ynd: Ynd,
+    nodes: &[NodeWords],
+    links: &[LinkWords],
+    start: usize,
+    choices: &[u8],
+    visited: &mut [u32],
+) -> Walked
+    ensures { λ r. ⌜ ((junctions : List (List ℕ)) (heights : List ℕ) (refs : List (List ℕ)) → walkLeft r (now (visited .exit))
+        ≡ walkCall (memory ynd (now (nodes .entry)) (now (links .entry)) junctions heights refs) (now (choices .entry)) start (now (visited .entry))) ⌝ }
+{
+    if ynd.node_count as usize <= start {
+        return Walked::Refused(13, 0);
+    }
+    if nodes.len() < ynd.node_count as usize {
+        return Walked::Refused(7, 0);
+    }
+    if links.len() < ynd.link_count as usize {
+        return Walked::Refused(7, 1);
+    }
+    let t = trace(ynd, nodes, links, start, choices);
+    if visited.len() < t.count {
+        return Walked::Refused(7, 8);
+    }
+    store(ynd, nodes, links, start, choices, visited);
+    let end = t.end;
+    let count = t.count;
+    Walked::Ended(end, count)
 }

@@ -1,10 +1,9 @@
 -- `numbers::grid::area_id` meets its contract. Assumes nothing.
-use mathlib.Core.Path.{_≡_, sym, _∙_}
-use mathlib.Core.Bool.{true, false}
+use mathlib.Core.Path.{sym, _∙_}
 use Prim.Native.Nat.{_<_}
 use native.Mathlib.Omega.{arith}
 use borrow.Author.Needs.{needs}
-use Rattle.numbers.specs.Grid.{inGrid, areaId}
+use Rattle.numbers.specs.Grid.{areaId}
 use Rattle.numbers.proofs.GridLaws.{in-grid}
 use Rattle.numbers.proofs.grid.area_id.Statement.{statement}
 use Rattle.numbers.proofs.grid.area_id.Tie as tie

@@ -1,14 +1,13 @@
 -- `numbers::grid::cell_along` meets its contract. Assumes nothing.
-use mathlib.Core.Path.{_≡_, sym, ap, _∙_, subst}
+use mathlib.Core.Path.{_≡_, sym, _∙_}
 use Prim.Native.Nat.{ℕ, _≤_, _<_, _^_, min}
 use native.Mathlib.Omega.{arith}
 use lib.Dec.{lit<, lit≤}
 use lib.IntN.{pos}
 use lib.Ieee.{Float, binary32, fin, ofBits, add, div, le}
 use lib.Ieee.Fits.{add-fits}
-use borrow.Author.Needs.{needs}
-use mathlib.Core.Bool.{Bool, true, false}
-use Rattle.numbers.specs.Grid.{gridFloor, cellAlong}
+use mathlib.Core.Bool.{false}
+use Rattle.numbers.specs.Grid.{cellAlong}
 use Rattle.numbers.proofs.Cuts.{cut, at-least, less-than, cut-asks}
 use Rattle.numbers.proofs.GridLaws.{cell-is}
 use Rattle.numbers.proofs.grid.cell_along.Statement.{statement}

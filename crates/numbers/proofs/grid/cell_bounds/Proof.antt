@@ -1,11 +1,10 @@
 -- `numbers::grid::cell_bounds` meets its contract. Assumes nothing.
-use mathlib.Core.Path.{_≡_, sym, ap, _∙_}
-use mathlib.Core.Bool.{true, false}
+use mathlib.Core.Path.{sym, _∙_}
 use Prim.Native.Nat.{_<_}
 use native.Mathlib.Omega.{arith}
 use borrow.Author.Needs.{needs}
 use lib.Ieee.{ofBits}
-use Rattle.numbers.specs.Grid.{inGrid, lowerBound, upperBound, cellBounds}
+use Rattle.numbers.specs.Grid.{upperBound, cellBounds}
 use Rattle.numbers.proofs.GridLaws.{in-grid}
 use Rattle.numbers.proofs.grid.cell_bounds.Statement.{statement}
 use Rattle.numbers.proofs.grid.cell_bounds.Tie as tie

@@ -1,5 +1,4 @@
 -- `numbers::lane::lane_offset` meets its contract. Assumes nothing.
-use mathlib.Core.Path.{sym, ap}
 use borrow.Author.Needs.{needs}
 use lib.Ieee.{ofBits, neg}
 use Rattle.numbers.specs.Lane.{laneOffset}

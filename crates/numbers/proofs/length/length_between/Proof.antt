@@ -1,8 +1,7 @@
 -- `numbers::length::length_between` meets its contract. Assumes nothing.
 use mathlib.Core.Path.{_≡_, refl, sym, ap, _∙_}
-use Prim.Native.Nat.{ℕ, _≤_}
-use lib.Ieee.{Float, nan, binary32, sub, toBits, ofBits}
-use borrow.Author.Needs.{needs}
+use Prim.Native.Nat.{_≤_}
+use lib.Ieee.{nan, binary32, sub, toBits, ofBits}
 use Rattle.numbers.specs.Lengths.{lengthOf}
 use Rattle.numbers.specs.Squares.{squared}
 use Rattle.numbers.specs.declared.math.Vec3.{Vec3}

@@ -1,13 +1,10 @@
 -- `numbers::length::length_of_bits` meets its contract. The invariant: entry `lo` is at most the pattern, and entry `hi`, where there is one, is above it.
 -- Assumes nothing.
-use mathlib.Core.Path.{_≡_, sym, ap, _∙_, subst}
-use Prim.Native.Nat.{ℕ, suc, _+_, _-_, _/_, _≤_, _<_, zero-le}
+use mathlib.Core.Path.{_≡_, subst}
+use Prim.Native.Nat.{ℕ, suc, _+_, _-_, _≤_, _<_, zero-le}
 use native.Mathlib.Nat.{lt-irrefl}
 use native.Mathlib.Omega.{arith}
-use native.Mathlib.Numerals.{add-one}
 use lib.Dec.{lit<, lit≤}
-use lib.ListN.{getD}
-use borrow.Author.Needs.{needs}
 use Rattle.numbers.specs.Table.{thresholds}
 use Rattle.numbers.proofs.TableLaws.{entry, length-is}
 use Rattle.numbers.proofs.length.length_of_bits.Statement.{statement}

@@ -1,6 +1,6 @@
 -- `numbers::names::area_id_from_file_name` meets its contract. Assumes nothing.
-use mathlib.Core.Path.{_≡_, sym, ap, _∙_}
-use Rattle.numbers.specs.Names.{baseOf, areaOfBase, areaIdFromFileName}
+use mathlib.Core.Path.{ap, _∙_}
+use Rattle.numbers.specs.Names.{areaOfBase, areaIdFromFileName}
 use Rattle.numbers.proofs.NameLaws.{to-end}
 use borrow.Author.Needs.{needs}
 use Rattle.numbers.proofs.names.area_id_from_file_name.Statement.{statement}

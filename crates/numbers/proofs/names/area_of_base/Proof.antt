@@ -1,5 +1,5 @@
 -- `numbers::names::area_of_base` meets its contract. Assumes nothing.
-use mathlib.Core.Path.{_≡_, refl, sym, ap, _∙_}
+use mathlib.Core.Path.{refl, sym, _∙_}
 use mathlib.Core.Bool.{true, false}
 use Rattle.numbers.proofs.NameLaws.{area-short, area-is, suffix-is}
 use borrow.Author.Needs.{needs}

@@ -1,13 +1,12 @@
 -- `numbers::names::base_start` meets its contract. Assumes nothing.
-use mathlib.Core.Path.{_≡_, refl, sym, ap, _∙_, subst}
-use mathlib.Core.Bool.{Bool, true, false, cond}
-use mathlib.Core.List.{List}
+use mathlib.Core.Path.{_≡_, refl, sym, ap, _∙_}
+use mathlib.Core.Bool.{Bool, cond}
 use mathlib.Core.Logic.{⊎-elim}
-use Prim.Native.Nat.{ℕ, _+_, _-_, _≤_, _<_, zero-le}
+use Prim.Native.Nat.{ℕ, _+_, _-_, _≤_, zero-le}
 use native.Mathlib.Omega.{arith}
-use lib.ListN.{length, getD, drop}
+use lib.ListN.{length, drop}
 use borrow.Author.Needs.{needs}
-use Rattle.numbers.specs.Names.{slash, baseFrom, baseOf}
+use Rattle.numbers.specs.Names.{baseFrom, baseOf}
 use Rattle.numbers.proofs.NameLaws.{base-again, base-end}
 use Rattle.numbers.proofs.names.base_start.Statement.{statement}
 use Rattle.numbers.proofs.names.base_start.Tie as tie

@@ -1,8 +1,8 @@
 -- `numbers::names::digits_of` meets its contract. Assumes nothing.
-use mathlib.Core.Path.{_≡_, refl, sym, ap, _∙_, subst}
+use mathlib.Core.Path.{_≡_, sym, ap, _∙_, subst}
 use Prim.Native.Nat.{ℕ, _+_, _-_, _*_, _≤_, _<_, zero-le}
 use native.Mathlib.Omega.{arith}
-use lib.ListN.{length, getD, drop}
+use lib.ListN.{length, drop}
 use borrow.Author.Needs.{needs}
 use Rattle.numbers.specs.Names.{digitsFrom, digitsOf}
 use Rattle.numbers.proofs.NameLaws.{digit-low, digit-high, digit-over, digit-good, digits-end, no-digits, some-digits}

@@ -1,6 +1,6 @@
 -- `numbers::names::parsed_of` meets its contract. Assumes nothing.
-use mathlib.Core.Path.{_≡_, sym, ap, _∙_}
-use Rattle.numbers.specs.Names.{digitsOf, parsed}
+use mathlib.Core.Path.{sym, ap, _∙_}
+use Rattle.numbers.specs.Names.{digitsOf}
 use Rattle.numbers.proofs.NameLaws.{to-end, parsed-none, parsed-plus, parsed-plain}
 use borrow.Author.Needs.{needs}
 use Rattle.numbers.proofs.names.parsed_of.Statement.{statement}

@@ -1,13 +1,13 @@
 -- `numbers::names::starts_with` meets its contract. Assumes nothing.
-use mathlib.Core.Path.{_≡_, refl, sym, ap, _∙_, subst}
-use mathlib.Core.Bool.{Bool, true, false, _&&_}
-use Prim.Native.Nat.{ℕ, _+_, _-_, _≤_, _<_, zero-le}
+use mathlib.Core.Path.{_≡_, refl, sym, ap, _∙_}
+use mathlib.Core.Bool.{Bool, _&&_}
+use Prim.Native.Nat.{ℕ, _+_, _-_, _≤_, zero-le}
 use native.Mathlib.Omega.{arith}
 use lib.Dec.{eqb}
 use lib.ListN.{length, getD, drop}
 use borrow.Author.Needs.{needs}
 use borrow.Author.Tests.{eq-eqb, ne-eqb}
-use Rattle.numbers.specs.Names.{lower, starts}
+use Rattle.numbers.specs.Names.{starts}
 use Rattle.numbers.proofs.NameLaws.{starts-step, starts-end, starts-short}
 use Rattle.numbers.proofs.names.starts_with.Statement.{statement}
 use Rattle.numbers.proofs.names.starts_with.Tie as tie

@@ -1,7 +1,7 @@
 -- `numbers::steps::metres_xy` meets its contract. Assumes nothing.
-use mathlib.Core.Path.{_≡_, sym, ap, _∙_}
+use mathlib.Core.Path.{ap, _∙_}
 use lib.IntN.{ℤ}
-use lib.Ieee.{Float, binary32, div, ofInt, ofBits}
+use lib.Ieee.{binary32, div, ofInt, ofBits}
 use mir.Syntax.{w16}
 use mir.ValLaws.{toZ-ofZ}
 use borrow.Author.Needs.{needs}

@@ -1,10 +1,7 @@
 -- `numbers::steps::steps` meets its contract. Assumes nothing.
-use mathlib.Core.Path.{_≡_, sym, ap, _∙_, subst, refl}
-use mathlib.Core.Bool.{Bool, true, false, not}
+use mathlib.Core.Path.{sym, ap, _∙_, subst}
 use lib.Dec.{T}
-use lib.IntN.{ℤ, pos}
-use lib.Ieee.{Float, binary32, nan, inf, fin, ofBits, toBits, ne, isNan, fits}
-use lib.Ieee.Compare.{differs-from-itself, nan-differs}
+use lib.Ieee.{binary32, ne, fits}
 use lib.Ieee.Bits.{ofBits-toBits}
 use mir.Syntax.{w16}
 use mir.ValLaws.{toZ-ofZ}

@@ -1,10 +1,9 @@
 -- `numbers::steps::steps_of_bits` meets its contract: each way out is a case of `proofs/StepLaws.antt`. Assumes nothing.
 use mathlib.Core.Path.{_≡_, sym, ap, _∙_}
 use mathlib.Core.Logic.{_⊎_, ⊎-elim, inl, inr}
-use mathlib.Core.Bool.{Bool, true, false}
+use mathlib.Core.Bool.{Bool}
 use Prim.Native.Nat.{ℕ, _≤_, _<_, _+_}
 use native.Mathlib.Omega.{arith}
-use lib.IntN.{ℤ}
 use lib.Ieee.{binary32, ofBits}
 use mir.Syntax.{w16}
 use mir.ValLaws.{toZ-ofZ}

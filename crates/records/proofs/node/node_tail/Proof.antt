@@ -1,24 +1,14 @@
 -- `records::node::node_tail` meets its contract: byte by byte.
-use mathlib.Core.Path.{_≡_, ap, _∙_}
-use mathlib.Core.List.{List, [], _∷_}
+use mathlib.Core.List.{[], _∷_}
 use native.Mathlib.Omega.{arith}
 use lib.ListN.{getD}
-use Rattle.records.specs.Bytes.{numberBytes, bytes16, bits16}
-use Rattle.records.proofs.LittleEndian.{byte-whole}
-use lib.IntN.{ℤ}
-use lib.Signed.{mag}
-use mir.Syntax.{w16}
-use mir.Val.{toZ, ofZ}
-use mir.ValLaws.{toZ-ofZ}
-use Prim.Native.Nat.{ℕ, _<_}
+use Rattle.records.specs.Bytes.{numberBytes}
+use Rattle.records.proofs.LittleEndian.{byte-whole, signed-bytes}
+use Prim.Native.Nat.{_<_}
 use Rattle.records.specs.Records.{nodeBytes}
 use borrow.Author.Needs.{needs}
 use Rattle.records.proofs.node.node_tail.Statement.{statement}
 use Rattle.records.proofs.node.node_tail.Tie as tie
-
--- the bytes of a field with a sign, from what the two calls say
-step : {b : List ℕ} {r : ℕ} (z : ℤ) → mag z < 32768 → b ≡ bytes16 r → r ≡ bits16 (toZ w16 (ofZ w16 z)) → b ≡ bytes16 (bits16 z)
-step z h e f = e ∙ ap bytes16 (f ∙ ap bits16 (toZ-ofZ w16 z (record { sfits = h })))
 
 -- the flags are bytes
 flags : (c : tie.Start)
@@ -33,9 +23,9 @@ returns c =
     let told = c .before .before .before .before .before .before .before .before .struct-told .given in
     let f = c .before .before .before .before .before .before .before .before .before .before .bytes2 .ensures in
     let link = c .before .before .before .before .before .before .before .before .before .bytes22 .ensures in
-    let x = step (n .«position_x») (c .before .before .before .before .before .before .before .before .struct-told .given .1 .1 .1 .1 .1 .1 .1 .1 .1 .0 .1) (c .before .before .before .before .before .before .bytes23 .ensures) (c .before .before .before .before .before .before .before .bits .ensures) in
-    let y = step (n .«position_y») (c .before .before .before .before .before .before .before .before .struct-told .given .1 .1 .1 .1 .1 .1 .1 .1 .1 .1 .0 .1) (c .before .before .before .bytes24 .ensures) (c .before .before .before .before .bits2 .ensures) in
-    let z = step (n .«position_z») (c .before .before .before .before .before .before .before .before .struct-told .given .1 .1 .1 .1 .1 .1 .1 .1 .1 .1 .1 .1 .1 .0 .1) (c .bytes25 .ensures) (c .before .bits3 .ensures) in
+    let x = signed-bytes (n .«position_x») (told .1 .1 .1 .1 .1 .1 .1 .1 .1 .0 .1) (c .before .before .before .before .before .before .bytes23 .ensures) (c .before .before .before .before .before .before .before .bits .ensures) in
+    let y = signed-bytes (n .«position_y») (told .1 .1 .1 .1 .1 .1 .1 .1 .1 .1 .0 .1) (c .before .before .before .bytes24 .ensures) (c .before .before .before .before .bits2 .ensures) in
+    let z = signed-bytes (n .«position_z») (told .1 .1 .1 .1 .1 .1 .1 .1 .1 .1 .1 .1 .1 .0 .1) (c .bytes25 .ensures) (c .before .bits3 .ensures) in
     λ k. getD (f k) 0 0 ∷ getD (f k) 1 0 ∷ getD (link k) 0 0 ∷ getD (link k) 1 0 ∷ getD (x k) 0 0 ∷ getD (x k) 1 0 ∷ getD (y k) 0 0 ∷ getD (y k) 1 0
     ∷ byte-whole (n .flags0) (h .0) k ∷ byte-whole (n .flags1) (h .1) k ∷ getD (z k) 0 0 ∷ getD (z k) 1 0
     ∷ byte-whole (n .flags2) (h .2) k ∷ byte-whole (n .«link_count_flags») (h .3) k ∷ byte-whole (n .flags3) (h .4) k ∷ byte-whole (n .flags4) (h .5) k ∷ []

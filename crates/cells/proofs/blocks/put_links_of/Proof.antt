@@ -1,0 +1,67 @@
+use Prim.Native.Nat.{ℕ, _+_, _-_, _≤_}
+use native.Mathlib.Omega.{arith}
+use mathlib.Core.Path.{_≡_, sym, ap, _∙_}
+use mathlib.Core.List.{List}
+use lib.ListN.{length, take, drop}
+use Rattle.records.specs.Put.{put, joined}
+use Rattle.records.proofs.Puts.{put-nil}
+use Rattle.cells.specs.Entries.{linksIn}
+use Rattle.cells.specs.Blocks.{linkRecord, linksRecords}
+use Rattle.cells.proofs.Ranges.{empty, link-count, links-size, links-part, links-inside}
+use borrow.Author.Needs.{needs}
+use Rattle.cells.proofs.blocks.put_links_of.Statement.{statement}
+use Rattle.cells.proofs.blocks.put_links_of.Tie as tie
+
+there : (c : tie.Else1) → c .before .wide .result + c .before .before .links-within .result ≤ length (c .before .before .before .before .args .links .now)
+there c = links-inside (c .before .before .before .before .args .links .now) (c .before .before .before .before .args .t3) (c .before .before .links-within .result) (c .before .wide .result) (c .before .before .links-within .ensures) (c .before .wide .ensures) (c .if1 .left)
+
+lent : (c : tie.Else1) → take (c .before .wide .result + c .before .before .links-within .result - c .before .wide .result) (drop (c .before .wide .result) (c .before .before .before .before .args .links .now)) ≡ linksIn (c .before .before .before .before .args .links .now) (c .before .before .before .before .args .t3)
+lent c = links-part (c .before .before .before .before .args .links .now) (c .before .before .before .before .args .t3) (c .before .before .links-within .result) (c .before .wide .result) (c .before .before .links-within .ensures) (c .before .wide .ensures)
+
+returns : tie.Need-returns
+returns c =
+    let a = c .before .before .before .before .args in
+    let none = empty (linksRecords (a .links .now) (a .t3)) (omega (arith, links-size (a .links .now) (a .t3), c .before .before .links-within .ensures)) in
+    (omega (arith, ap length none), sym (ap (put (a .section .now) (a .at)) none ∙ put-nil (a .section .now) (a .at)))
+
+add-put-entries : tie.Need-add-put-entries
+add-put-entries c = omega (arith, (there (c .before)))
+
+mul-put-entries : tie.Need-mul-put-entries
+mul-put-entries c = omega (arith, (there (c .before)))
+
+part-put-entries-end : tie.Need-part-put-entries-end
+part-put-entries-end c = (there (c .before))
+
+put-entries-requires : tie.Need-put-entries-requires
+put-entries-requires c κs = omega (arith, ap length (lent (c .before .before)), link-count (c .before .before .before .before .before .before .args .links .now) (c .before .before .before .before .before .before .args .t3), links-size (c .before .before .before .before .before .before .args .links .now) (c .before .before .before .before .before .before .args .t3))
+
+mul-result : tie.Need-mul-result
+mul-result c = omega (arith, (there (c .before .before .before .before .before)))
+
+add-result : tie.Need-add-result
+add-result c = omega (arith, links-size (c .before .before .before .before .before .before .before .before .before .args .links .now) (c .before .before .before .before .before .before .before .before .before .args .t3), c .before .before .before .before .before .before .before .links-within .ensures, c .before .before .before .before .before .before .before .before .before .pre)
+
+returns-2 : tie.Need-returns-2
+returns-2 c =
+    let a = c .before .before .before .before .before .before .before .before .before .args in
+    (omega (arith, links-size (a .links .now) (a .t3), c .before .before .before .before .before .before .before .links-within .ensures), c .before .before .put-entries .ensures ∙ ap (λ (x : List (List ℕ)). put (a .section .now) (a .at) (joined linkRecord x)) (lent (c .before .before .before .before .before)))
+
+pub put-links-of-spec : {M : Type 1} → statement M
+put-links-of-spec =
+    tie.close
+    (tie.spec
+    (λ c κs. search needs)
+    (λ c. search needs)
+    (λ c κs. search needs)
+    returns
+    add-put-entries
+    mul-put-entries
+    (λ c. search needs)
+    (λ c. search needs)
+    part-put-entries-end
+    put-entries-requires
+    mul-result
+    add-result
+    (λ c. search needs)
+    returns-2)

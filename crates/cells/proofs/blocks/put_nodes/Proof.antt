@@ -1,0 +1,104 @@
+use Prim.Native.Nat.{ℕ, _+_, _-_, _*_, _≤_}
+use native.Mathlib.Omega.{arith}
+use mathlib.Core.Path.{_≡_, sym, ap, _∙_}
+use mathlib.Core.Bool.{true}
+use mathlib.Core.List.{[]}
+use lib.ListN.{length, getD, drop}
+use Rattle.records.specs.Put.{put}
+use Rattle.records.specs.Records.{nodeBytes}
+use Rattle.records.proofs.RecordBack.{node-length}
+use Rattle.cells.specs.Words.{toNode}
+use Rattle.cells.specs.Entries.{linksIn, fileNode}
+use Rattle.cells.specs.WriteChecks.{linksWithin, accepted, checkNodes}
+use Rattle.cells.specs.Blocks.{laid, nodeRecord, nodesBlock}
+use Rattle.cells.proofs.CheckTurns.{nodes-inside}
+use Rattle.cells.proofs.Ranges.{link-count}
+use Rattle.cells.proofs.Turns.{put-inside, laid-turn, laid-ended}
+use borrow.Author.Needs.{needs}
+use Rattle.cells.proofs.blocks.put_nodes.Statement.{statement}
+use Rattle.cells.proofs.blocks.put_nodes.Tie as tie
+
+abbrev Inv-loop : tie.InvT-loop
+Inv-loop section₀ at nodes links before₀ i₀ section before i =
+    (i ≤ length nodes) × (length section ≡ length section₀)
+    × (accepted (checkNodes (linksWithin (length links)) i before (drop i nodes)) ≡ true)
+    × (put section (at + 40 * i) (laid (linksIn links) (nodeRecord links) before (drop i nodes)) ≡ put section₀ at (nodesBlock links nodes))
+
+abbrev μ-loop : tie.MeasureT-loop
+μ-loop section₀ at nodes links before₀ i₀ section before i = length nodes - i
+
+open-turn : (c : tie.In-loop Inv-loop μ-loop) → (linksWithin (length (c .before .before .before .args .links .now)) (getD (c .before .before .before .args .nodes .now) (c .before .loop .i) []) ≤ 31) × (c .before .loop .before ≤ 65535)
+    × (accepted (checkNodes (linksWithin (length (c .before .before .before .args .links .now))) (c .before .loop .i + 1) (c .before .loop .before + linksWithin (length (c .before .before .before .args .links .now)) (getD (c .before .before .before .args .nodes .now) (c .before .loop .i) [])) (drop (c .before .loop .i + 1) (c .before .before .before .args .nodes .now))) ≡ true)
+open-turn c = nodes-inside (linksWithin (length (c .before .before .before .args .links .now))) (c .before .before .before .args .nodes .now) (c .before .loop .i) (c .before .loop .before) (c .before .loop .i) (omega arith) (c .before .loop .inv .2)
+
+loop-holds : tie.Need-loop-holds Inv-loop μ-loop
+loop-holds c =
+    let a = c .before .args in
+    let start : a .at + 40 * 0 ≡ a .at = omega arith in
+    (omega arith, search needs, c .before .pre .1, ap (λ (k : ℕ). put (a .section .now) k (nodesBlock (a .links .now) (a .nodes .now))) start)
+
+cast-node-record : tie.Need-cast-node-record Inv-loop μ-loop
+cast-node-record c = omega (arith, (open-turn (c .before .before .before)) .1)
+
+cast-node-record-2 : tie.Need-cast-node-record-2 Inv-loop μ-loop
+cast-node-record-2 c = omega (arith, c .before .links-within .ensures, (open-turn (c .before .before .before)) .0)
+
+node-record-requires : tie.Need-node-record-requires Inv-loop μ-loop
+node-record-requires c κs = omega (arith, c .before .links-within .ensures, (open-turn (c .before .before .before)) .0)
+
+add-before : tie.Need-add-before Inv-loop μ-loop
+add-before c = omega (arith, c .before .before .before .before .before .before .before .links-within .ensures, (open-turn (c .before .before .before .before .before .before .before .before .before)) .0, (open-turn (c .before .before .before .before .before .before .before .before .before)) .1)
+
+loop-again : tie.Need-loop-again Inv-loop μ-loop
+loop-again c =
+    let l = c .before .before .before .before .before .before .before .before .before .before .loop in
+    let a = c .before .before .before .before .before .before .before .before .before .before .before .before .args in
+    let f = c .before .before .put-bytes in
+    let ns = a .nodes .now in
+    let ls = a .links .now in
+    let e = c .before .before .before .before .before .before .before .links-within .ensures in
+    let n = getD ns (l .i) [] in
+    let longer = e ∙ sym (link-count ls n) in
+    let size = node-length (fileNode (l .before) (length (linksIn ls n)) (toNode n)) in (
+      omega arith,
+      omega (arith, f .kept),
+      ap (λ (k : ℕ). accepted (checkNodes (linksWithin (length ls)) (l .i + 1) (l .before + k) (drop (l .i + 1) ns))) e ∙ (open-turn (c .before .before .before .before .before .before .before .before .before)) .2,
+      ap (λ (k : ℕ). put (f .last .0) (a .at + 40 * (l .i + 1)) (laid (linksIn ls) (nodeRecord ls) (l .before + k) (drop (l .i + 1) ns))) longer
+          ∙ laid-turn (linksIn ls) (nodeRecord ls) (a .section .now) (l .section) _ (nodesBlock ls ns) (a .at) (a .at + 40 * l .i) (a .at + 40 * (l .i + 1)) (l .before) ns (l .i) [] (omega arith) (l .inv .3)
+          (put-inside (l .section) _ (nodeRecord ls (l .before) n) _ (a .at + 40 * l .i) (f .ensures) (c .before .before .before .before .before .node-record .ensures ∙ ap (λ (k : ℕ). nodeBytes (fileNode (l .before) k (toNode n))) longer) (omega (arith, size)))
+          (omega (arith, size)) (omega arith),
+    )
+
+returns : tie.Need-returns Inv-loop μ-loop
+returns c =
+    let l = c .before .loop in
+    let a = c .before .before .before .args in
+    let ns = a .nodes .now in
+    let ls = a .links .now in
+    laid-ended (linksIn ls) (nodeRecord ls) (a .section .now) (l .section) (nodesBlock ls ns) (a .at) (a .at + 40 * l .i) (l .before) ns (l .i) (omega arith) (l .inv .3)
+
+pub put-nodes-spec : {M : Type 1} → statement M
+put-nodes-spec =
+    tie.close
+    (tie.spec
+    Inv-loop
+    μ-loop
+    loop-holds
+    (λ c. search needs)
+    (λ c. search needs)
+    (λ c κs. search needs)
+    (λ c. search needs)
+    (λ c. search needs)
+    cast-node-record
+    cast-node-record-2
+    node-record-requires
+    (λ c. search needs)
+    (λ c. search needs)
+    (λ c. search needs)
+    (λ c κs. search needs)
+    add-before
+    (λ c. search needs)
+    (λ c. search needs)
+    loop-again
+    (λ c. search needs)
+    returns)

@@ -1,0 +1,34 @@
+use mathlib.Core.Path.{ap}
+use borrow.Author.Tests.{lt-ltb, le-ltb}
+use Rattle.cells.specs.LookupCall.{areaIdCall}
+use Rattle.cells.specs.declared.lookup.OwnArea.the-variants.{Area}
+use Rattle.cells.proofs.LookupLaws.{first-node}
+use borrow.Author.Needs.{needs}
+use Rattle.cells.proofs.lookup.area_id.Statement.{statement}
+use Rattle.cells.proofs.lookup.area_id.Tie as tie
+
+returns : tie.Need-returns
+unfolding areaIdCall
+returns c = rw (lt-ltb _ _ (c .if1 .taken))
+
+returns-2 : tie.Need-returns-2
+unfolding areaIdCall
+returns-2 c = rw (le-ltb _ _ (c .before .if1 .left), c .if2 .taken)
+
+returns-3 : tie.Need-returns-3
+unfolding areaIdCall
+returns-3 c =
+    let n = c .before .before .before in
+    rw (le-ltb _ _ (n .if1 .left), first-node _ _ (c .before .before .if2 .left) (n .if1 .left)) (ap Area (c .area-of .ensures))
+
+pub area-id-spec : {M : Type 1} → statement M
+area-id-spec =
+    tie.close
+    (tie.spec
+    (λ c. search needs)
+    returns
+    returns-2
+    (λ c. search needs)
+    (λ c κs. search needs)
+    (λ c. search needs)
+    returns-3)

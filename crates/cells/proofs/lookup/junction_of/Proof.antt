@@ -1,0 +1,37 @@
+use mathlib.Core.Path.{ap, _∙_}
+use lib.ListN.{take}
+use borrow.Author.Tests.{lt-ltb, le-ltb}
+use Rattle.cells.specs.LookupCall.{placeOf, refIn, below, junctionOfCall}
+use borrow.Author.Needs.{needs}
+use Rattle.cells.proofs.lookup.junction_of.Statement.{statement}
+use Rattle.cells.proofs.lookup.junction_of.Tie as tie
+
+returns : tie.Need-returns
+unfolding junctionOfCall
+returns c = rw (lt-ltb _ _ (c .if1 .taken))
+
+returns-2 : tie.Need-returns-2
+unfolding junctionOfCall
+returns-2 c = rw (le-ltb _ _ (c .before .if1 .left), lt-ltb _ _ (c .if2 .taken))
+
+returns-3 : tie.Need-returns-3
+unfolding junctionOfCall
+returns-3 c =
+    let t = c .before .before .before .before in
+    let a = t .before .before .before .before .args in
+    let f = c .before .before .first-ref .ensures ∙ (λ i. placeOf (refIn (c .before .before .before .first-area .ensures i) (take (a .ynd .«ref_count») (a .refs .now)) (a .area-id) (a .node-id))) in
+    rw (le-ltb _ _ (t .before .if1 .left), le-ltb _ _ (t .if2 .left)) (c .below-of .ensures ∙ ap (below (a .ynd .«junction_count»)) f)
+
+pub junction-of-spec : {M : Type 1} → statement M
+junction-of-spec =
+    tie.close
+    (tie.spec
+    (λ c. search needs)
+    (λ c. search needs)
+    returns
+    returns-2
+    (λ c κs. search needs)
+    (λ c κs. search needs)
+    (λ c. search needs)
+    (λ c κs. search needs)
+    returns-3)

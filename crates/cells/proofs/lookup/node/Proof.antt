@@ -1,0 +1,16 @@
+use borrow.Author.Tests.{lt-ltb, le-ltb}
+use Rattle.cells.specs.LookupCall.{nodeCall}
+use borrow.Author.Needs.{needs}
+use Rattle.cells.proofs.lookup.node.Statement.{statement}
+use Rattle.cells.proofs.lookup.node.Tie as tie
+
+returns : tie.Need-returns
+unfolding nodeCall
+returns c = rw (lt-ltb _ _ (c .if1 .taken))
+
+returns-2 : tie.Need-returns-2
+unfolding nodeCall
+returns-2 c = rw (le-ltb _ _ (c .before .if1 .left)) (c .find-in .ensures)
+
+pub node-spec : {M : Type 1} → statement M
+node-spec = tie.close (tie.spec (λ c. search needs) returns (λ c κs. search needs) returns-2)

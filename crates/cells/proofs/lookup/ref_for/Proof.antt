@@ -1,0 +1,11 @@
+use Rattle.cells.specs.Cell.{refFor}
+use borrow.Author.Needs.{needs}
+use Rattle.cells.proofs.lookup.ref_for.Statement.{statement}
+use Rattle.cells.proofs.lookup.ref_for.Tie as tie
+
+returns : tie.Need-returns
+unfolding refFor
+returns c = search needs
+
+pub ref-for-spec : {M : Type 1} → statement M
+ref-for-spec = tie.close (tie.spec returns)

@@ -1,0 +1,98 @@
+use native.Mathlib.Omega.{arith}
+use mathlib.Core.Path.{_≡_, ap, _∙_}
+use mathlib.Core.List.{map}
+use lib.ListN.{length}
+use borrow.Author.Tests.{lt-ltb, le-ltb}
+use Rattle.records.specs.Put.{put}
+use Rattle.records.specs.Layout.{headerSize, sectionBytes}
+use Rattle.records.proofs.Puts.{put-start}
+use Rattle.records.proofs.Laid.{lay-total, section-length}
+use Rattle.records.specs.declared.root.Root.{Root}
+use Rattle.cells.specs.Memory.{Memory, memory}
+use Rattle.cells.specs.Blocks.{blocks, rootFor, written}
+use Rattle.cells.specs.Write.{left, stored}
+use Rattle.cells.specs.declared.write.Written.the-variants.{Wrote}
+use Rattle.cells.proofs.BlockLaws.{links-length}
+use Rattle.cells.proofs.WriteSteps.{Ready, ready, placed, ending}
+use borrow.Author.Needs.{needs}
+use Rattle.cells.proofs.write.store.Statement.{statement}
+use Rattle.cells.proofs.write.store.Tie as tie
+
+abbrev cell : tie.Start → Memory
+cell s = memory (s .args .ynd) (s .args .nodes .now) (s .args .links .now) (s .args .junctions .now) (s .args .heights .now) (s .args .refs .now)
+
+told : (c : tie.Start) → Ready (c .args .nodes .now) (c .args .links .now) (c .args .junctions .now) (c .args .heights .now) (c .args .refs .now) (c .args .k)
+told c = ready (c .args .nodes .now) (c .args .links .now) (c .args .junctions .now) (c .args .heights .now) (c .args .refs .now) (c .args .k) (c .pre .0)
+
+ends : (c : tie.After-places-for) → c .places-for .result .total ≡ length (written (cell (c .before .before .before)))
+ends c = ending (cell (c .before .before .before)) (c .before .before .before .args .k) (told (c .before .before .before)) (c .places-for .result) (c .places-for .ensures)
+
+rooted : (c : tie.After-root-for) → c .root-for .result ≡ rootFor (cell (c .before .before .before .before .before)) (map length (blocks (cell (c .before .before .before .before .before))))
+unfolding rootFor
+rooted c =
+    let a = c .before .before .before .before .before .args in
+    let t = (told (c .before .before .before .before .before)) in
+    let e = placed (cell (c .before .before .before .before .before)) (a .k) t (c .before .before .places-for .result) (c .before .before .places-for .ensures) in
+    c .root-for .ensures
+    ∙ (λ i. record {
+      vft = a .ynd .vft;
+      nodes = e i .nodes;
+      «node_count» = t .nodes-are i;
+      «vehicle_node_count» = a .ynd .«vehicle_node_count»;
+      «ped_node_count» = a .ynd .«ped_node_count»;
+      links = e i .links;
+      «link_count» = t .links-are i;
+      junctions = e i .junctions;
+      heightmap = e i .heightmap;
+      refs = e i .refs;
+      «ref_count» = t .refs-are i;
+      «junction_count» = t .junctions-are i;
+      «heightmap_count» = t .heights-are i;
+      unknowns = a .ynd .unknowns;
+    })
+
+places-for-requires : tie.Need-places-for-requires
+places-for-requires c κs = (omega (arith, (told (c .before .before)) .nodes-are, c .before .before .pre .1), omega (arith, (told (c .before .before)) .links-few), omega (arith, (told (c .before .before)) .junctions-are, c .before .before .pre .2), omega (arith, (told (c .before .before)) .heights-few), omega (arith, (told (c .before .before)) .refs-few))
+
+returns : tie.Need-returns
+unfolding stored
+returns c = rw (lt-ltb (length (c .before .before .before .before .args .section .now)) (length (written (cell (c .before .before .before .before)))) (omega (arith, (ends (c .before)), c .if1 .taken)))
+
+root-for-requires : tie.Need-root-for-requires
+root-for-requires c κs = (omega (arith, (told (c .before .before .before .before)) .nodes-are, c .before .before .before .before .pre .1), omega (arith, (told (c .before .before .before .before)) .links-few), omega (arith, (told (c .before .before .before .before)) .junctions-are, c .before .before .before .before .pre .2), omega (arith, (told (c .before .before .before .before)) .heights-few), omega (arith, (told (c .before .before .before .before)) .refs-few))
+
+mul-fill : tie.Need-mul-fill
+mul-fill c = omega (arith, (told (c .before .before .before .before .before .before .before)) .links-few)
+
+fill-requires : tie.Need-fill-requires
+unfolding written
+fill-requires c κs =
+    let a = c .before .before .before .before .before .before .before .args in
+    let t = (told (c .before .before .before .before .before .before .before)) in (
+      omega (arith, (ends (c .before .before .before .before)), c .before .before .before .if1 .left, section-length (rootFor (cell (c .before .before .before .before .before .before .before)) (map length (blocks (cell (c .before .before .before .before .before .before .before))))) (blocks (cell (c .before .before .before .before .before .before .before))), lay-total headerSize (blocks (cell (c .before .before .before .before .before .before .before)))),
+      t .nodes-told,
+      t .junctions-told,
+      omega (arith, t .links-are, links-length (a .links .now) (a .nodes .now)),
+      t .heights-are,
+    )
+
+returns-2 : tie.Need-returns-2
+unfolding stored written
+returns-2 c =
+    let m = (cell (c .before .before .before .before .before .before .before .before .before .before)) in
+    let l = c .before .before .before .before .before .before .before .before .before .before .args .section .now in
+    let e = (ends (c .before .before .before .before .before .before .before)) in
+    let bytes = c .before .before .fill .ensures ∙ ap (λ (r : Root). put l 0 (sectionBytes r (blocks m))) (rooted (c .before .before .before .before .before)) ∙ put-start l (written m) in
+    (λ i. left (Wrote (e i)) (bytes i)) ∙ rw (le-ltb (length l) (length (written m)) (omega (arith, e, c .before .before .before .before .before .before .if1 .left)))
+
+pub store-spec : {M : Type 1} → statement M
+store-spec =
+    tie.close
+    (tie.spec
+    places-for-requires
+    returns
+    root-for-requires
+    mul-fill
+    fill-requires
+    (λ c. search needs)
+    returns-2)

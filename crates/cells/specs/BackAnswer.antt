@@ -1,0 +1,44 @@
+-- What write-then-read answers, found before anything is stored: writing's checks, then those of reading back.
+use Prim.Native.Nat.{ℕ}
+use mathlib.Core.Bool.{Bool, true, false}
+use mathlib.Core.List.{List}
+use lib.Dec.{ltb}
+use lib.ListN.{length}
+use Rattle.cells.specs.Memory.{Memory, memory, shortOf}
+use Rattle.cells.specs.Blocks.{written}
+use Rattle.cells.specs.WriteCounts.{writeCounts}
+use Rattle.cells.specs.WriteRead.{Both}
+use Rattle.cells.specs.BackCheck.{backCheck}
+use Rattle.cells.specs.declared.count.Counts.{Counts}
+use Rattle.cells.specs.declared.count.Counted.{Counted}
+use Rattle.cells.specs.declared.count.Counted.the-variants as counted
+use Rattle.numbers.specs.declared.answer.Answer.{Answer}
+use Rattle.numbers.specs.declared.answer.Answer.the-variants as answer
+use Rattle.cells.specs.declared.write.Written.{Written}
+use Rattle.cells.specs.declared.write.Written.the-variants.{Wrote, Refused}
+use Rattle.cells.specs.declared.write_read.WroteRead.{WroteRead}
+
+abbrev pub ifCounted : Counted → Written → Written
+ifCounted (counted.Refused cause place) next = Refused cause place
+ifCounted (counted.Held k) next = next
+
+abbrev pub notIf : Bool → ℕ → ℕ → Written → Written
+notIf true cause place next = Refused cause place
+notIf false cause place next = next
+
+abbrev pub wroteIf : Answer → ℕ → Written
+wroteIf (answer.Refused cause place) n = Refused cause place
+wroteIf answer.Done n = Wrote n
+
+-- of the cell h, whose lists are cut from lists of so many entries, into a section of so many bytes
+unfoldable pub backAnswer : Memory → Counts → ℕ → Written
+backAnswer h lent section =
+    let lack = shortOf (h .ynd) (lent .nodes) (lent .links) (lent .junctions) (lent .heights) (lent .refs) in
+    ifCounted (writeCounts (h .nodes) (h .links) (h .junctions) (h .heights) (h .refs))
+    (notIf (ltb lack 5) 7 lack
+    (notIf (ltb section (length (written h))) 7 5
+    (wroteIf (backCheck h lent) (length (written h)))))
+
+-- what the call answers and leaves
+abbrev pub both : WroteRead → List (List ℕ) → List (List ℕ) → List (List ℕ) → List ℕ → List (List ℕ) → List ℕ → Both
+both r nodes links junctions heights refs section = record { answer = r .answer; memory = memory (r .ynd) nodes links junctions heights refs; section = section }

@@ -1,0 +1,30 @@
+-- What checks 8 to 11 give together: a refusal, or how much there is to write.
+use Prim.Native.Nat.{ℕ}
+use mathlib.Core.List.{List}
+use lib.Dec.{ltb}
+use lib.ListN.{length}
+use Rattle.cells.specs.Checks.{refuseMore}
+use Rattle.cells.specs.Entries.{linksIn, valuesIn}
+use Rattle.cells.specs.WriteChecks.{checkNodes, checkJunctions}
+use Rattle.cells.specs.declared.count.Total.{Total}
+use Rattle.cells.specs.declared.count.Total.the-variants as total
+use Rattle.cells.specs.declared.count.Counted.{Counted}
+use Rattle.cells.specs.declared.count.Counted.the-variants as counted
+use Rattle.cells.specs.declared.write.Written.{Written}
+use Rattle.cells.specs.declared.write.Written.the-variants as written
+
+abbrev pub ifSum : Total → (ℕ → Counted) → Counted
+ifSum (total.Refused cause place) next = counted.Refused cause place
+ifSum (total.Sum n) next = next n
+
+-- of the cell whose entries these are
+unfoldable pub writeCounts : List (List ℕ) → List (List ℕ) → List (List ℕ) → List ℕ → List (List ℕ) → Counted
+writeCounts nodes links junctions heights refs =
+    ifSum (checkNodes (λ n. length (linksIn links n)) 0 0 nodes) λ l.
+    ifSum (checkJunctions (λ j. length (valuesIn heights j)) 0 0 junctions) λ v.
+    refuseMore (ltb 65535 (length refs)) 11 0
+    (counted.Held (record { nodes = length nodes; links = l; junctions = length junctions; heights = v; refs = length refs }))
+
+abbrev pub notWritten : Counted → Written
+notWritten (counted.Refused cause place) = written.Refused cause place
+notWritten (counted.Held k) = written.Refused 0 0

@@ -1,0 +1,17 @@
+// Whether there is room for one more entry.
+ghost use mathlib.Core.Path.{_≡_};
+ghost use Rattle.cells.specs.Add.{roomFor};
+use numbers::answer::Answer;
+
+// Behind n entries of a list.
+pub(crate) fn room_for(limit: usize, n: usize, len: usize, list: usize) -> Answer
+    ensures { λ a. ⌜ a ≡ roomFor limit n len list ⌝ }
+{
+    if limit <= n {
+        return Answer::Refused(14, 0);
+    }
+    if len <= n {
+        return Answer::Refused(7, list);
+    }
+    Answer::Done
+}

@@ -1,0 +1,120 @@
+// The checks before writing: 8 and 9 node by node, 10 junction by junction, then 11.
+ghost use mathlib.Core.Path.{_≡_};
+ghost use Prim.Native.Nat.{_-_, _<_, min};
+ghost use Rattle.cells.specs.NodeWords.{valueCount};
+ghost use Rattle.cells.specs.WriteChecks.{linksWithin, valuesWithin, checkNodes, checkJunctions};
+ghost use Rattle.cells.specs.WriteCounts.{writeCounts};
+use crate::checks::product;
+use crate::checks::refused;
+use crate::count::Counted;
+use crate::count::Counts;
+use crate::count::Total;
+use crate::pack::byte0;
+use crate::pack::byte1;
+use crate::pack::byte2;
+
+fn cut(start: usize, count: usize, pool: usize) -> usize
+    ensures { λ r. ⌜ r ≡ min count (pool - start) ⌝ }
+{
+    if pool <= start {
+        return 0;
+    }
+    if pool - start < count {
+        return pool - start;
+    }
+    count
+}
+
+pub(crate) fn wide(x: u32) -> usize
+    ensures { λ r. ⌜ r ≡ x ⌝ }
+{
+    x as usize
+}
+
+// How many of `pool` links a node's words name.
+pub(crate) fn links_within(w: [u32; 8], pool: usize) -> usize
+    ensures { λ r. ⌜ r ≡ linksWithin pool w ⌝ }
+{
+    let count = byte2(w[6]) as usize;
+    let start = wide(w[7]);
+    cut(start, count, pool)
+}
+
+// Width × height of a junction, by its words.
+pub(crate) fn area(w: [u32; 6]) -> usize
+    ensures { λ r. ⌜ (r ≡ valueCount w) × (r < 65536) ⌝ }
+{
+    product(byte0(w[4]), byte1(w[4]))
+}
+
+// How many of `pool` heightmap bytes a junction's words name.
+pub(crate) fn values_within(w: [u32; 6], pool: usize) -> usize
+    ensures { λ r. ⌜ (r ≡ valuesWithin pool w) × (r < 65536) ⌝ }
+{
+    let start = wide(w[5]);
+    cut(start, area(w), pool)
+}
+
+pub(crate) fn check_nodes(nodes: &[[u32; 8]], pool: usize) -> Total
+    ensures { λ r. ⌜ r ≡ checkNodes (linksWithin pool) 0 0 (now (nodes .entry)) ⌝ }
+{
+    let mut before: usize = 0;
+    let mut i = 0;
+    while i < nodes.len() {
+        let count = links_within(nodes[i], pool);
+        if 31 < count {
+            return Total::Refused(8, i);
+        }
+        if 65535 < before {
+            return Total::Refused(9, i);
+        }
+        before += count;
+        i += 1;
+    }
+    Total::Sum(before)
+}
+
+pub(crate) fn check_junctions(junctions: &[[u32; 6]], pool: usize) -> Total
+    ensures { λ r. ⌜ r ≡ checkJunctions (valuesWithin pool) 0 0 (now (junctions .entry)) ⌝ }
+{
+    let mut before: usize = 0;
+    let mut i = 0;
+    while i < junctions.len() {
+        if 65535 < before {
+            return Total::Refused(10, i);
+        }
+        before += values_within(junctions[i], pool);
+        i += 1;
+    }
+    Total::Sum(before)
+}
+
+// 8 to 11, of the cell whose entries these are. Else how much there is to write.
+pub(crate) fn write_counts(
+    nodes: &[[u32; 8]],
+    links: &[[u16; 4]],
+    junctions: &[[u32; 6]],
+    heights: &[u8],
+    refs: &[[u16; 4]],
+) -> Counted
+    ensures { λ r. ⌜ r ≡ writeCounts (now (nodes .entry)) (now (links .entry)) (now (junctions .entry)) (now (heights .entry)) (now (refs .entry)) ⌝ }
+{
+    let a = check_nodes(nodes, links.len());
+    let Total::Sum(l) = a else {
+        return refused(a);
+    };
+    let b = check_junctions(junctions, heights.len());
+    let Total::Sum(v) = b else {
+        return refused(b);
+    };
+    if 65535 < refs.len() {
+        return Counted::Refused(11, 0);
+    }
+    Counted::Held(Counts {
+        nodes: nodes.len(),
+        links: l,
+        junctions: junctions.len(),
+        heights: v,
+        refs: refs.len(),
+    })
+}

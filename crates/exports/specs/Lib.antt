@@ -1,0 +1,5 @@
+-- What a caller in C gets of each answer.
+pub mod Answers
+pub mod Cells
+pub mod Found
+pub mod Parts

@@ -1,0 +1,47 @@
+// Renumbering.
+use crate::answers::number_of;
+use crate::answers::place_of;
+use crate::words::ynd_of;
+use crate::words::ynd_words;
+ghost use mathlib.Core.Path.{_≡_};
+ghost use lib.ListN.{length};
+ghost use Rattle.cells.specs.Renumber.{renumber};
+ghost use Rattle.exports.specs.Cells.{lent, called, renumberedOf};
+
+// `recalculate_node_indices`. `places` gets each node's new place; the scratch holds anything afterwards.
+#[no_mangle]
+pub extern "C" fn ynd_renumber(
+    ynd: &mut [u32; 15],
+    nodes: &mut [[u32; 8]],
+    links: &mut [[u16; 4]],
+    junctions: &[[u32; 6]],
+    heights: &[u8],
+    refs: &mut [[u16; 4]],
+    scratch: &mut [u32],
+    places: &mut [u32],
+    place: &mut usize,
+) -> u32
+    ensures { λ r. ⌜ called r (now (place .exit)) (now (ynd .exit)) (now (nodes .exit)) (now (links .exit)) (now (junctions .entry)) (now (heights .entry)) (now (refs .exit))
+        ≡ renumberedOf (renumber (lent (now (ynd .entry)) (now (nodes .entry)) (now (links .entry)) (now (junctions .entry)) (now (heights .entry)) (now (refs .entry)))
+        (length (now (scratch .entry))) (now (places .entry))) ⌝ }
+    ensures { λ _. ⌜ now (places .exit)
+        ≡ renumber (lent (now (ynd .entry)) (now (nodes .entry)) (now (links .entry)) (now (junctions .entry)) (now (heights .entry)) (now (refs .entry)))
+        (length (now (scratch .entry))) (now (places .entry)) .places ⌝ }
+{
+    let y = ynd_of(*ynd);
+    let o = cells::renumber::recalculate_node_indices(
+        y,
+        nodes,
+        links,
+        junctions,
+        heights,
+        refs,
+        scratch,
+        places,
+    );
+    let a = o.answer;
+    let w = ynd_words(o.ynd);
+    *ynd = w;
+    *place = place_of(a);
+    number_of(a)
+}

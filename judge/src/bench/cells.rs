@@ -1,0 +1,77 @@
+//! ns a node: reading, renumbering, writing, write-then-read, `node`.
+use super::{both, timed, Row, SIZES};
+use crate::blocks::{Pod, Writer};
+use crate::inputs::rng::Rng;
+use crate::model::cell::{Cell, Junction, Link, Node, Ref};
+use crate::model::write;
+use crate::resource::lend_sections;
+use crate::rust;
+use crate::ynd::{parse_node_dictionary, Ynd};
+use std::hint::black_box;
+use std::time::Duration;
+
+pub fn rows() -> Vec<Row> {
+    let mut out = Vec::new();
+    for size in SIZES {
+        let cell = cell(size);
+        let bytes = write::written(&cell).expect("a cell that is written");
+        let ynd = rust::ynd_of(&cell);
+        let row = |call, rust: &dyn Fn() -> Duration, goal| Row { call, size, rust: both(size, rust, || Duration::ZERO).0, port: None, goal };
+        out.push(row("reading", &|| { lend_sections(bytes.clone(), Vec::new()); timed(read) }, 0.55));
+        out.push(row("renumbering", &|| { let mut y = ynd.clone(); timed(|| y.recalculate_node_indices()) }, 0.35));
+        let head = &bytes[..1152];
+        out.push(row("writing", &|| timed(|| written(&ynd, head)), 0.4));
+        out.push(row("write-then-read", &|| timed(|| { lend_sections(written(&ynd, head), Vec::new()); read_any() }), 1.0));
+        let mut by_place = ynd.clone();
+        by_place.recalculate_node_indices();
+        out.push(row("node, numbers by place", &|| timed(|| nodes(&by_place)), 2.0));
+    }
+    out.sort_by_key(|r| r.call);
+    out
+}
+
+/// A cell as drawn: up to three links a node, a ped node in five, a junction and a ref in every two hundred, numbers that differ.
+fn cell(size: usize) -> Cell {
+    let mut r = Rng::new(size as u64);
+    let links = (65_535 / size).min(3);
+    let nodes = (0..size).map(|i| Node {
+        area_id: 489,
+        node_id: i as u16 ^ 0x5A,
+        street_name: r.u32(),
+        position: [0, 1, 2].map(|k| ((r.u16() as i16) as f32 / [4.0, 4.0, 32.0][k]).to_bits()),
+        flags: [r.u8(), if r.once_in(5) { 80 } else { 0 }, r.u8(), r.u8(), r.u8(), r.u8() % 8],
+        links: (0..links).map(|_| Link { area_id: 489, node_id: r.below(size) as u16, flags: [0, 0, 72], length: r.u8() }).collect(),
+    }).collect();
+    let junctions = (0..size / 200).map(|_| Junction { width: 4, height: 4, values: r.bytes(16), ..Junction::default() }).collect();
+    let refs = (0..size / 200).map(|i| Ref { area_id: 489, node_id: r.below(size) as u16, junction_id: i as u16, unk0: 0 }).collect();
+    Cell { vft: 1, unknowns: [0, 0, 1, 0, 0, 0, 0], nodes, junctions, refs, ..Cell::default() }
+}
+
+/// Reads the sections lent. `Reader::open` takes them from the container, which is left out, so no copy of them is timed.
+fn read() -> Ynd { read_any().expect("a valid file") }
+
+fn read_any() -> Option<Ynd> { Ynd::from_dictionary(&parse_node_dictionary(&[]).ok()?).ok() }
+
+/// `to_dictionary`, then the `Pod` writers, without the block graph's copies; root and page block come ready.
+fn written(ynd: &Ynd, head: &[u8]) -> Vec<u8> {
+    let d = ynd.to_dictionary().ok().expect("a cell that is written");
+    let size = 1152 + d.junction_refs.len() * 8 + d.junction_heightmap_bytes.len() + d.junctions.len() * 12 + d.links.len() * 8 + d.nodes.len() * 40;
+    let mut w = Writer::new(0, size + 64);
+    w.bytes(head);
+    block(&mut w, &d.junction_refs);
+    block(&mut w, &d.junction_heightmap_bytes);
+    block(&mut w, &d.junctions);
+    block(&mut w, &d.links);
+    block(&mut w, &d.nodes);
+    w.into_inner()
+}
+
+fn block<T: Pod>(w: &mut Writer, items: &[T]) {
+    w.pad16();
+    for i in items { i.write(w); }
+}
+
+/// Every number once.
+fn nodes(ynd: &Ynd) {
+    for i in 0..ynd.nodes.len() { black_box(ynd.node(i as u16)); }
+}

@@ -1,0 +1,62 @@
+//! The Rust and the port from one driver, on the same inputs, in one run; printed as a table for docs/BENCHMARKS.md.
+mod cells;
+mod numbers;
+
+use std::hint::black_box;
+use std::time::{Duration, Instant};
+
+pub const SIZES: [usize; 4] = [100, 1_000, 10_000, 60_000];
+
+/// One line of the table. A goal is a ratio to the Rust's time.
+pub struct Row {
+    pub call: &'static str,
+    pub size: usize,
+    pub rust: f64,
+    pub port: Option<f64>,
+    pub goal: f64,
+}
+
+pub fn bench() {
+    println!("| Call | Nodes | Rust, ns | Port, ns | Ratio | Goal |");
+    println!("|---|---|---|---|---|---|");
+    for row in numbers::rows().into_iter().chain(cells::rows()) {
+        let (port, ratio) = match row.port {
+            Some(p) => (format!("{p:.1}"), format!("{:.2}{}", p / row.rust, if p / row.rust > row.goal { " (missed)" } else { "" })),
+            None => ("-".into(), "-".into()),
+        };
+        println!("| {} | {} | {:.1} | {port} | {ratio} | {:.2} |", row.call, row.size, row.rust, row.goal);
+    }
+    println!();
+    println!("Nanoseconds a node, or a call for steps, grid and lengths; the fastest of {TURNS} turns, each side in turn. Inputs are made once.");
+    println!("Steps, grid and lengths are called on both sides through a function pointer, one call an input, so that neither is inlined.");
+    println!("The Rust's memory is its own, allocated in the call as it does; the port's is lent, not cleared first, and has been used before.");
+}
+
+const TURNS: usize = 41;
+
+/// Nanoseconds an element on each side, the fastest of some turns, so that other work on the machine counts least. The sides
+/// take turns, so that both meet the same machine;
+/// each says how long its own part took, so that making its input is not counted.
+pub fn both(count: usize, mut rust: impl FnMut() -> Duration, mut port: impl FnMut() -> Duration) -> (f64, f64) {
+    let (mut a, mut b) = (Vec::new(), Vec::new());
+    let rounds = (20_000 / count.max(1)).max(1);
+    for turn in 0..TURNS + 3 {
+        let x: Duration = (0..rounds).map(|_| rust()).sum();
+        let y: Duration = (0..rounds).map(|_| port()).sum();
+        // The first turns warm the caches.
+        if turn >= 3 { a.push(x); b.push(y); }
+    }
+    let each = (rounds * count) as f64;
+    (fastest(a) / each, fastest(b) / each)
+}
+
+/// How long a call takes; what it gives is dropped afterwards.
+pub fn timed<T>(f: impl FnOnce() -> T) -> Duration {
+    let start = Instant::now();
+    let given = black_box(f());
+    let took = start.elapsed();
+    drop(given);
+    took
+}
+
+fn fastest(all: Vec<Duration>) -> f64 { all.into_iter().min().unwrap_or_default().as_nanos() as f64 }

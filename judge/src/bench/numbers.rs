@@ -1,0 +1,64 @@
+//! ns a call: a position stored, its cell, a length.
+use super::{both, timed, Row, SIZES};
+use crate::inputs::rng::Rng;
+use crate::math::Vec3;
+use crate::port;
+use crate::ynd::{self, PathLink, PathNode};
+use std::hint::black_box;
+
+pub fn rows() -> Vec<Row> {
+    let mut out = Vec::new();
+    for size in SIZES {
+        let points = points(size);
+        out.push(steps(&points));
+        out.push(grid(&points));
+        out.push(lengths(&points));
+    }
+    out.sort_by_key(|r| r.call);
+    out
+}
+
+/// Positions of a cell: within its 512 m, a few metres apart.
+fn points(count: usize) -> Vec<[f32; 3]> {
+    let mut r = Rng::new(count as u64);
+    let mut at = [0.0f32; 3];
+    (0..count).map(|_| {
+        for x in &mut at { *x = (*x + (r.u16() as f32 / 256.0 - 128.0) / 4.0).clamp(-4000.0, 4000.0); }
+        at
+    }).collect()
+}
+
+fn rust_steps(p: [f32; 3]) -> [f32; 3] {
+    let mut n = PathNode::default();
+    n.set_position(Vec3::new(p[0], p[1], p[2]));
+    [n.position.x, n.position.y, n.position.z]
+}
+
+fn port_steps(p: [f32; 3]) -> [f32; 3] { port::numbers::stored_position(p).map(f32::from_bits) }
+
+fn rust_grid(x: f32, y: f32) -> [u32; 2] { ynd::cell_for_position(x, y).into() }
+
+fn rust_length(a: [f32; 3], b: [f32; 3]) -> u8 {
+    PathLink::length_between(Vec3::new(a[0], a[1], a[2]), Vec3::new(b[0], b[1], b[2]))
+}
+
+fn steps(points: &[[f32; 3]]) -> Row {
+    let (f, g) = (black_box(rust_steps as fn(_) -> _), black_box(port_steps as fn(_) -> _));
+    let run = |f: fn([f32; 3]) -> [f32; 3]| for p in points { black_box(f(*p)); };
+    let (rust, port) = both(points.len(), || timed(|| run(f)), || timed(|| run(g)));
+    Row { call: "set_position's steps", size: points.len(), rust, port: Some(port), goal: 2.0 }
+}
+
+fn grid(points: &[[f32; 3]]) -> Row {
+    let (f, g) = (black_box(rust_grid as fn(_, _) -> _), black_box(port::numbers::cell_for_position as fn(_, _) -> _));
+    let run = |f: fn(f32, f32) -> [u32; 2]| for p in points { black_box(f(p[0], p[1])); };
+    let (rust, port) = both(points.len(), || timed(|| run(f)), || timed(|| run(g)));
+    Row { call: "cell_for_position", size: points.len(), rust, port: Some(port), goal: 2.0 }
+}
+
+fn lengths(points: &[[f32; 3]]) -> Row {
+    let (f, g) = (black_box(rust_length as fn(_, _) -> _), black_box(port::numbers::length_between as fn(_, _) -> _));
+    let run = |f: fn([f32; 3], [f32; 3]) -> u8| for p in points.windows(2) { black_box(f(p[0], p[1])); };
+    let (rust, port) = both(points.len() - 1, || timed(|| run(f)), || timed(|| run(g)));
+    Row { call: "length_between", size: points.len(), rust, port: Some(port), goal: 2.0 }
+}

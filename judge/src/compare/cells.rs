@@ -1,0 +1,76 @@
+//! Renumbering, writing, write-then-read and lookups on one cell.
+use super::{same, seen, walks, Verdict, MODEL, RUST};
+use crate::inputs::rng::Rng;
+use crate::model::cell::Cell;
+use crate::model::{read, renumber, write};
+use crate::rust;
+use crate::ynd::Ynd;
+
+pub fn check(cell: &Cell, aux: u64) -> Verdict {
+    let mut r = Rng::new(aux);
+    let ynd = rust::ynd_of(cell);
+    same("the cell in the Rust's words", MODEL, cell, RUST, &rust::cell_of(&ynd))?;
+    renumbering(cell, &ynd)?;
+    writing(cell, &ynd)?;
+    lookups(cell, &ynd, &mut r)?;
+    walks::check(cell, &mut r)
+}
+
+fn renumbering(cell: &Cell, ynd: &Ynd) -> Verdict {
+    let mut model = cell.clone();
+    let places = renumber::renumber(&mut model, 65_536, cell.nodes.len()).expect("room for all");
+    let mut judged = ynd.clone();
+    judged.recalculate_node_indices();
+    same("renumbering", MODEL, &model, RUST, &rust::cell_of(&judged))?;
+    // The Rust gives no new places; a street name that is the old place shows them.
+    let mut marked = ynd.clone();
+    for (i, n) in marked.nodes.iter_mut().enumerate() { n.street_name = i as u32; }
+    marked.recalculate_node_indices();
+    let mut judged_places = vec![0; places.len()];
+    for (new, n) in marked.nodes.iter().enumerate() { judged_places[n.street_name as usize] = new; }
+    same("new places", MODEL, &places, RUST, &judged_places)
+}
+
+/// The bytes written, and the cell that reading them gives.
+fn writing(cell: &Cell, ynd: &Ynd) -> Verdict {
+    let model = write::written(cell);
+    if model.is_err() { seen::note(&model); }
+    let judged = rust::write(ynd);
+    same("whether writing is refused", MODEL, &model.is_err(), RUST, &judged.is_err())?;
+    let (Ok(bytes), Ok(judged)) = (model, judged) else { return Ok(()) };
+    same("bytes written", MODEL, &bytes, RUST, &judged)?;
+    let mut back = cell.clone();
+    let mut section = vec![0xA5; bytes.len() + 3];
+    let count = write::write_then_read(&mut back, &mut section, cell.counts());
+    same("write-then-read's length", MODEL, &count, RUST, &Ok(judged.len()))?;
+    let again = rust::read(&judged, &[]).map(|y| rust::cell_of(&y));
+    same("write-then-read", MODEL, &Ok(back), RUST, &again)?;
+    same("later bytes", MODEL, &section[bytes.len()..].to_vec(), RUST, &vec![0xA5; 3])?;
+    same("reading what was written", MODEL, &read::read(&bytes, &[]).map_err(|e| format!("{e:?}")), RUST, &again)
+}
+
+/// `node` and `junction_of`, for numbers that are there and numbers that aren't.
+fn lookups(cell: &Cell, ynd: &Ynd, r: &mut Rng) -> Verdict {
+    for _ in 0..12 {
+        let (area, number) = name(cell, r);
+        let place = ynd.node(number).map(|n| place_in(&ynd.nodes, n));
+        same("node", MODEL, &cell.node(number), RUST, &place)?;
+        let place = ynd.junction_of(area, number).map(|j| place_in(&ynd.junctions, j));
+        same("junction_of", MODEL, &cell.junction_of(area, number), RUST, &place)?;
+    }
+    Ok(())
+}
+
+/// An area and a number that a node, link or ref has, or any.
+pub fn name(cell: &Cell, r: &mut Rng) -> (u16, u16) {
+    let any = (r.u16(), r.u16());
+    match r.below(4) {
+        0 if !cell.nodes.is_empty() => { let n = &cell.nodes[r.below(cell.nodes.len())]; (n.area_id, n.node_id) }
+        1 | 2 if !cell.refs.is_empty() => { let x = cell.refs[r.below(cell.refs.len())]; (x.area_id, x.node_id) }
+        3 => (cell.area(), r.below(cell.nodes.len() + 2) as u16),
+        _ => any,
+    }
+}
+
+/// Which element of a list a reference is.
+fn place_in<T>(list: &[T], element: &T) -> usize { (element as *const T as usize - list.as_ptr() as usize) / std::mem::size_of::<T>() }

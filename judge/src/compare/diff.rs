@@ -1,0 +1,37 @@
+//! The whole run: every family of inputs in turn.
+use super::numbers::{area, cell_for_position, file_name, grid_cell, lane_offset, length_between, metres, position, steps_of};
+use super::run::Run;
+use super::{cells, files, records, scripts};
+use crate::inputs::{self, floats, limits, names, rng::Rng, shrink};
+use crate::model::length;
+
+pub fn diff(seed: u64, seconds: f64, full: bool) {
+    let run = Run::new(seed, full);
+    numbers(&run, seconds);
+    let r = &mut Rng::new(seed);
+    run.list("files around limits", &limits::files(r), files::check);
+    run.list("cells around limits", &limits::cells(r), |c| cells::check(c, seed));
+    run.list("scripts around limits", &limits::scripts(r), scripts::check);
+    run.random("sections and records", seconds * 0.1, files::generate, records::check, shrink::smaller_file);
+    run.random("files", seconds * 0.4, files::generate, files::check, shrink::smaller_file);
+    run.random("scripts", seconds * 0.25, inputs::scripts::script, scripts::check, inputs::scripts::smaller);
+    println!("{} inputs compared, all agree", run.compared());
+}
+
+fn numbers(run: &Run, seconds: f64) {
+    let thresholds = &length::thresholds();
+    run.sweep("steps", 1 << 32, [61, 1], |i| steps_of(i as u32));
+    run.sweep("grid", 1 << 32, [61, 1], |i| cell_for_position(i as u32, (i as u32).wrapping_mul(0x9E37_79B1)));
+    run.sweep("metres", 1 << 16, [1, 1], |i| metres(i as u16 as i16));
+    run.sweep("lane offsets", 1 << 8, [1, 1], |i| lane_offset(i as u8));
+    run.sweep("areas", 1 << 32, [65_537, 257], |i| area(i as u32));
+    run.sweep("areas of 16 bits", 1 << 16, [1, 1], |i| area(i as u32));
+    run.sweep("grid cells", 40 * 40, [1, 1], |i| grid_cell(i as u32 % 40, i as u32 / 40));
+    run.sweep("names with a middle", names::middles(7), [7, 1], |i| file_name(names::with_middle(i).as_bytes()));
+    run.sweep("names of parts", names::rows(5), [1, 1], |i| file_name(names::row(i).as_bytes()));
+    let each = seconds / 40.0;
+    run.random("positions", each, floats::position, |p| position(*p), |_| Vec::new());
+    run.random("lengths", each, floats::pair, |p| length_between(thresholds, *p), |_| Vec::new());
+    run.random("lengths at thresholds", each, floats::at_threshold, |p| length_between(thresholds, *p), |_| Vec::new());
+    run.random("names", each, names::bytes, |n| file_name(n), |_| Vec::new());
+}

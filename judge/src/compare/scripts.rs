@@ -1,0 +1,93 @@
+//! Scripts of edits and calls, each on what the last one left.
+use super::{same, seen, Verdict, MODEL, RUST};
+use crate::inputs::scripts::{Op, Script};
+use crate::model::cell::{one_nan, Cell, Junction, Node};
+use crate::model::{edit, read, refuse_if, renumber, walk, write, Answer};
+use crate::rust;
+use crate::ynd::{Heightmap, Ynd};
+
+pub fn check(s: &Script) -> Verdict {
+    let Ok(mut cell) = read::read_into(&s.file.system, &s.file.graphics, s.lent) else { return Ok(()) };
+    let mut ynd = rust::read(&s.file.system, &s.file.graphics).unwrap_or_default();
+    for op in &s.ops {
+        let answer = on_model(&mut cell, op, s.lent);
+        seen::note(&answer);
+        // What document 01 refuses here the Rust has no refusal for, or leaves as it was.
+        if answer.is_ok() { on_rust(&mut ynd, op); }
+        let what = format!("the cell after {op:?}, answered {answer:?}");
+        same(&what, MODEL, &cell, RUST, &rust::cell_of(&ynd))?;
+    }
+    Ok(())
+}
+
+pub fn on_model(cell: &mut Cell, op: &Op, lent: [usize; 5]) -> Answer<()> {
+    match op.clone() {
+        Op::AddNode { area_id, position } => edit::add_node(cell, area_id, position, lent),
+        Op::SetPosition { place, position } => edit::set_position(cell, place, position),
+        Op::AddLink { place, link } => edit::add_link(cell, place, link, lent),
+        Op::AddRef(r) => edit::add_ref(cell, r, lent),
+        Op::AddJunction(j) => edit::add_junction(cell, one_nan_junction(j), lent),
+        Op::PutNode { place, node } => {
+            refuse_if(place >= cell.nodes.len(), 13, 0)?;
+            let links = std::mem::take(&mut cell.nodes[place].links);
+            cell.nodes[place] = Node { links, position: node.position.map(one_nan), ..node };
+            Ok(())
+        }
+        Op::PutLink { place, index, link } => {
+            refuse_if(cell.nodes.get(place).is_none_or(|n| index >= n.links.len()), 13, 0)?;
+            cell.nodes[place].links[index] = link;
+            Ok(())
+        }
+        Op::PutRef { place, r } => {
+            refuse_if(place >= cell.refs.len(), 13, 0)?;
+            cell.refs[place] = r;
+            Ok(())
+        }
+        Op::PutJunction { place, junction } => {
+            refuse_if(place >= cell.junctions.len(), 13, 0)?;
+            let new = one_nan_junction(junction);
+            let j = &mut cell.junctions[place];
+            (j.position, j.min_z, j.max_z) = (new.position, new.min_z, new.max_z);
+            Ok(())
+        }
+        Op::PutValue { place, index, value } => {
+            refuse_if(cell.junctions.get(place).is_none_or(|j| index >= j.values.len()), 13, 0)?;
+            cell.junctions[place].values[index] = value;
+            Ok(())
+        }
+        Op::Renumber { scratch, places } => renumber::renumber(cell, scratch, places).map(|_| ()),
+        Op::Write { section } => write::write(cell, &mut vec![0; section]).map(|_| ()),
+        Op::WriteRead { section } => write::write_then_read(cell, &mut vec![0; section], lent).map(|_| ()),
+        Op::Walk { start, choices, visited } => walk::walk_into(cell, start, &choices, visited).map(|_| ()),
+    }
+}
+
+fn one_nan_junction(j: Junction) -> Junction {
+    Junction { position: j.position.map(one_nan), min_z: one_nan(j.min_z), max_z: one_nan(j.max_z), ..j }
+}
+
+fn on_rust(ynd: &mut Ynd, op: &Op) {
+    match op.clone() {
+        Op::AddNode { area_id, position } => { ynd.add_node(area_id, rust::vec3(position)); }
+        Op::SetPosition { place, position } => ynd.nodes[place].set_position(rust::vec3(position)),
+        Op::AddLink { place, link } => ynd.nodes[place].links.push(rust::path_link(&link)),
+        Op::AddRef(r) => ynd.junction_refs.push(rust::path_ref(&r)),
+        Op::AddJunction(j) => ynd.junctions.push(rust::path_junction(&j)),
+        Op::PutNode { place, node } => {
+            let links = std::mem::take(&mut ynd.nodes[place].links);
+            ynd.nodes[place] = rust::path_node(&node);
+            ynd.nodes[place].links = links;
+        }
+        Op::PutLink { place, index, link } => ynd.nodes[place].links[index] = rust::path_link(&link),
+        Op::PutRef { place, r } => ynd.junction_refs[place] = rust::path_ref(&r),
+        Op::PutJunction { place, junction } => {
+            let kept: Heightmap = std::mem::take(&mut ynd.junctions[place].heightmap);
+            ynd.junctions[place] = rust::path_junction(&junction);
+            ynd.junctions[place].heightmap = kept;
+        }
+        Op::PutValue { place, index, value } => ynd.junctions[place].heightmap.values[index] = value,
+        Op::Renumber { .. } => ynd.recalculate_node_indices(),
+        Op::WriteRead { .. } => *ynd = rust::write(ynd).and_then(|b| rust::read(&b, &[])).unwrap_or_default(),
+        Op::Write { .. } | Op::Walk { .. } => {}
+    }
+}

@@ -1,0 +1,9 @@
+//! Inputs, made from a seed.
+pub mod damage;
+pub mod files;
+pub mod floats;
+pub mod limits;
+pub mod names;
+pub mod rng;
+pub mod scripts;
+pub mod shrink;

@@ -1,0 +1,46 @@
+//! Sections, the root and the four records.
+use super::KEPT_PLACE;
+
+extern "C" {
+    fn ynd_locate(address: u64, count: u32, width: u8, system: usize, graphics: usize, part: &mut [usize; 3]) -> bool;
+    fn ynd_root(section: *const u8, length: usize, words: &mut [u32; 28]);
+    fn ynd_node_record(section: *const u8, length: usize, at: u32, bytes: &mut [u8; 40]);
+    fn ynd_link_record(section: *const u8, length: usize, at: u32, bytes: &mut [u8; 8]);
+    fn ynd_junction_record(section: *const u8, length: usize, at: u32, bytes: &mut [u8; 12]);
+    fn ynd_ref_record(section: *const u8, length: usize, at: u32, bytes: &mut [u8; 8]);
+    fn ynd_lay_out(refs: u32, heightmap: u32, junctions: u32, links: u32, nodes: u32, addresses: &mut [u64; 5], total: &mut usize);
+}
+
+/// Section, offset and length; the second part says that a bad address left what was lent.
+pub fn locate(address: u64, count: u32, width: u8, system: usize, graphics: usize) -> (Option<[usize; 3]>, bool) {
+    let mut part = [KEPT_PLACE; 3];
+    let good = unsafe { ynd_locate(address, count, width, system, graphics, &mut part) };
+    (good.then_some(part), good || part == [KEPT_PLACE; 3])
+}
+
+pub fn root(section: &[u8]) -> [u32; 28] {
+    let mut words = [0; 28];
+    unsafe { ynd_root(section.as_ptr(), section.len(), &mut words) };
+    words
+}
+
+/// The record of an array, by its place among the five, at an offset of a section, as it is written.
+pub fn record(array: usize, section: &[u8], at: u32) -> Vec<u8> {
+    let (s, n) = (section.as_ptr(), section.len());
+    let (mut node, mut junction, mut eight) = ([0; 40], [0; 12], [0; 8]);
+    unsafe {
+        match array {
+            0 => { ynd_node_record(s, n, at, &mut node); node.to_vec() }
+            1 => { ynd_link_record(s, n, at, &mut eight); eight.to_vec() }
+            2 => { ynd_junction_record(s, n, at, &mut junction); junction.to_vec() }
+            _ => { ynd_ref_record(s, n, at, &mut eight); eight.to_vec() }
+        }
+    }
+}
+
+/// From the counts of nodes, links, junctions, heightmap bytes and refs: their addresses in that order, and the length.
+pub fn lay_out([nodes, links, junctions, heightmap, refs]: [u32; 5]) -> ([u64; 5], usize) {
+    let (mut a, mut total) = ([0; 5], 0);
+    unsafe { ynd_lay_out(refs, heightmap, junctions, links, nodes, &mut a, &mut total) };
+    ([a[4], a[3], a[2], a[1], a[0]], total)
+}

@@ -1,0 +1,2 @@
+//! Stands in for the name table, which only XML uses.
+pub struct NameTable;
