@@ -1,8 +1,9 @@
--- Demand 3 speaks of something: bytes that read as a sound cell of two nodes, and calls on it that are accepted.
+-- Demand 3 speaks of something: bytes that read as a sound cell of three nodes, one of them a ped node, and a list of calls on it: an accepted
+-- renumbering, a refused one, and an accepted write-then-read. All of it is computed.
 use Prim.Native.Nat.{ℕ}
 use mathlib.Core.Path.{_≡_, refl}
 use mathlib.Core.Bool.{Bool, true, false}
-use mathlib.Core.List.{List, [], _∷_, _++_}
+use mathlib.Core.List.{List, [], _∷_, _++_, map}
 use lib.IntN.{pos}
 use lib.ListN.{replicate}
 use Rattle.numbers.specs.Steps.{stepOf, unstep}
@@ -18,10 +19,12 @@ use Rattle.cells.specs.Words.{pathNode, pathLink, nodeWords, linkWords, toNode,
 use Rattle.cells.specs.Checks.{sizesCheck, arraysFound, scan, arraysCheck}
 use Rattle.cells.specs.Memory.{Memory, memory, shortOf}
 use Rattle.cells.specs.Read.{linksFrom, nodeIn, linksIn, roomCheck, cellRead, filled, readArrays, readOf}
-use Rattle.cells.specs.Order.{belongs}
+use Rattle.cells.specs.Order.{keep, rank, parted, newPlace, listed, newPlaces, lastWith, newNumber, belongs, renamed}
+use Rattle.cells.specs.NodeWords.{areaOf, numberOf, isPed, numbered, numberFrom, reordered, firstArea, oldOf, relinked}
+use Rattle.cells.specs.CellOf.{bodyOf, nodesOf, cellOf}
 use Rattle.cells.specs.FileCell.{fileNodes, fileJunctions, fileRefs, cellFrom, cellBy, fileCell}
 use Rattle.cells.specs.Lookup.{firstWith}
-use Rattle.cells.specs.Renumber.{answerOf, renumber}
+use Rattle.cells.specs.Renumber.{vehicles, peds, renumberLists, recounted, answerOf, newLists, renumberMemory, renumber}
 use Rattle.cells.specs.Entries.{fileNode, fileLink}
 use Rattle.cells.specs.Entries as entries
 use Rattle.cells.specs.WriteChecks.{checkNodes, checkJunctions}
@@ -31,18 +34,18 @@ use Rattle.cells.specs.WriteRead.{writeReadOf}
 use Rattle.cells.specs.declared.write.Written.{Written}
 use Rattle.cells.specs.declared.write.Written.the-variants as answer
 use Rattle.walks.specs.Sound.{differing, sound}
-use Rattle.walks.specs.Calls.{renumbering, renumbers}
+use Rattle.walks.specs.Calls.{Call, renumbering, write-read, after, run, renumbers, moved}
 
--- a root with two nodes and two links behind it, and no other array
+-- a root with three nodes and three links behind it, and no other array
 abbrev root : List ℕ
 root = rootBytes (record {
   vft = 0;
   nodes = 0x50000070;
-  «node_count» = 2;
+  «node_count» = 3;
   «vehicle_node_count» = 0;
   «ped_node_count» = 0;
-  links = 0x500000c0;
-  «link_count» = 2;
+  links = 0x500000e8;
+  «link_count» = 3;
   junctions = 0;
   heightmap = 0;
   refs = 0;
@@ -78,15 +81,15 @@ nodeFrom number link steps flags1 = nodeBytes (record {
 abbrev linkFrom : ℕ → List ℕ
 linkFrom number = linkBytes (record { «area_id» = 5; «node_id» = number; flags0 = 0; flags1 = 0; flags2 = 0; «link_length» = 1 })
 
--- numbers 7 and 3, the first a ped node, each with a link to the other
+-- numbers 7, 3 (a ped node) and 9, each with a link to the next
 unfoldable pub bytes : List ℕ
-bytes = root ++ nodeFrom 7 0 32 80 ++ nodeFrom 3 1 0 0 ++ linkFrom 3 ++ linkFrom 7
+bytes = root ++ nodeFrom 7 0 32 0 ++ nodeFrom 3 1 0 80 ++ nodeFrom 9 2 64 0 ++ linkFrom 3 ++ linkFrom 9 ++ linkFrom 7
 
 unfoldable pub room : Memory
 room =
     memory
     (record { vft = 0; «vehicle_node_count» = 0; «ped_node_count» = 0; unknowns = []; «node_count» = 0; «link_count» = 0; «junction_count» = 0; «heightmap_count» = 0; «ref_count» = 0 })
-    ([] ∷ [] ∷ []) ([] ∷ [] ∷ []) [] [] []
+    ([] ∷ [] ∷ [] ∷ []) ([] ∷ [] ∷ [] ∷ []) [] [] []
 
 pub reads : readOf bytes [] room .answer ≡ Done
 unfolding bytes room rootBytes nodeBytes linkBytes numberBytes bits16 readOf sizesCheck arraysFound located rootOf unknownsOf numberAt bytesOf extent readArrays arraysCheck scan nodeAt junctionAt sumTo roomCheck
@@ -96,16 +99,37 @@ pub is-sound : sound (fileCell bytes []) ≡ true
 unfolding bytes rootBytes nodeBytes linkBytes numberBytes bits16 located rootOf unknownsOf numberAt bytesOf extent arrayAt nodeAt linkAt junctionAt refAt upTo fileNodes fileJunctions fileRefs cellFrom cellBy fileCell every firstWith differing sound belongs
 is-sound = refl
 
--- renumbering it is accepted
-pub renumbered : renumbers (readOf bytes [] room .memory) (renumbering (replicate 65536 9) (9 ∷ 9 ∷ [])) ≡ true
+-- what reading leaves
+abbrev first : Memory
+first = readOf bytes [] room .memory
+
+-- an accepted renumbering, a refused one (no scratch), a write-then-read
+abbrev accepted : Call
+accepted = renumbering (replicate 65536 9) (9 ∷ 9 ∷ 9 ∷ [])
+
+abbrev refused : Call
+refused = renumbering [] []
+
+abbrev stored-read : Call
+stored-read = write-read (replicate 1400 9)
+
+pub renumbered : renumbers first accepted ≡ true
 unfolding bytes room rootBytes nodeBytes linkBytes numberBytes bits16 readOf sizesCheck arraysFound located rootOf unknownsOf numberAt bytesOf extent readArrays arraysCheck scan nodeAt linkAt junctionAt sumTo upTo joinTo roomCheck filled cellRead nodeIn linksIn linksFrom linkWords pathLink pathNode nodeWords renumbers renumber answerOf shortOf
 renumbered = refl
+
+pub not-renumbered : renumbers (after first accepted) refused ≡ false
+unfolding bytes room rootBytes nodeBytes linkBytes numberBytes bits16 readOf sizesCheck arraysFound located rootOf unknownsOf numberAt bytesOf extent readArrays arraysCheck scan nodeAt linkAt junctionAt sumTo upTo joinTo roomCheck filled cellRead nodeIn linksIn linksFrom linkWords pathLink pathNode nodeWords renumbers renumber answerOf shortOf after run renumberMemory newLists renumberLists recounted vehicles peds reordered numberFrom numbered parted keep isPed areaOf numberOf oldOf firstArea relinked renamed newNumber newPlace newPlaces listed rank lastWith belongs
+not-renumbered = refl
 
 abbrev pub isWrote : Written → Bool
 isWrote (answer.Wrote n) = true
 isWrote (answer.Refused cause place) = false
 
--- and so is write-then-read
-pub written-read : isWrote (writeReadOf (readOf bytes [] room .memory) (replicate 1300 9) .answer) ≡ true
-unfolding bytes room rootBytes nodeBytes linkBytes numberBytes bits16 readOf sizesCheck arraysFound located rootOf unknownsOf numberAt bytesOf extent readArrays arraysCheck scan nodeAt linkAt junctionAt sumTo upTo joinTo roomCheck filled cellRead nodeIn linksIn linksFrom linkWords pathLink pathNode nodeWords writeReadOf writeCall writeHeld held shortOf checkNodes checkJunctions stored written arrays laid joined fileNode toNode fileLink toLink rootFor pages headerBytes sectionBytes lay padded gapFor startOf offset total address placesOf entries.linksIn stepOf unstep signed16
+pub written-read : isWrote (writeReadOf (run first (accepted ∷ refused ∷ [])) (replicate 1400 9) .answer) ≡ true
+unfolding bytes room rootBytes nodeBytes linkBytes numberBytes bits16 readOf sizesCheck arraysFound located rootOf unknownsOf numberAt bytesOf extent readArrays arraysCheck scan nodeAt linkAt junctionAt sumTo upTo joinTo roomCheck filled cellRead nodeIn linksIn linksFrom linkWords pathLink pathNode nodeWords renumber answerOf shortOf after run renumberMemory newLists renumberLists recounted vehicles peds reordered numberFrom numbered parted keep isPed areaOf numberOf oldOf firstArea relinked renamed newNumber newPlace newPlaces listed rank lastWith belongs writeReadOf writeCall writeHeld held checkNodes checkJunctions stored written arrays laid joined fileNode toNode fileLink toLink rootFor pages headerBytes sectionBytes lay padded gapFor startOf offset total address placesOf entries.linksIn stepOf unstep signed16
 written-read = refl
+
+-- where the three nodes stand after all three calls
+pub moves : map (moved first (accepted ∷ refused ∷ stored-read ∷ [])) (0 ∷ 1 ∷ 2 ∷ []) ≡ 0 ∷ 2 ∷ 1 ∷ []
+unfolding bytes room rootBytes nodeBytes linkBytes numberBytes bits16 readOf sizesCheck arraysFound located rootOf unknownsOf numberAt bytesOf extent readArrays arraysCheck scan nodeAt linkAt junctionAt sumTo upTo joinTo roomCheck filled cellRead nodeIn linksIn linksFrom linkWords pathLink pathNode nodeWords renumbers renumber answerOf shortOf after run renumberMemory newLists renumberLists recounted vehicles peds reordered numberFrom numbered parted keep isPed areaOf numberOf oldOf firstArea relinked renamed newNumber newPlace newPlaces listed rank lastWith belongs writeReadOf writeCall writeHeld held checkNodes checkJunctions stored written arrays laid joined fileNode toNode fileLink toLink rootFor pages headerBytes sectionBytes lay padded gapFor startOf offset total address placesOf entries.linksIn stepOf unstep signed16 moved cellOf nodesOf bodyOf
+moves = refl

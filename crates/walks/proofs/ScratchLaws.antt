@@ -93,5 +93,8 @@ module _ (n : ℕ) (nodes : List (List ℕ)) (s : List ℕ) (r : Ready n nodes s
     number-there lt e = rw (← first-last (numbersIn n nodes) k, cells.named (numbersIn n nodes) s (r .leads) k t is-t (omega (arith, long)) (number-in n nodes t lt ∙ e))
 
     pub number-not : (t < n → numberOf (getD nodes t []) ≡ k → ⊥) → false ≡ isSome (firstWith (numbersIn n nodes) k)
-    number-not nowhere = rw (← first-last (numbersIn n nodes) k, cells.unnamed (numbersIn n nodes) s (r .leads) k t is-t
-        (λ lt e. let below : t < n = omega (arith, long) in nowhere below (sym (number-in n nodes t below) ∙ e)))
+    number-not nowhere = rw (
+      ← first-last (numbersIn n nodes) k,
+      cells.unnamed (numbersIn n nodes) s (r .leads) k t is-t
+          (λ lt e. let below : t < n = omega (arith, long) in nowhere below (sym (number-in n nodes t below) ∙ e)),
+    )

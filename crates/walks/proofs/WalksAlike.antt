@@ -38,7 +38,7 @@ pub record Lies (m : Memory) : Type 0 where
   pub nodes-lie : m .ynd .«node_count» ≤ length (m .nodes)
   pub links-lie : m .ynd .«link_count» ≤ length (m .links)
 
-nodes-long : (m : Memory) → Lies m → length (cellOf m .nodes) ≡ m .ynd .«node_count»
+pub nodes-long : (m : Memory) → Lies m → length (cellOf m .nodes) ≡ m .ynd .«node_count»
 unfolding cellOf nodesOf
 nodes-long m h =
     length-map (take (m .ynd .«node_count») (m .nodes)) (nodeWith (map linkOf (take (m .ynd .«link_count») (m .links))))

@@ -7,6 +7,11 @@ ghost use Rattle.cells.specs.Memory.{memory};
 ghost use Rattle.cells.specs.CellOf.{linkOf, junctionWith};
 ghost use Rattle.walks.specs.Shown.{shownNode, seenJunction, shownJunction, shownValues, seenLink, shownLink};
 ghost use Rattle.walks.specs.ShownParts.{seenOf};
+use crate::words::held_in;
+use crate::words::link_count;
+use crate::words::link_start;
+use crate::words::value_count;
+use crate::words::value_start;
 use cells::junction::JunctionWords;
 use cells::link::LinkWords;
 use cells::link::link_of;
@@ -17,11 +22,6 @@ use cells::node::node_of;
 use cells::node_words::area_of;
 use cells::node_words::number_of;
 use cells::ynd::Ynd;
-use crate::words::held_in;
-use crate::words::link_count;
-use crate::words::link_start;
-use crate::words::value_count;
-use crate::words::value_start;
 
 // The bits of three f32.
 pub struct PositionBits {

@@ -1,9 +1,10 @@
 //! ns a node: reading, renumbering, writing, write-then-read, `node`.
-use super::{both, timed, Row, SIZES};
+use super::{both, timed, Goal, Row, SIZES};
 use crate::blocks::{Pod, Writer};
 use crate::inputs::rng::Rng;
 use crate::model::cell::{Cell, Junction, Link, Node, Ref};
-use crate::model::write;
+use crate::model::{renumber, write};
+use crate::port::memory::Memory;
 use crate::resource::lend_sections;
 use crate::rust;
 use crate::ynd::{parse_node_dictionary, Ynd};
@@ -16,18 +17,46 @@ pub fn rows() -> Vec<Row> {
         let cell = cell(size);
         let bytes = write::written(&cell).expect("a cell that is written");
         let ynd = rust::ynd_of(&cell);
-        let row = |call, rust: &dyn Fn() -> Duration, goal| Row { call, size, rust: both(size, rust, || Duration::ZERO).0, port: None, goal };
-        out.push(row("reading", &|| { lend_sections(bytes.clone(), Vec::new()); timed(read) }, 0.55));
-        out.push(row("renumbering", &|| { let mut y = ynd.clone(); timed(|| y.recalculate_node_indices()) }, 0.35));
+        let memory = Memory::of(&mut Rng::new(1), &cell, cell.counts());
+        let (mut lent, mut section) = (memory.clone(), bytes.clone());
+        let (mut scratch, mut places) = (vec![0; 65_536], vec![0; size]);
+        let mut row = |call, goal, rust: &dyn Fn() -> Duration, port: &mut dyn FnMut() -> Duration| {
+            let (rust, port) = both(size, rust, port);
+            out.push(Row { call, size, rust: Some(rust), port, goal });
+        };
+        row("reading", Goal::Ratio(0.55), &|| { lend_sections(bytes.clone(), Vec::new()); timed(read) }, &mut || timed(|| lent.read(&bytes, &[])));
+        row("renumbering", Goal::Ratio(0.35), &|| { let mut y = ynd.clone(); timed(|| y.recalculate_node_indices()) }, &mut || {
+            lent = memory.clone();
+            timed(|| lent.renumber(&mut scratch, &mut places))
+        });
         let head = &bytes[..1152];
-        out.push(row("writing", &|| timed(|| written(&ynd, head)), 0.4));
-        out.push(row("write-then-read", &|| timed(|| { lend_sections(written(&ynd, head), Vec::new()); read_any() }), 1.0));
+        row("writing", Goal::Ratio(0.4), &|| timed(|| written(&ynd, head)), &mut || timed(|| memory.write(&mut section)));
+        lent = memory.clone();
+        row("write-then-read", Goal::Ratio(1.0), &|| timed(|| { lend_sections(written(&ynd, head), Vec::new()); read_any() }), &mut || timed(|| lent.write_then_read(&mut section)));
         let mut by_place = ynd.clone();
         by_place.recalculate_node_indices();
-        out.push(row("node, numbers by place", &|| timed(|| nodes(&by_place)), 2.0));
+        lent = memory.clone();
+        lent.renumber(&mut scratch, &mut places).expect("room for all");
+        row("node, numbers by place", Goal::Ratio(2.0), &|| timed(|| nodes(&by_place)), &mut || timed(|| port_nodes(&lent)));
+        out.push(walking(&cell));
     }
     out.sort_by_key(|r| r.call);
     out
+}
+
+/// A walk over a renumbered cell whose first links lead from node to node, all of them, in random order.
+fn walking(cell: &Cell) -> Row {
+    let (mut cell, size) = (cell.clone(), cell.nodes.len());
+    renumber::renumber(&mut cell, 65_536, size).expect("room for all");
+    let mut r = Rng::new(7);
+    let mut next: Vec<u16> = (0..size).map(|i| i as u16).collect();
+    for i in (1..size).rev() { next.swap(i, r.below(i)); }
+    for (n, to) in cell.nodes.iter_mut().zip(next) { n.links[0] = Link { area_id: n.area_id, node_id: to, ..Link::default() }; }
+    let memory = Memory::of(&mut r, &cell, cell.counts());
+    let (choices, mut visited) = (vec![0; size], vec![0; size + 1]);
+    let (_, port) = both(size, || Duration::ZERO, || timed(|| memory.walk(0, &choices, &mut visited)));
+    assert_eq!(visited[size], 0, "a walk over all nodes");
+    Row { call: "a walk's link", size, rust: None, port, goal: if size == 60_000 { Goal::Nanoseconds(25.0) } else { Goal::None } }
 }
 
 /// A cell as drawn: up to three links a node, a ped node in five, a junction and a ref in every two hundred, numbers that differ.
@@ -74,4 +103,8 @@ fn block<T: Pod>(w: &mut Writer, items: &[T]) {
 /// Every number once.
 fn nodes(ynd: &Ynd) {
     for i in 0..ynd.nodes.len() { black_box(ynd.node(i as u16)); }
+}
+
+fn port_nodes(memory: &Memory) {
+    for i in 0..memory.nodes.len() { let _ = black_box(memory.node(i as u16)); }
 }

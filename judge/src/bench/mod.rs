@@ -7,28 +7,41 @@ use std::time::{Duration, Instant};
 
 pub const SIZES: [usize; 4] = [100, 1_000, 10_000, 60_000];
 
-/// One line of the table. A goal is a ratio to the Rust's time.
+/// What a call's time is held to: a ratio to the Rust's, or nanoseconds.
+#[derive(Clone, Copy)]
+pub enum Goal { Ratio(f64), Nanoseconds(f64), None }
+
+/// One line of the table. The Rust's time is none where the Rust has no such call.
 pub struct Row {
     pub call: &'static str,
     pub size: usize,
-    pub rust: f64,
-    pub port: Option<f64>,
-    pub goal: f64,
+    pub rust: Option<f64>,
+    pub port: f64,
+    pub goal: Goal,
+}
+
+impl Row {
+    fn line(&self) -> String {
+        let ratio = self.rust.map(|r| self.port / r);
+        let (goal, met) = match self.goal {
+            Goal::Ratio(g) => (format!("{g:.2}"), ratio.is_some_and(|r| r <= g)),
+            Goal::Nanoseconds(g) => (format!("{g:.0} ns"), self.port <= g),
+            Goal::None => ("-".into(), true),
+        };
+        let shown = |n: Option<f64>, digits: usize| n.map_or("-".into(), |n| format!("{n:.digits$}"));
+        let missed = if met { "" } else { " (missed)" };
+        format!("| {} | {} | {} | {:.1} | {}{missed} | {goal} |", self.call, self.size, shown(self.rust, 1), self.port, shown(ratio, 2))
+    }
 }
 
 pub fn bench() {
     println!("| Call | Nodes | Rust, ns | Port, ns | Ratio | Goal |");
     println!("|---|---|---|---|---|---|");
-    for row in numbers::rows().into_iter().chain(cells::rows()) {
-        let (port, ratio) = match row.port {
-            Some(p) => (format!("{p:.1}"), format!("{:.2}{}", p / row.rust, if p / row.rust > row.goal { " (missed)" } else { "" })),
-            None => ("-".into(), "-".into()),
-        };
-        println!("| {} | {} | {:.1} | {port} | {ratio} | {:.2} |", row.call, row.size, row.rust, row.goal);
-    }
+    for row in numbers::rows().into_iter().chain(cells::rows()) { println!("{}", row.line()); }
     println!();
     println!("Nanoseconds a node, or a call for steps, grid and lengths; the fastest of {TURNS} turns, each side in turn. Inputs are made once.");
     println!("Steps, grid and lengths are called on both sides through a function pointer, one call an input, so that neither is inlined.");
+    println!("A walk's link: a walk over all nodes of a renumbered cell, each once, in random order; the Rust has no walks.");
     println!("The Rust's memory is its own, allocated in the call as it does; the port's is lent, not cleared first, and has been used before.");
 }
 

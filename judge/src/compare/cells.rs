@@ -1,8 +1,9 @@
 //! Renumbering, writing, write-then-read and lookups on one cell.
-use super::{same, seen, walks, Verdict, MODEL, RUST};
+use super::{memory, same, seen, walks, Verdict, MODEL, RUST};
 use crate::inputs::rng::Rng;
 use crate::model::cell::Cell;
 use crate::model::{read, renumber, write};
+use crate::port::memory::Memory;
 use crate::rust;
 use crate::ynd::Ynd;
 
@@ -13,7 +14,37 @@ pub fn check(cell: &Cell, aux: u64) -> Verdict {
     renumbering(cell, &ynd)?;
     writing(cell, &ynd)?;
     lookups(cell, &ynd, &mut r)?;
-    walks::check(cell, &mut r)
+    let lent = memory::lent(&mut r, cell);
+    let memory = Memory::of(&mut r, cell, lent);
+    on_port(&memory, &mut r)?;
+    // The same with one list shorter than its count.
+    let list = r.below(5);
+    let count = memory.counts()[list];
+    if count > 0 && r.once_in(3) {
+        let mut short = memory.clone();
+        short.shorten(list, r.below(count));
+        on_port(&short, &mut r)?;
+    }
+    walks::check(cell, &memory, &mut r)
+}
+
+/// Every call of the port on one cell, from the same memory each time.
+pub fn on_port(memory: &Memory, r: &mut Rng) -> Verdict {
+    let n = memory.counts()[0].min(70_000);
+    let scratch = r.pick(&[65_536, 65_536, 65_536, 65_537, 65_535, 0]);
+    let places = r.pick(&[n, n, n, n + 3, n.saturating_sub(1)]);
+    memory::renumbering(memory, scratch, places, r)?;
+    let full = write::written(&memory.cell()).map_or(1_500, |b| b.len());
+    let length = r.pick(&[full, full, full + 3, full + 40, full - 1, 1_151, 0]);
+    memory::writing(memory, length, r)?;
+    if memory.lacking().is_none() && memory.without_holes() { memory::writing_then_reading(memory, r.pick(&[full, full + 3, full - 1]), r)?; }
+    memory::lookups(memory, r)?;
+    memory::soundness(memory, scratch)?;
+    for _ in 0..3 {
+        let choices = walks::choices(r);
+        memory::walking(memory, r.below(n + 1), &choices, r.pick(&[choices.len() + 1, choices.len() + 1, choices.len() + 4, choices.len(), 1, 0]), r)?;
+    }
+    Ok(())
 }
 
 fn renumbering(cell: &Cell, ynd: &Ynd) -> Verdict {

@@ -1,8 +1,8 @@
 //! The whole run: every family of inputs in turn.
 use super::numbers::{area, cell_for_position, file_name, grid_cell, lane_offset, length_between, metres, position, steps_of};
 use super::run::Run;
-use super::{cells, files, records, scripts};
-use crate::inputs::{self, floats, limits, names, rng::Rng, shrink};
+use super::{access, cells, files, records, scripts};
+use crate::inputs::{self, floats, limits, memories, names, rng::Rng, shrink};
 use crate::model::length;
 
 pub fn diff(seed: u64, seconds: f64, full: bool) {
@@ -13,7 +13,8 @@ pub fn diff(seed: u64, seconds: f64, full: bool) {
     run.list("cells around limits", &limits::cells(r), |c| cells::check(c, seed));
     run.list("scripts around limits", &limits::scripts(r), scripts::check);
     run.random("sections and records", seconds * 0.1, files::generate, records::check, shrink::smaller_file);
-    run.random("files", seconds * 0.4, files::generate, files::check, shrink::smaller_file);
+    run.random("files", seconds * 0.3, files::generate, files::check, shrink::smaller_file);
+    run.random("any memory", seconds * 0.1, memories::any, |(m, aux)| cells::on_port(m, &mut Rng::new(*aux)), |_| Vec::new());
     run.random("scripts", seconds * 0.25, inputs::scripts::script, scripts::check, inputs::scripts::smaller);
     println!("{} inputs compared, all agree", run.compared());
 }
@@ -26,6 +27,8 @@ fn numbers(run: &Run, seconds: f64) {
     run.sweep("lane offsets", 1 << 8, [1, 1], |i| lane_offset(i as u8));
     run.sweep("areas", 1 << 32, [65_537, 257], |i| area(i as u32));
     run.sweep("areas of 16 bits", 1 << 16, [1, 1], |i| area(i as u32));
+    run.sweep("accessors", 1 << 16, [1, 1], |i| access::check(i as u8, (i >> 8) as u8));
+    run.sweep("new ones", 1 << 16, [257, 1], |i| access::new_ones(i as u16, !i as u16));
     run.sweep("grid cells", 40 * 40, [1, 1], |i| grid_cell(i as u32 % 40, i as u32 / 40));
     run.sweep("names with a middle", names::middles(7), [7, 1], |i| file_name(names::with_middle(i).as_bytes()));
     run.sweep("names of parts", names::rows(5), [1, 1], |i| file_name(names::row(i).as_bytes()));

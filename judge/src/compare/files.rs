@@ -1,9 +1,12 @@
 //! Reading and counting, then every call on the cell that was read.
-use super::{cells, same, seen, Mismatch, Verdict, MODEL, RUST};
+use super::{cells, memory, same, seen, Mismatch, Verdict, MODEL, PORT, RUST};
 use crate::inputs::files::File;
 use crate::inputs::rng::Rng;
 use crate::inputs::{damage, files};
-use crate::model::{read, Refused};
+use crate::model::cell::Cell;
+use crate::model::{read, Answer, Refused};
+use crate::port;
+use crate::port::memory::Memory;
 use crate::rust;
 
 pub fn generate(r: &mut Rng) -> File {
@@ -27,6 +30,26 @@ pub fn check(f: &File) -> Verdict {
     }
     let counts = model.as_ref().map(|c| c.counts()).map_err(|e| *e);
     same("counting", MODEL, &counts, "document 01's count", &read::count(&f.system, &f.graphics))?;
+    same("counting", PORT, &port::cells::count(&f.system, &f.graphics), MODEL, &(counts, true))?;
+    reading(f, &model)?;
     if let Ok(cell) = &model { cells::check(cell, f.aux)?; }
     Ok(())
+}
+
+/// Reading into lists with room to spare, and into lists of which one may be too short.
+fn reading(f: &File, whole: &Answer<Cell>) -> Verdict {
+    let mut r = Rng::new(f.aux ^ 0x5EED);
+    let counts = whole.as_ref().map_or([3; 5], |c| c.counts());
+    let mut lent = counts.map(|n| n + r.below(3));
+    if r.once_in(3) { let i = r.below(5); lent[i] = r.pick(&[counts[i].saturating_sub(1), r.clone().below(counts[i] + 1)]); }
+    let before = Memory::rubbish(&mut r, lent);
+    let mut after = before.clone();
+    let port = after.read(&f.system, &f.graphics);
+    let model = read::read_into(&f.system, &f.graphics, lent);
+    if whole.is_ok() { seen::note(&model); }
+    same("reading's answer", PORT, &port, MODEL, &model.as_ref().map(|_| ()).map_err(|e| *e))?;
+    match model {
+        Ok(cell) => same("reading: every list", PORT, &after, MODEL, &before.with(&cell)),
+        Err(_) => memory::unchanged("refused reading", &before, &after),
+    }
 }

@@ -1,7 +1,9 @@
 //! Comparisons: each takes one input, asks every side and says where two answers differ.
+pub mod access;
 pub mod cells;
 pub mod diff;
 pub mod files;
+pub mod memory;
 pub mod numbers;
 pub mod records;
 pub mod run;

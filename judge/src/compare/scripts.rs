@@ -1,23 +1,65 @@
 //! Scripts of edits and calls, each on what the last one left.
-use super::{same, seen, Verdict, MODEL, RUST};
+use super::{memory, same, seen, Verdict, MODEL, PORT, RUST};
+use crate::inputs::rng::Rng;
 use crate::inputs::scripts::{Op, Script};
 use crate::model::cell::{one_nan, Cell, Junction, Node};
 use crate::model::{edit, read, refuse_if, renumber, walk, write, Answer};
+use crate::port::memory::Memory;
 use crate::rust;
 use crate::ynd::{Heightmap, Ynd};
 
 pub fn check(s: &Script) -> Verdict {
     let Ok(mut cell) = read::read_into(&s.file.system, &s.file.graphics, s.lent) else { return Ok(()) };
     let mut ynd = rust::read(&s.file.system, &s.file.graphics).unwrap_or_default();
+    let mut r = Rng::new(s.file.aux);
+    let mut memory = Memory::rubbish(&mut r, s.lent);
+    same("reading's answer", PORT, &memory.read(&s.file.system, &s.file.graphics), MODEL, &Ok(()))?;
     for op in &s.ops {
+        let before = memory.clone();
+        let port = on_port(&mut memory, op, &mut r)?;
         let answer = on_model(&mut cell, op, s.lent);
         seen::note(&answer);
         // What document 01 refuses here the Rust has no refusal for, or leaves as it was.
         if answer.is_ok() { on_rust(&mut ynd, op); }
         let what = format!("the cell after {op:?}, answered {answer:?}");
         same(&what, MODEL, &cell, RUST, &rust::cell_of(&ynd))?;
+        same(&format!("the answer of {op:?}"), PORT, &port, MODEL, &answer)?;
+        if answer.is_ok() { memory::holds(&what, &before, &memory, &cell)?; } else { memory::unchanged(&what, &before, &memory)?; }
     }
     Ok(())
+}
+
+/// The call on the port's memory. Renumbering, writing and walks are first compared by themselves, with all that is lent to them.
+fn on_port(m: &mut Memory, op: &Op, r: &mut Rng) -> Result<Answer<()>, super::Mismatch> {
+    Ok(match op {
+        Op::AddNode { area_id, position } => m.add_node(*area_id, *position),
+        Op::SetPosition { place, position } => m.set_position(*place, *position),
+        Op::AddLink { place, link } => m.add_link(*place, link),
+        Op::AddRef(x) => m.add_ref(x),
+        Op::AddJunction(j) => m.add_junction(j, r.u32()),
+        Op::PutNode { place, node } => m.put_node(*place, node, [r.u32(), r.u32()]),
+        Op::PutLink { place, index, link } => m.put_link(*place, *index, link),
+        Op::PutRef { place, r } => m.put_ref(*place, r),
+        Op::PutJunction { place, junction } => m.put_junction(*place, junction, r.u32()),
+        Op::PutValue { place, index, value } => m.put_height(*place, *index, *value),
+        Op::Renumber { scratch, places } => {
+            memory::renumbering(m, *scratch, *places, r)?;
+            let mut places = vec![0; *places];
+            memory::with_scratch(*scratch, |s| m.renumber(s, &mut places))
+        }
+        Op::Write { section } => {
+            memory::writing(m, *section, r)?;
+            m.write(&mut vec![0; *section]).map(|_| ())
+        }
+        Op::WriteRead { section } => {
+            memory::writing_then_reading(m, *section, r)?;
+            m.write_then_read(&mut vec![0; *section]).map(|_| ())
+        }
+        Op::Walk { start, choices, visited } => {
+            memory::walking(m, *start, choices, *visited, r)?;
+            m.walk(*start, choices, &mut vec![0; *visited]).0.map(|_| ())
+        }
+    })
 }
 
 pub fn on_model(cell: &mut Cell, op: &Op, lent: [usize; 5]) -> Answer<()> {
@@ -45,9 +87,9 @@ pub fn on_model(cell: &mut Cell, op: &Op, lent: [usize; 5]) -> Answer<()> {
         }
         Op::PutJunction { place, junction } => {
             refuse_if(place >= cell.junctions.len(), 13, 0)?;
-            let new = one_nan_junction(junction);
-            let j = &mut cell.junctions[place];
-            (j.position, j.min_z, j.max_z) = (new.position, new.min_z, new.max_z);
+            let values = cell.junctions[place].values.clone();
+            refuse_if(values.len() != junction.width as usize * junction.height as usize, 12, 0)?;
+            cell.junctions[place] = Junction { values, ..one_nan_junction(junction) };
             Ok(())
         }
         Op::PutValue { place, index, value } => {
@@ -81,9 +123,9 @@ fn on_rust(ynd: &mut Ynd, op: &Op) {
         Op::PutLink { place, index, link } => ynd.nodes[place].links[index] = rust::path_link(&link),
         Op::PutRef { place, r } => ynd.junction_refs[place] = rust::path_ref(&r),
         Op::PutJunction { place, junction } => {
-            let kept: Heightmap = std::mem::take(&mut ynd.junctions[place].heightmap);
+            let Heightmap { values, .. } = std::mem::take(&mut ynd.junctions[place].heightmap);
             ynd.junctions[place] = rust::path_junction(&junction);
-            ynd.junctions[place].heightmap = kept;
+            ynd.junctions[place].heightmap.values = values;
         }
         Op::PutValue { place, index, value } => ynd.junctions[place].heightmap.values[index] = value,
         Op::Renumber { .. } => ynd.recalculate_node_indices(),

@@ -3,6 +3,7 @@ pub mod damage;
 pub mod files;
 pub mod floats;
 pub mod limits;
+pub mod memories;
 pub mod names;
 pub mod rng;
 pub mod scripts;

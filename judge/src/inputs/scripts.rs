@@ -19,7 +19,7 @@ pub enum Op {
     PutNode { place: usize, node: Node },
     PutLink { place: usize, index: usize, link: Link },
     PutRef { place: usize, r: Ref },
-    /// Corner and heights; the heightmap stays.
+    /// All but the heightmap's values, which stay and must be width times height.
     PutJunction { place: usize, junction: Junction },
     PutValue { place: usize, index: usize, value: u8 },
     Renumber { scratch: usize, places: usize },
@@ -59,7 +59,7 @@ fn op(r: &mut Rng, cell: &Cell, sizes: [usize; 5]) -> Op {
         12 => Op::PutNode { place, node: node(r, cell) },
         13 => Op::PutLink { place, index: r.below(4), link: link(r, cell) },
         14 => Op::PutRef { place: r.below(sizes[4] + 2), r: junction_ref(r, cell) },
-        15 => Op::PutJunction { place: r.below(sizes[2] + 2), junction: junction(r) },
+        15 => Op::PutJunction { place: r.below(sizes[2] + 2), junction: turned(r, cell) },
         16 => Op::PutValue { place: r.below(sizes[2] + 2), index: r.below(10), value: r.u8() },
         17 | 18 => Op::Renumber { scratch: r.pick(&[65_536, 65_536, 65_536, 65_537, 65_535, 0]), places: r.below(2 * sizes[0] + 9) },
         19 => Op::Write { section: section(r) },
@@ -87,6 +87,15 @@ fn node(r: &mut Rng, cell: &Cell) -> Node {
     for f in &mut flags { *f = r.u8(); }
     if r.once_in(2) { flags[1] = r.pick(&[80, 112, 144]) + r.u8() % 8; }
     Node { area_id: area(r, cell), node_id: number(r, cell), street_name: r.u32(), position: floats::position(r), flags, links: Vec::new() }
+}
+
+/// A junction for one that is there: mostly of its size, width and height exchanged or not.
+fn turned(r: &mut Rng, cell: &Cell) -> Junction {
+    let j = junction(r);
+    if cell.junctions.is_empty() || r.once_in(4) { return j; }
+    let old = &cell.junctions[r.below(cell.junctions.len())];
+    let (width, height) = if r.once_in(2) { (old.height, old.width) } else { (old.width, old.height) };
+    Junction { width, height, ..j }
 }
 
 /// Now and then its values are one too few or too many.

@@ -50,7 +50,7 @@ pub fn write_then_read(cell: &mut Cell, section: &mut [u8], lent: [usize; 5]) ->
     Ok(out.len())
 }
 
-fn check(cell: &Cell) -> Answer<()> {
+pub fn check(cell: &Cell) -> Answer<()> {
     let mut links = 0;
     for (place, n) in cell.nodes.iter().enumerate() {
         refuse_if(n.links.len() > 31, 8, place)?;

@@ -92,6 +92,13 @@ impl Memory {
         answer(number, place, length)
     }
 
+    /// Write-then-read by its two parts.
+    pub fn write_then_read(&mut self, section: &mut [u8]) -> Answer<usize> {
+        let length = self.write(section)?;
+        self.read(&section[..length], &[])?;
+        Ok(length)
+    }
+
     pub fn node(&self, node_id: u16) -> Found<usize> {
         let (mut is, mut at, mut place) = (false, KEPT_PLACE, KEPT_PLACE);
         let number = unsafe { ynd_node(&self.ynd, self.nodes.as_ptr(), self.nodes.len(), node_id, &mut is, &mut at, &mut place) };

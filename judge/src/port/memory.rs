@@ -53,7 +53,7 @@ impl Memory {
     pub fn lent(&self) -> [usize; 5] { [self.nodes.len(), self.links.len(), self.junctions.len(), self.heights.len(), self.refs.len()] }
 
     /// The lists, cut to the counts.
-    fn held(&self) -> [usize; 5] {
+    pub fn held(&self) -> [usize; 5] {
         let (counts, lent) = (self.counts(), self.lent());
         [0, 1, 2, 3, 4].map(|i| counts[i].min(lent[i]))
     }
@@ -73,9 +73,8 @@ impl Memory {
         }
     }
 
-    /// What lies beyond the counts.
-    pub fn beyond(&self) -> Memory {
-        let [n, l, j, h, x] = self.held();
+    /// The entries from so many on.
+    pub fn beyond(&self, [n, l, j, h, x]: [usize; 5]) -> Memory {
         Memory {
             ynd: [0; 15],
             nodes: self.nodes[n..].to_vec(),
@@ -83,6 +82,23 @@ impl Memory {
             junctions: self.junctions[j..].to_vec(),
             heights: self.heights[h..].to_vec(),
             refs: self.refs[x..].to_vec(),
+        }
+    }
+
+    /// The lowest list that is shorter than its count.
+    pub fn lacking(&self) -> Option<usize> {
+        let (counts, lent) = (self.counts(), self.lent());
+        (0..5).find(|&i| lent[i] < counts[i])
+    }
+
+    /// A list cut to so many entries.
+    pub fn shorten(&mut self, list: usize, to: usize) {
+        match list {
+            0 => self.nodes.truncate(to),
+            1 => self.links.truncate(to),
+            2 => self.junctions.truncate(to),
+            3 => self.heights.truncate(to),
+            _ => self.refs.truncate(to),
         }
     }
 

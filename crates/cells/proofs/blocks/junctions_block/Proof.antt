@@ -13,31 +13,52 @@ use Rattle.cells.proofs.blocks.junctions_block.Statement.{statement}
 use Rattle.cells.proofs.blocks.junctions_block.Tie as tie
 
 gap-is : (c : tie.After-gap-for) → c .gap-for .result ≡ gapFor (c .before .before .before .args .at) (length (junctionsBlock (c .before .before .before .args .heights .now) (c .before .before .before .args .junctions .now)))
-gap-is c = c .gap-for .ensures ∙ ap (gapFor (c .before .before .before .args .at)) (sym (junctions-length (c .before .before .before .args .heights .now) (c .before .before .before .args .junctions .now)))
+gap-is c =
+    let begin = c .before .before .before in
+    c .gap-for .ensures ∙ ap (gapFor (begin .args .at)) (sym (junctions-length (begin .args .heights .now) (begin .args .junctions .now)))
 
 room : (c : tie.After-gap-for) → c .before .before .before .args .at + c .gap-for .result + length (junctionsBlock (c .before .before .before .args .heights .now) (c .before .before .before .args .junctions .now)) ≤ length (c .before .before .before .args .section .now)
-room c = omega (arith, c .before .before .before .pre .0, (gap-is c), padded-length (c .before .before .before .args .at) (junctionsBlock (c .before .before .before .args .heights .now) (c .before .before .before .args .junctions .now)))
+room c =
+    let begin = c .before .before .before in
+    omega (arith, begin .pre .0, gap-is c, padded-length (begin .args .at) (junctionsBlock (begin .args .heights .now) (begin .args .junctions .now)))
 
 zeros : (c : tie.After-put-zeros) → c .put-zeros .last .0 ≡ put (c .before .before .before .before .before .args .section .now) (c .before .before .before .before .before .args .at) (replicate (c .before .before .gap-for .result) 0)
-zeros c = put-inside (c .before .before .before .before .before .args .section .now) _ (replicate (c .before .before .gap-for .result) 0) _ (c .before .before .before .before .before .args .at) (c .put-zeros .ensures) refl (omega (arith, (room (c .before .before)), length-replicate {A = ℕ} (c .before .before .gap-for .result) 0))
+zeros c =
+    let after-gap-for = c .before .before in
+    let begin = after-gap-for .before .before .before in
+    put-inside (begin .args .section .now) _ (replicate (after-gap-for .gap-for .result) 0) _ (begin .args .at) (c .put-zeros .ensures) refl (omega (arith, room after-gap-for, length-replicate {A = ℕ} (after-gap-for .gap-for .result) 0))
 
 add-put-junctions : tie.Need-add-put-junctions
-add-put-junctions c = omega (arith, (room (c .before .before .before .before .before)))
+add-put-junctions c =
+    let after-gap-for = c .before .before .before .before .before in
+    omega (arith, room after-gap-for)
 
 put-junctions-requires : tie.Need-put-junctions-requires
-put-junctions-requires c κs = (omega (arith, (room (c .before .before .before .before .before)), junctions-length (c .before .before .before .before .before .before .before .before .args .heights .now) (c .before .before .before .before .before .before .before .before .args .junctions .now)), c .before .before .before .before .before .before .before .before .pre .1)
+put-junctions-requires c κs =
+    let after-gap-for = c .before .before .before .before .before in
+    let begin = after-gap-for .before .before .before in
+    (omega (arith, room after-gap-for, junctions-length (begin .args .heights .now) (begin .args .junctions .now)), begin .pre .1)
 
 add-result : tie.Need-add-result
-add-result c = omega (arith, (room (c .before .before .before .before .before .before .before .before)))
+add-result c =
+    let after-gap-for = c .before .before .before .before .before .before .before .before in
+    omega (arith, room after-gap-for)
 
 add-result-2 : tie.Need-add-result-2
-add-result-2 c = omega (arith, (room (c .before .before .before .before .before .before .before .before)), junctions-length (c .before .before .before .before .before .before .before .before .before .before .before .args .heights .now) (c .before .before .before .before .before .before .before .before .before .before .before .args .junctions .now))
+add-result-2 c =
+    let after-gap-for = c .before .before .before .before .before .before .before .before in
+    let begin = after-gap-for .before .before .before in
+    omega (arith, room after-gap-for, junctions-length (begin .args .heights .now) (begin .args .junctions .now))
 
 returns : tie.Need-returns
-returns c = (
-  omega (arith, (gap-is (c .before .before .before .before .before .before .before .before)), padded-length (c .before .before .before .before .before .before .before .before .before .before .before .args .at) (junctionsBlock (c .before .before .before .before .before .before .before .before .before .before .before .args .heights .now) (c .before .before .before .before .before .before .before .before .before .before .before .args .junctions .now)), junctions-length (c .before .before .before .before .before .before .before .before .before .before .before .args .heights .now) (c .before .before .before .before .before .before .before .before .before .before .before .args .junctions .now)),
-  padded-put (c .before .before .before .before .before .before .before .before .before .before .before .args .section .now) _ _ (c .before .before .before .before .before .before .before .before .before .before .before .args .at) (c .before .before .before .before .before .before .before .before .gap-for .result) (junctionsBlock (c .before .before .before .before .before .before .before .before .before .before .before .args .heights .now) (c .before .before .before .before .before .before .before .before .before .before .before .args .junctions .now)) (zeros (c .before .before .before .before .before .before)) (c .before .before .put-junctions .ensures) (gap-is (c .before .before .before .before .before .before .before .before)) (omega (arith, (room (c .before .before .before .before .before .before .before .before)))),
-)
+returns c =
+    let after-put-junctions = c .before .before in
+    let after-put-zeros = after-put-junctions .before .before .before .before in
+    let after-gap-for = after-put-zeros .before .before in
+    let begin = after-gap-for .before .before .before in (
+      omega (arith, gap-is after-gap-for, padded-length (begin .args .at) (junctionsBlock (begin .args .heights .now) (begin .args .junctions .now)), junctions-length (begin .args .heights .now) (begin .args .junctions .now)),
+      padded-put (begin .args .section .now) _ _ (begin .args .at) (after-gap-for .gap-for .result) (junctionsBlock (begin .args .heights .now) (begin .args .junctions .now)) (zeros after-put-zeros) (after-put-junctions .put-junctions .ensures) (gap-is after-gap-for) (omega (arith, room after-gap-for)),
+    )
 
 pub junctions-block-spec : {M : Type 1} → statement M
 junctions-block-spec =

@@ -13,31 +13,52 @@ use Rattle.cells.proofs.blocks.nodes_block.Statement.{statement}
 use Rattle.cells.proofs.blocks.nodes_block.Tie as tie
 
 gap-is : (c : tie.After-gap-for) → c .gap-for .result ≡ gapFor (c .before .before .args .at) (length (nodesBlock (c .before .before .args .links .now) (c .before .before .args .nodes .now)))
-gap-is c = c .gap-for .ensures ∙ ap (gapFor (c .before .before .args .at)) (sym (nodes-length (c .before .before .args .links .now) (c .before .before .args .nodes .now)))
+gap-is c =
+    let begin = c .before .before in
+    c .gap-for .ensures ∙ ap (gapFor (begin .args .at)) (sym (nodes-length (begin .args .links .now) (begin .args .nodes .now)))
 
 room : (c : tie.After-gap-for) → c .before .before .args .at + c .gap-for .result + length (nodesBlock (c .before .before .args .links .now) (c .before .before .args .nodes .now)) ≤ length (c .before .before .args .section .now)
-room c = omega (arith, c .before .before .pre .0, (gap-is c), padded-length (c .before .before .args .at) (nodesBlock (c .before .before .args .links .now) (c .before .before .args .nodes .now)))
+room c =
+    let begin = c .before .before in
+    omega (arith, begin .pre .0, gap-is c, padded-length (begin .args .at) (nodesBlock (begin .args .links .now) (begin .args .nodes .now)))
 
 zeros : (c : tie.After-put-zeros) → c .put-zeros .last .0 ≡ put (c .before .before .before .before .args .section .now) (c .before .before .before .before .args .at) (replicate (c .before .before .gap-for .result) 0)
-zeros c = put-inside (c .before .before .before .before .args .section .now) _ (replicate (c .before .before .gap-for .result) 0) _ (c .before .before .before .before .args .at) (c .put-zeros .ensures) refl (omega (arith, (room (c .before .before)), length-replicate {A = ℕ} (c .before .before .gap-for .result) 0))
+zeros c =
+    let after-gap-for = c .before .before in
+    let begin = after-gap-for .before .before in
+    put-inside (begin .args .section .now) _ (replicate (after-gap-for .gap-for .result) 0) _ (begin .args .at) (c .put-zeros .ensures) refl (omega (arith, room after-gap-for, length-replicate {A = ℕ} (after-gap-for .gap-for .result) 0))
 
 add-put-nodes : tie.Need-add-put-nodes
-add-put-nodes c = omega (arith, (room (c .before .before .before .before .before)))
+add-put-nodes c =
+    let after-gap-for = c .before .before .before .before .before in
+    omega (arith, room after-gap-for)
 
 put-nodes-requires : tie.Need-put-nodes-requires
-put-nodes-requires c κs = (omega (arith, (room (c .before .before .before .before .before)), nodes-length (c .before .before .before .before .before .before .before .args .links .now) (c .before .before .before .before .before .before .before .args .nodes .now)), c .before .before .before .before .before .before .before .pre .1)
+put-nodes-requires c κs =
+    let after-gap-for = c .before .before .before .before .before in
+    let begin = after-gap-for .before .before in
+    (omega (arith, room after-gap-for, nodes-length (begin .args .links .now) (begin .args .nodes .now)), begin .pre .1)
 
 add-result : tie.Need-add-result
-add-result c = omega (arith, (room (c .before .before .before .before .before .before .before .before)))
+add-result c =
+    let after-gap-for = c .before .before .before .before .before .before .before .before in
+    omega (arith, room after-gap-for)
 
 add-result-2 : tie.Need-add-result-2
-add-result-2 c = omega (arith, (room (c .before .before .before .before .before .before .before .before)), nodes-length (c .before .before .before .before .before .before .before .before .before .before .args .links .now) (c .before .before .before .before .before .before .before .before .before .before .args .nodes .now))
+add-result-2 c =
+    let after-gap-for = c .before .before .before .before .before .before .before .before in
+    let begin = after-gap-for .before .before in
+    omega (arith, room after-gap-for, nodes-length (begin .args .links .now) (begin .args .nodes .now))
 
 returns : tie.Need-returns
-returns c = (
-  omega (arith, (gap-is (c .before .before .before .before .before .before .before .before)), padded-length (c .before .before .before .before .before .before .before .before .before .before .args .at) (nodesBlock (c .before .before .before .before .before .before .before .before .before .before .args .links .now) (c .before .before .before .before .before .before .before .before .before .before .args .nodes .now)), nodes-length (c .before .before .before .before .before .before .before .before .before .before .args .links .now) (c .before .before .before .before .before .before .before .before .before .before .args .nodes .now)),
-  padded-put (c .before .before .before .before .before .before .before .before .before .before .args .section .now) _ _ (c .before .before .before .before .before .before .before .before .before .before .args .at) (c .before .before .before .before .before .before .before .before .gap-for .result) (nodesBlock (c .before .before .before .before .before .before .before .before .before .before .args .links .now) (c .before .before .before .before .before .before .before .before .before .before .args .nodes .now)) (zeros (c .before .before .before .before .before .before)) (c .before .before .put-nodes .ensures) (gap-is (c .before .before .before .before .before .before .before .before)) (omega (arith, (room (c .before .before .before .before .before .before .before .before)))),
-)
+returns c =
+    let after-put-nodes = c .before .before in
+    let after-put-zeros = after-put-nodes .before .before .before .before in
+    let after-gap-for = after-put-zeros .before .before in
+    let begin = after-gap-for .before .before in (
+      omega (arith, gap-is after-gap-for, padded-length (begin .args .at) (nodesBlock (begin .args .links .now) (begin .args .nodes .now)), nodes-length (begin .args .links .now) (begin .args .nodes .now)),
+      padded-put (begin .args .section .now) _ _ (begin .args .at) (after-gap-for .gap-for .result) (nodesBlock (begin .args .links .now) (begin .args .nodes .now)) (zeros after-put-zeros) (after-put-nodes .put-nodes .ensures) (gap-is after-gap-for) (omega (arith, room after-gap-for)),
+    )
 
 pub nodes-block-spec : {M : Type 1} → statement M
 nodes-block-spec =

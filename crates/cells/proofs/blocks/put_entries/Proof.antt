@@ -29,20 +29,26 @@ loop-holds c =
 
 loop-again : tie.Need-loop-again Inv-loop μ-loop
 loop-again c =
-    let l = c .before .before .before .before .before .before .before .before .loop in
-    let a = c .before .before .before .before .before .before .before .before .before .before .args in
-    let f = c .before .before .put-bytes in
+    let after-put-bytes = c .before .before in
+    let after-link-record = after-put-bytes .before .before .before in
+    let at-loop = after-link-record .before .before .before in
+    let begin = at-loop .before .before in
+    let l = at-loop .loop in
+    let a = begin .args in
+    let f = after-put-bytes .put-bytes in
     let size = link-length (fileLink (toLink (getD (a .links .now) (l .i) []))) in (
       omega arith,
       omega (arith, f .kept),
       joined-turn linkRecord (a .section .now) (l .section) _ (joined linkRecord (a .links .now)) (a .at) (a .at + 8 * l .i) (a .at + 8 * (l .i + 1)) (a .links .now) (l .i) [] (omega arith) (l .inv .2)
-          (put-inside (l .section) _ (linkRecord (getD (a .links .now) (l .i) [])) _ (a .at + 8 * l .i) (f .ensures) (c .before .before .before .before .before .link-record .ensures) (omega (arith, size))) (omega (arith, size)) (omega arith),
+          (put-inside (l .section) _ (linkRecord (getD (a .links .now) (l .i) [])) _ (a .at + 8 * l .i) (f .ensures) (after-link-record .link-record .ensures) (omega (arith, size))) (omega (arith, size)) (omega arith),
     )
 
 returns : tie.Need-returns Inv-loop μ-loop
 returns c =
-    let l = c .before .loop in
-    let a = c .before .before .before .args in
+    let at-loop = c .before in
+    let begin = at-loop .before .before in
+    let l = at-loop .loop in
+    let a = begin .args in
     joined-ended linkRecord (a .section .now) (l .section) (joined linkRecord (a .links .now)) (a .at) (a .at + 8 * l .i) (a .links .now) (l .i) (omega arith) (l .inv .2)
 
 pub put-entries-spec : {M : Type 1} → statement M

@@ -23,13 +23,19 @@ loop-holds : tie.Need-loop-holds Inv-loop μ-loop
 loop-holds c = (omega arith, search needs, c .before .before .pre, refl)
 
 put-values-of-requires : tie.Need-put-values-of-requires Inv-loop μ-loop
-put-values-of-requires c κs = omega (arith, joined-room (valuesIn (c .before .before .before .before .before .before .args .heights .now)) (c .before .before .before .before .before .before .args .junctions .now) (c .before .before .before .loop .i) [] (omega arith))
+put-values-of-requires c κs =
+    let at-loop = c .before .before .before in
+    let begin = at-loop .before .before .before in
+    omega (arith, joined-room (valuesIn (begin .args .heights .now)) (begin .args .junctions .now) (at-loop .loop .i) [] (omega arith))
 
 loop-again : tie.Need-loop-again Inv-loop μ-loop
 loop-again c =
-    let l = c .before .before .before .before .before .before .loop in
-    let a = c .before .before .before .before .before .before .before .before .before .args in
-    let f = c .before .before .put-values-of in
+    let after-put-values-of = c .before .before in
+    let at-loop = after-put-values-of .before .before .before .before in
+    let begin = at-loop .before .before .before in
+    let l = at-loop .loop in
+    let a = begin .args in
+    let f = after-put-values-of .put-values-of in
     let v = valuesIn (a .heights .now) in (
       omega arith,
       omega (arith, f .kept),
@@ -40,8 +46,10 @@ loop-again c =
 
 returns : tie.Need-returns Inv-loop μ-loop
 returns c =
-    let l = c .before .loop in
-    let a = c .before .before .before .before .args in
+    let at-loop = c .before in
+    let begin = at-loop .before .before .before in
+    let l = at-loop .loop in
+    let a = begin .args in
     let v = valuesIn (a .heights .now) in
     joined-ended v (a .section .now) (l .section) (joined v (a .junctions .now)) (a .at) (l .p) (a .junctions .now) (l .i) (omega arith) (l .inv .3)
 

@@ -28,25 +28,36 @@ abbrev μ-loop : tie.MeasureT-loop
 
 open-turn : (c : tie.In-loop Inv-loop μ-loop) → (c .before .loop .before ≤ 65535)
     × (accepted (checkJunctions (valuesWithin (length (c .before .before .before .before .args .heights .now))) (c .before .loop .i + 1) (c .before .loop .before + valuesWithin (length (c .before .before .before .before .args .heights .now)) (getD (c .before .before .before .before .args .junctions .now) (c .before .loop .i) [])) (drop (c .before .loop .i + 1) (c .before .before .before .before .args .junctions .now))) ≡ true)
-open-turn c = junctions-inside (valuesWithin (length (c .before .before .before .before .args .heights .now))) (c .before .before .before .before .args .junctions .now) (c .before .loop .i) (c .before .loop .before) (c .before .loop .i) (omega arith) (c .before .loop .inv .2)
+open-turn c =
+    let at-loop = c .before in
+    let begin = at-loop .before .before .before in
+    junctions-inside (valuesWithin (length (begin .args .heights .now))) (begin .args .junctions .now) (at-loop .loop .i) (at-loop .loop .before) (at-loop .loop .i) (omega arith) (at-loop .loop .inv .2)
 
 loop-holds : tie.Need-loop-holds Inv-loop μ-loop
 loop-holds c =
-    let a = c .before .before .args in
+    let begin = c .before .before in
+    let a = begin .args in
     let start : a .at + 12 * 0 ≡ a .at = omega arith in
-    (omega arith, search needs, c .before .before .pre .1, ap (λ (k : ℕ). put (a .section .now) k (junctionsBlock (a .heights .now) (a .junctions .now))) start)
+    (omega arith, search needs, begin .pre .1, ap (λ (k : ℕ). put (a .section .now) k (junctionsBlock (a .heights .now) (a .junctions .now))) start)
 
 cast-junction-record : tie.Need-cast-junction-record Inv-loop μ-loop
 cast-junction-record c = omega (arith, (open-turn (c .before)) .0)
 
 add-before : tie.Need-add-before Inv-loop μ-loop
-add-before c = omega (arith, (open-turn (c .before .before .before .before .before .before .before .before .before)) .0, c .values-within .ensures .1)
+add-before c =
+    let in-loop = c .before .before .before .before .before .before .before .before .before in
+    omega (arith, (open-turn in-loop) .0, c .values-within .ensures .1)
 
 loop-again : tie.Need-loop-again Inv-loop μ-loop
 loop-again c =
-    let l = c .before .before .before .before .before .before .before .before .before .before .loop in
-    let a = c .before .before .before .before .before .before .before .before .before .before .before .before .before .args in
-    let f = c .before .before .before .before .put-bytes in
+    let after-put-bytes = c .before .before .before .before in
+    let after-junction-record = after-put-bytes .before .before .before in
+    let in-loop = after-junction-record .before .before in
+    let at-loop = in-loop .before in
+    let begin = at-loop .before .before .before in
+    let l = at-loop .loop in
+    let a = begin .args in
+    let f = after-put-bytes .put-bytes in
     let js = a .junctions .now in
     let hs = a .heights .now in
     let e = c .values-within .ensures .0 in
@@ -55,16 +66,18 @@ loop-again c =
     let size = junction-length (fileJunction (l .before) (toJunction j)) in (
       omega arith,
       omega (arith, f .kept),
-      ap (λ (k : ℕ). accepted (checkJunctions (valuesWithin (length hs)) (l .i + 1) (l .before + k) (drop (l .i + 1) js))) e ∙ (open-turn (c .before .before .before .before .before .before .before .before .before)) .1,
+      ap (λ (k : ℕ). accepted (checkJunctions (valuesWithin (length hs)) (l .i + 1) (l .before + k) (drop (l .i + 1) js))) e ∙ (open-turn in-loop) .1,
       ap (λ (k : ℕ). put (f .last .0) (a .at + 12 * (l .i + 1)) (laid (valuesIn hs) junctionRecord (l .before + k) (drop (l .i + 1) js))) longer
           ∙ laid-turn (valuesIn hs) junctionRecord (a .section .now) (l .section) _ (junctionsBlock hs js) (a .at) (a .at + 12 * l .i) (a .at + 12 * (l .i + 1)) (l .before) js (l .i) [] (omega arith) (l .inv .3)
-          (put-inside (l .section) _ (junctionRecord (l .before) j) _ (a .at + 12 * l .i) (f .ensures) (c .before .before .before .before .before .before .before .junction-record .ensures) (omega (arith, size))) (omega (arith, size)) (omega arith),
+          (put-inside (l .section) _ (junctionRecord (l .before) j) _ (a .at + 12 * l .i) (f .ensures) (after-junction-record .junction-record .ensures) (omega (arith, size))) (omega (arith, size)) (omega arith),
     )
 
 returns : tie.Need-returns Inv-loop μ-loop
 returns c =
-    let l = c .before .loop in
-    let a = c .before .before .before .before .args in
+    let at-loop = c .before in
+    let begin = at-loop .before .before .before in
+    let l = at-loop .loop in
+    let a = begin .args in
     let js = a .junctions .now in
     let hs = a .heights .now in
     laid-ended (valuesIn hs) junctionRecord (a .section .now) (l .section) (junctionsBlock hs js) (a .at) (a .at + 12 * l .i) (l .before) js (l .i) (omega arith) (l .inv .3)

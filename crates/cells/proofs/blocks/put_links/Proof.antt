@@ -23,13 +23,19 @@ loop-holds : tie.Need-loop-holds Inv-loop μ-loop
 loop-holds c = (omega arith, search needs, c .before .pre, refl)
 
 put-links-of-requires : tie.Need-put-links-of-requires Inv-loop μ-loop
-put-links-of-requires c κs = omega (arith, joined-room (linksRecords (c .before .before .before .before .before .args .links .now)) (c .before .before .before .before .before .args .nodes .now) (c .before .before .before .loop .i) [] (omega arith))
+put-links-of-requires c κs =
+    let at-loop = c .before .before .before in
+    let begin = at-loop .before .before in
+    omega (arith, joined-room (linksRecords (begin .args .links .now)) (begin .args .nodes .now) (at-loop .loop .i) [] (omega arith))
 
 loop-again : tie.Need-loop-again Inv-loop μ-loop
 loop-again c =
-    let l = c .before .before .before .before .before .before .loop in
-    let a = c .before .before .before .before .before .before .before .before .args in
-    let f = c .before .before .put-links-of in
+    let after-put-links-of = c .before .before in
+    let at-loop = after-put-links-of .before .before .before .before in
+    let begin = at-loop .before .before in
+    let l = at-loop .loop in
+    let a = begin .args in
+    let f = after-put-links-of .put-links-of in
     let v = linksRecords (a .links .now) in (
       omega arith,
       omega (arith, f .kept),
@@ -40,8 +46,10 @@ loop-again c =
 
 returns : tie.Need-returns Inv-loop μ-loop
 returns c =
-    let l = c .before .loop in
-    let a = c .before .before .before .args in
+    let at-loop = c .before in
+    let begin = at-loop .before .before in
+    let l = at-loop .loop in
+    let a = begin .args in
     let v = linksRecords (a .links .now) in
     joined-ended v (a .section .now) (l .section) (joined v (a .nodes .now)) (a .at) (l .p) (a .nodes .now) (l .i) (omega arith) (l .inv .3)
 

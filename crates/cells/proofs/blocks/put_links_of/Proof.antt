@@ -13,15 +13,25 @@ use Rattle.cells.proofs.blocks.put_links_of.Statement.{statement}
 use Rattle.cells.proofs.blocks.put_links_of.Tie as tie
 
 there : (c : tie.Else1) → c .before .wide .result + c .before .before .links-within .result ≤ length (c .before .before .before .before .args .links .now)
-there c = links-inside (c .before .before .before .before .args .links .now) (c .before .before .before .before .args .t3) (c .before .before .links-within .result) (c .before .wide .result) (c .before .before .links-within .ensures) (c .before .wide .ensures) (c .if1 .left)
+there c =
+    let after-wide = c .before in
+    let after-links-within = after-wide .before in
+    let begin = after-links-within .before .before in
+    links-inside (begin .args .links .now) (begin .args .t3) (after-links-within .links-within .result) (after-wide .wide .result) (after-links-within .links-within .ensures) (after-wide .wide .ensures) (c .if1 .left)
 
 lent : (c : tie.Else1) → take (c .before .wide .result + c .before .before .links-within .result - c .before .wide .result) (drop (c .before .wide .result) (c .before .before .before .before .args .links .now)) ≡ linksIn (c .before .before .before .before .args .links .now) (c .before .before .before .before .args .t3)
-lent c = links-part (c .before .before .before .before .args .links .now) (c .before .before .before .before .args .t3) (c .before .before .links-within .result) (c .before .wide .result) (c .before .before .links-within .ensures) (c .before .wide .ensures)
+lent c =
+    let after-wide = c .before in
+    let after-links-within = after-wide .before in
+    let begin = after-links-within .before .before in
+    links-part (begin .args .links .now) (begin .args .t3) (after-links-within .links-within .result) (after-wide .wide .result) (after-links-within .links-within .ensures) (after-wide .wide .ensures)
 
 returns : tie.Need-returns
 returns c =
-    let a = c .before .before .before .before .args in
-    let none = empty (linksRecords (a .links .now) (a .t3)) (omega (arith, links-size (a .links .now) (a .t3), c .before .before .links-within .ensures)) in
+    let after-links-within = c .before .before in
+    let begin = after-links-within .before .before in
+    let a = begin .args in
+    let none = empty (linksRecords (a .links .now) (a .t3)) (omega (arith, links-size (a .links .now) (a .t3), after-links-within .links-within .ensures)) in
     (omega (arith, ap length none), sym (ap (put (a .section .now) (a .at)) none ∙ put-nil (a .section .now) (a .at)))
 
 add-put-entries : tie.Need-add-put-entries
@@ -34,18 +44,30 @@ part-put-entries-end : tie.Need-part-put-entries-end
 part-put-entries-end c = (there (c .before))
 
 put-entries-requires : tie.Need-put-entries-requires
-put-entries-requires c κs = omega (arith, ap length (lent (c .before .before)), link-count (c .before .before .before .before .before .before .args .links .now) (c .before .before .before .before .before .before .args .t3), links-size (c .before .before .before .before .before .before .args .links .now) (c .before .before .before .before .before .before .args .t3))
+put-entries-requires c κs =
+    let else1 = c .before .before in
+    let begin = else1 .before .before .before .before in
+    omega (arith, ap length (lent else1), link-count (begin .args .links .now) (begin .args .t3), links-size (begin .args .links .now) (begin .args .t3))
 
 mul-result : tie.Need-mul-result
-mul-result c = omega (arith, (there (c .before .before .before .before .before)))
+mul-result c =
+    let else1 = c .before .before .before .before .before in
+    omega (arith, there else1)
 
 add-result : tie.Need-add-result
-add-result c = omega (arith, links-size (c .before .before .before .before .before .before .before .before .before .args .links .now) (c .before .before .before .before .before .before .before .before .before .args .t3), c .before .before .before .before .before .before .before .links-within .ensures, c .before .before .before .before .before .before .before .before .before .pre)
+add-result c =
+    let after-links-within = c .before .before .before .before .before .before .before in
+    let begin = after-links-within .before .before in
+    omega (arith, links-size (begin .args .links .now) (begin .args .t3), after-links-within .links-within .ensures, begin .pre)
 
 returns-2 : tie.Need-returns-2
 returns-2 c =
-    let a = c .before .before .before .before .before .before .before .before .before .args in
-    (omega (arith, links-size (a .links .now) (a .t3), c .before .before .before .before .before .before .before .links-within .ensures), c .before .before .put-entries .ensures ∙ ap (λ (x : List (List ℕ)). put (a .section .now) (a .at) (joined linkRecord x)) (lent (c .before .before .before .before .before)))
+    let after-put-entries = c .before .before in
+    let else1 = after-put-entries .before .before .before in
+    let after-links-within = else1 .before .before in
+    let begin = after-links-within .before .before in
+    let a = begin .args in
+    (omega (arith, links-size (a .links .now) (a .t3), after-links-within .links-within .ensures), after-put-entries .put-entries .ensures ∙ ap (λ (x : List (List ℕ)). put (a .section .now) (a .at) (joined linkRecord x)) (lent else1))
 
 pub put-links-of-spec : {M : Type 1} → statement M
 put-links-of-spec =

@@ -29,7 +29,10 @@ abbrev μ-loop : tie.MeasureT-loop
 
 open-turn : (c : tie.In-loop Inv-loop μ-loop) → (linksWithin (length (c .before .before .before .args .links .now)) (getD (c .before .before .before .args .nodes .now) (c .before .loop .i) []) ≤ 31) × (c .before .loop .before ≤ 65535)
     × (accepted (checkNodes (linksWithin (length (c .before .before .before .args .links .now))) (c .before .loop .i + 1) (c .before .loop .before + linksWithin (length (c .before .before .before .args .links .now)) (getD (c .before .before .before .args .nodes .now) (c .before .loop .i) [])) (drop (c .before .loop .i + 1) (c .before .before .before .args .nodes .now))) ≡ true)
-open-turn c = nodes-inside (linksWithin (length (c .before .before .before .args .links .now))) (c .before .before .before .args .nodes .now) (c .before .loop .i) (c .before .loop .before) (c .before .loop .i) (omega arith) (c .before .loop .inv .2)
+open-turn c =
+    let at-loop = c .before in
+    let begin = at-loop .before .before in
+    nodes-inside (linksWithin (length (begin .args .links .now))) (begin .args .nodes .now) (at-loop .loop .i) (at-loop .loop .before) (at-loop .loop .i) (omega arith) (at-loop .loop .inv .2)
 
 loop-holds : tie.Need-loop-holds Inv-loop μ-loop
 loop-holds c =
@@ -41,38 +44,55 @@ cast-node-record : tie.Need-cast-node-record Inv-loop μ-loop
 cast-node-record c = omega (arith, (open-turn (c .before .before .before)) .1)
 
 cast-node-record-2 : tie.Need-cast-node-record-2 Inv-loop μ-loop
-cast-node-record-2 c = omega (arith, c .before .links-within .ensures, (open-turn (c .before .before .before)) .0)
+cast-node-record-2 c =
+    let after-links-within = c .before in
+    let in-loop = after-links-within .before .before in
+    omega (arith, after-links-within .links-within .ensures, (open-turn in-loop) .0)
 
 node-record-requires : tie.Need-node-record-requires Inv-loop μ-loop
-node-record-requires c κs = omega (arith, c .before .links-within .ensures, (open-turn (c .before .before .before)) .0)
+node-record-requires c κs =
+    let after-links-within = c .before in
+    let in-loop = after-links-within .before .before in
+    omega (arith, after-links-within .links-within .ensures, (open-turn in-loop) .0)
 
 add-before : tie.Need-add-before Inv-loop μ-loop
-add-before c = omega (arith, c .before .before .before .before .before .before .before .links-within .ensures, (open-turn (c .before .before .before .before .before .before .before .before .before)) .0, (open-turn (c .before .before .before .before .before .before .before .before .before)) .1)
+add-before c =
+    let after-links-within = c .before .before .before .before .before .before .before in
+    let in-loop = after-links-within .before .before in
+    omega (arith, after-links-within .links-within .ensures, (open-turn in-loop) .0, (open-turn in-loop) .1)
 
 loop-again : tie.Need-loop-again Inv-loop μ-loop
 loop-again c =
-    let l = c .before .before .before .before .before .before .before .before .before .before .loop in
-    let a = c .before .before .before .before .before .before .before .before .before .before .before .before .args in
-    let f = c .before .before .put-bytes in
+    let after-put-bytes = c .before .before in
+    let after-node-record = after-put-bytes .before .before .before in
+    let after-links-within = after-node-record .before .before in
+    let in-loop = after-links-within .before .before in
+    let at-loop = in-loop .before in
+    let begin = at-loop .before .before in
+    let l = at-loop .loop in
+    let a = begin .args in
+    let f = after-put-bytes .put-bytes in
     let ns = a .nodes .now in
     let ls = a .links .now in
-    let e = c .before .before .before .before .before .before .before .links-within .ensures in
+    let e = after-links-within .links-within .ensures in
     let n = getD ns (l .i) [] in
     let longer = e ∙ sym (link-count ls n) in
     let size = node-length (fileNode (l .before) (length (linksIn ls n)) (toNode n)) in (
       omega arith,
       omega (arith, f .kept),
-      ap (λ (k : ℕ). accepted (checkNodes (linksWithin (length ls)) (l .i + 1) (l .before + k) (drop (l .i + 1) ns))) e ∙ (open-turn (c .before .before .before .before .before .before .before .before .before)) .2,
+      ap (λ (k : ℕ). accepted (checkNodes (linksWithin (length ls)) (l .i + 1) (l .before + k) (drop (l .i + 1) ns))) e ∙ (open-turn in-loop) .2,
       ap (λ (k : ℕ). put (f .last .0) (a .at + 40 * (l .i + 1)) (laid (linksIn ls) (nodeRecord ls) (l .before + k) (drop (l .i + 1) ns))) longer
           ∙ laid-turn (linksIn ls) (nodeRecord ls) (a .section .now) (l .section) _ (nodesBlock ls ns) (a .at) (a .at + 40 * l .i) (a .at + 40 * (l .i + 1)) (l .before) ns (l .i) [] (omega arith) (l .inv .3)
-          (put-inside (l .section) _ (nodeRecord ls (l .before) n) _ (a .at + 40 * l .i) (f .ensures) (c .before .before .before .before .before .node-record .ensures ∙ ap (λ (k : ℕ). nodeBytes (fileNode (l .before) k (toNode n))) longer) (omega (arith, size)))
+          (put-inside (l .section) _ (nodeRecord ls (l .before) n) _ (a .at + 40 * l .i) (f .ensures) (after-node-record .node-record .ensures ∙ ap (λ (k : ℕ). nodeBytes (fileNode (l .before) k (toNode n))) longer) (omega (arith, size)))
           (omega (arith, size)) (omega arith),
     )
 
 returns : tie.Need-returns Inv-loop μ-loop
 returns c =
-    let l = c .before .loop in
-    let a = c .before .before .before .args in
+    let at-loop = c .before in
+    let begin = at-loop .before .before in
+    let l = at-loop .loop in
+    let a = begin .args in
     let ns = a .nodes .now in
     let ls = a .links .now in
     laid-ended (linksIn ls) (nodeRecord ls) (a .section .now) (l .section) (nodesBlock ls ns) (a .at) (a .at + 40 * l .i) (l .before) ns (l .i) (omega arith) (l .inv .3)

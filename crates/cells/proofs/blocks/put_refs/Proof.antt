@@ -28,20 +28,26 @@ loop-holds c =
 
 loop-again : tie.Need-loop-again Inv-loop μ-loop
 loop-again c =
-    let l = c .before .before .before .before .before .before .before .before .loop in
-    let a = c .before .before .before .before .before .before .before .before .before .before .args in
-    let f = c .before .before .put-bytes in
+    let after-put-bytes = c .before .before in
+    let after-ref-record = after-put-bytes .before .before .before in
+    let at-loop = after-ref-record .before .before .before in
+    let begin = at-loop .before .before in
+    let l = at-loop .loop in
+    let a = begin .args in
+    let f = after-put-bytes .put-bytes in
     let size = ref-length (toRef (getD (a .refs .now) (l .i) [])) in (
       omega arith,
       omega (arith, f .kept),
       joined-turn refRecord (a .section .now) (l .section) _ (joined refRecord (a .refs .now)) (a .at) (a .at + 8 * l .i) (a .at + 8 * (l .i + 1)) (a .refs .now) (l .i) [] (omega arith) (l .inv .2)
-          (put-inside (l .section) _ (refRecord (getD (a .refs .now) (l .i) [])) _ (a .at + 8 * l .i) (f .ensures) (c .before .before .before .before .before .ref-record .ensures) (omega (arith, size))) (omega (arith, size)) (omega arith),
+          (put-inside (l .section) _ (refRecord (getD (a .refs .now) (l .i) [])) _ (a .at + 8 * l .i) (f .ensures) (after-ref-record .ref-record .ensures) (omega (arith, size))) (omega (arith, size)) (omega arith),
     )
 
 returns : tie.Need-returns Inv-loop μ-loop
 returns c =
-    let l = c .before .loop in
-    let a = c .before .before .before .args in
+    let at-loop = c .before in
+    let begin = at-loop .before .before in
+    let l = at-loop .loop in
+    let a = begin .args in
     joined-ended refRecord (a .section .now) (l .section) (joined refRecord (a .refs .now)) (a .at) (a .at + 8 * l .i) (a .refs .now) (l .i) (omega arith) (l .inv .2)
 
 pub put-refs-spec : {M : Type 1} → statement M

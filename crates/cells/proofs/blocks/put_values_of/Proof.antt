@@ -12,15 +12,25 @@ use Rattle.cells.proofs.blocks.put_values_of.Statement.{statement}
 use Rattle.cells.proofs.blocks.put_values_of.Tie as tie
 
 there : (c : tie.Else1) → c .before .wide .result + c .before .before .values-within .result ≤ length (c .before .before .before .before .before .args .heights .now)
-there c = values-inside (c .before .before .before .before .before .args .heights .now) (c .before .before .before .before .before .args .t3) (c .before .before .values-within .result) (c .before .wide .result) (c .before .before .values-within .ensures .0) (c .before .wide .ensures) (c .if1 .left)
+there c =
+    let after-wide = c .before in
+    let after-values-within = after-wide .before in
+    let begin = after-values-within .before .before .before in
+    values-inside (begin .args .heights .now) (begin .args .t3) (after-values-within .values-within .result) (after-wide .wide .result) (after-values-within .values-within .ensures .0) (after-wide .wide .ensures) (c .if1 .left)
 
 lent : (c : tie.Else1) → take (c .before .wide .result + c .before .before .values-within .result - c .before .wide .result) (drop (c .before .wide .result) (c .before .before .before .before .before .args .heights .now)) ≡ valuesIn (c .before .before .before .before .before .args .heights .now) (c .before .before .before .before .before .args .t3)
-lent c = values-part (c .before .before .before .before .before .args .heights .now) (c .before .before .before .before .before .args .t3) (c .before .before .values-within .result) (c .before .wide .result) (c .before .before .values-within .ensures .0) (c .before .wide .ensures)
+lent c =
+    let after-wide = c .before in
+    let after-values-within = after-wide .before in
+    let begin = after-values-within .before .before .before in
+    values-part (begin .args .heights .now) (begin .args .t3) (after-values-within .values-within .result) (after-wide .wide .result) (after-values-within .values-within .ensures .0) (after-wide .wide .ensures)
 
 returns : tie.Need-returns
 returns c =
-    let a = c .before .before .before .before .before .args in
-    let none = empty (valuesIn (a .heights .now) (a .t3)) (value-count (a .heights .now) (a .t3) ∙ sym (c .before .before .values-within .ensures .0) ∙ c .if1 .taken) in
+    let after-values-within = c .before .before in
+    let begin = after-values-within .before .before .before in
+    let a = begin .args in
+    let none = empty (valuesIn (a .heights .now) (a .t3)) (value-count (a .heights .now) (a .t3) ∙ sym (after-values-within .values-within .ensures .0) ∙ c .if1 .taken) in
     (omega (arith, ap length none), sym (ap (put (a .section .now) (a .at)) none ∙ put-nil (a .section .now) (a .at)))
 
 add-put-bytes : tie.Need-add-put-bytes
@@ -30,13 +40,20 @@ part-put-bytes-end : tie.Need-part-put-bytes-end
 part-put-bytes-end c = (there (c .before))
 
 add-result : tie.Need-add-result
-add-result c = omega (arith, value-count (c .before .before .before .before .before .before .before .before .before .before .args .heights .now) (c .before .before .before .before .before .before .before .before .before .before .args .t3), c .before .before .before .before .before .before .before .values-within .ensures .0, c .before .before .before .before .before .before .before .before .before .before .pre)
+add-result c =
+    let after-values-within = c .before .before .before .before .before .before .before in
+    let begin = after-values-within .before .before .before in
+    omega (arith, value-count (begin .args .heights .now) (begin .args .t3), after-values-within .values-within .ensures .0, begin .pre)
 
 returns-2 : tie.Need-returns-2
 returns-2 c =
-    let a = c .before .before .before .before .before .before .before .before .before .before .args in (
-      omega (arith, value-count (a .heights .now) (a .t3), c .before .before .before .before .before .before .before .values-within .ensures .0),
-      put-inside (a .section .now) _ (valuesIn (a .heights .now) (a .t3)) _ (a .at) (c .before .before .put-bytes .ensures) (lent (c .before .before .before .before .before)) (c .before .before .before .before .before .before .before .before .before .before .pre),
+    let after-put-bytes = c .before .before in
+    let else1 = after-put-bytes .before .before .before in
+    let after-values-within = else1 .before .before in
+    let begin = after-values-within .before .before .before in
+    let a = begin .args in (
+      omega (arith, value-count (a .heights .now) (a .t3), after-values-within .values-within .ensures .0),
+      put-inside (a .section .now) _ (valuesIn (a .heights .now) (a .t3)) _ (a .at) (after-put-bytes .put-bytes .ensures) (lent else1) (begin .pre),
     )
 
 pub put-values-of-spec : {M : Type 1} → statement M

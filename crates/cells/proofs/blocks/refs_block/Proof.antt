@@ -13,31 +13,52 @@ use Rattle.cells.proofs.blocks.refs_block.Statement.{statement}
 use Rattle.cells.proofs.blocks.refs_block.Tie as tie
 
 gap-is : (c : tie.After-gap-for) → c .gap-for .result ≡ gapFor (c .before .before .args .at) (length (refsBlock (c .before .before .args .refs .now)))
-gap-is c = c .gap-for .ensures ∙ ap (gapFor (c .before .before .args .at)) (sym (refs-length (c .before .before .args .refs .now)))
+gap-is c =
+    let begin = c .before .before in
+    c .gap-for .ensures ∙ ap (gapFor (begin .args .at)) (sym (refs-length (begin .args .refs .now)))
 
 room : (c : tie.After-gap-for) → c .before .before .args .at + c .gap-for .result + length (refsBlock (c .before .before .args .refs .now)) ≤ length (c .before .before .args .section .now)
-room c = omega (arith, c .before .before .pre, (gap-is c), padded-length (c .before .before .args .at) (refsBlock (c .before .before .args .refs .now)))
+room c =
+    let begin = c .before .before in
+    omega (arith, begin .pre, gap-is c, padded-length (begin .args .at) (refsBlock (begin .args .refs .now)))
 
 zeros : (c : tie.After-put-zeros) → c .put-zeros .last .0 ≡ put (c .before .before .before .before .args .section .now) (c .before .before .before .before .args .at) (replicate (c .before .before .gap-for .result) 0)
-zeros c = put-inside (c .before .before .before .before .args .section .now) _ (replicate (c .before .before .gap-for .result) 0) _ (c .before .before .before .before .args .at) (c .put-zeros .ensures) refl (omega (arith, (room (c .before .before)), length-replicate {A = ℕ} (c .before .before .gap-for .result) 0))
+zeros c =
+    let after-gap-for = c .before .before in
+    let begin = after-gap-for .before .before in
+    put-inside (begin .args .section .now) _ (replicate (after-gap-for .gap-for .result) 0) _ (begin .args .at) (c .put-zeros .ensures) refl (omega (arith, room after-gap-for, length-replicate {A = ℕ} (after-gap-for .gap-for .result) 0))
 
 add-put-refs : tie.Need-add-put-refs
-add-put-refs c = omega (arith, (room (c .before .before .before .before .before)))
+add-put-refs c =
+    let after-gap-for = c .before .before .before .before .before in
+    omega (arith, room after-gap-for)
 
 put-refs-requires : tie.Need-put-refs-requires
-put-refs-requires c κs = omega (arith, (room (c .before .before .before .before .before)), refs-length (c .before .before .before .before .before .before .before .args .refs .now))
+put-refs-requires c κs =
+    let after-gap-for = c .before .before .before .before .before in
+    let begin = after-gap-for .before .before in
+    omega (arith, room after-gap-for, refs-length (begin .args .refs .now))
 
 add-result : tie.Need-add-result
-add-result c = omega (arith, (room (c .before .before .before .before .before .before .before .before)))
+add-result c =
+    let after-gap-for = c .before .before .before .before .before .before .before .before in
+    omega (arith, room after-gap-for)
 
 add-result-2 : tie.Need-add-result-2
-add-result-2 c = omega (arith, (room (c .before .before .before .before .before .before .before .before)), refs-length (c .before .before .before .before .before .before .before .before .before .before .args .refs .now))
+add-result-2 c =
+    let after-gap-for = c .before .before .before .before .before .before .before .before in
+    let begin = after-gap-for .before .before in
+    omega (arith, room after-gap-for, refs-length (begin .args .refs .now))
 
 returns : tie.Need-returns
-returns c = (
-  omega (arith, (gap-is (c .before .before .before .before .before .before .before .before)), padded-length (c .before .before .before .before .before .before .before .before .before .before .args .at) (refsBlock (c .before .before .before .before .before .before .before .before .before .before .args .refs .now)), refs-length (c .before .before .before .before .before .before .before .before .before .before .args .refs .now)),
-  padded-put (c .before .before .before .before .before .before .before .before .before .before .args .section .now) _ _ (c .before .before .before .before .before .before .before .before .before .before .args .at) (c .before .before .before .before .before .before .before .before .gap-for .result) (refsBlock (c .before .before .before .before .before .before .before .before .before .before .args .refs .now)) (zeros (c .before .before .before .before .before .before)) (c .before .before .put-refs .ensures) (gap-is (c .before .before .before .before .before .before .before .before)) (omega (arith, (room (c .before .before .before .before .before .before .before .before)))),
-)
+returns c =
+    let after-put-refs = c .before .before in
+    let after-put-zeros = after-put-refs .before .before .before .before in
+    let after-gap-for = after-put-zeros .before .before in
+    let begin = after-gap-for .before .before in (
+      omega (arith, gap-is after-gap-for, padded-length (begin .args .at) (refsBlock (begin .args .refs .now)), refs-length (begin .args .refs .now)),
+      padded-put (begin .args .section .now) _ _ (begin .args .at) (after-gap-for .gap-for .result) (refsBlock (begin .args .refs .now)) (zeros after-put-zeros) (after-put-refs .put-refs .ensures) (gap-is after-gap-for) (omega (arith, room after-gap-for)),
+    )
 
 pub refs-block-spec : {M : Type 1} → statement M
 refs-block-spec =

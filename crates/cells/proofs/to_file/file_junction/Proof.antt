@@ -9,13 +9,17 @@ use Rattle.cells.proofs.to_file.file_junction.Tie as tie
 returns : tie.Need-returns
 unfolding fileJunction
 returns c =
-    let j = c .before .before .before .before .before .args .j in
+    let after-steps-xy2 = c .before in
+    let after-steps-xy = after-steps-xy2 .before in
+    let after-steps-z = after-steps-xy .before in
+    let begin = after-steps-z .before .before in
+    let j = begin .args .j in
     λ i. record {
-      «max_z» = (toZ-ofZ w16 _ (record { sfits = c .before .before .before .steps-z .ok }) ∙ c .before .before .before .steps-z .ensures) i;
-      «position_x» = (toZ-ofZ w16 _ (record { sfits = c .before .before .steps-xy .ok }) ∙ c .before .before .steps-xy .ensures) i;
-      «position_y» = (toZ-ofZ w16 _ (record { sfits = c .before .steps-xy2 .ok }) ∙ c .before .steps-xy2 .ensures) i;
+      «max_z» = (toZ-ofZ w16 _ (record { sfits = after-steps-z .steps-z .ok }) ∙ after-steps-z .steps-z .ensures) i;
+      «position_x» = (toZ-ofZ w16 _ (record { sfits = after-steps-xy .steps-xy .ok }) ∙ after-steps-xy .steps-xy .ensures) i;
+      «position_y» = (toZ-ofZ w16 _ (record { sfits = after-steps-xy2 .steps-xy2 .ok }) ∙ after-steps-xy2 .steps-xy2 .ensures) i;
       «min_z» = (toZ-ofZ w16 _ (record { sfits = c .steps-z2 .ok }) ∙ c .steps-z2 .ensures) i;
-      «heightmap_ptr» = c .before .before .before .before .before .args .start;
+      «heightmap_ptr» = begin .args .start;
       «heightmap_dim_x» = j .width;
       «heightmap_dim_y» = j .height;
     }

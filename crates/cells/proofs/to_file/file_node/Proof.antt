@@ -12,8 +12,10 @@ use Rattle.cells.proofs.to_file.file_node.Tie as tie
 returns : tie.Need-returns
 unfolding fileNode
 returns c =
-    let n = c .before .before .before .before .args .n in
-    let q = c .before .before .quantise in
+    let after-quantise = c .before .before in
+    let begin = after-quantise .before .before in
+    let n = begin .args .n in
+    let q = after-quantise .quantise in
     let g = q .ok .1 .1 in
     λ i. record {
       unused0 = 0;
@@ -24,14 +26,14 @@ returns c =
       «node_id» = n .«node_id»;
       «street_name» = n .«street_name»;
       unused4 = 0;
-      «link_id» = c .before .before .before .before .args .start;
+      «link_id» = begin .args .start;
       «position_x» = (toZ-ofZ w16 (q .result .x) (sfits-of (g .0 .1)) ∙ ap (λ (r : Quantised). r .x) (q .ensures)) i;
       «position_y» = (toZ-ofZ w16 (q .result .y) (sfits-of (g .1 .0 .1)) ∙ ap (λ (r : Quantised). r .y) (q .ensures)) i;
       flags0 = n .flags0;
       flags1 = n .flags1;
       «position_z» = (toZ-ofZ w16 (q .result .z) (sfits-of (g .1 .1 .0 .1)) ∙ ap (λ (r : Quantised). r .z) (q .ensures)) i;
       flags2 = n .flags2;
-      «link_count_flags» = c .before .before .before .before .args .count * 8 + n .flags5 % 8;
+      «link_count_flags» = begin .args .count * 8 + n .flags5 % 8;
       flags3 = n .flags3;
       flags4 = n .flags4;
     }

@@ -6,7 +6,11 @@ use Rattle.cells.proofs.to_file.node_record.Statement.{statement}
 use Rattle.cells.proofs.to_file.node_record.Tie as tie
 
 returns : tie.Need-returns
-returns c = c .node-bytes .ensures ∙ ap nodeBytes (c .before .file-node .ensures ∙ ap (fileNode (c .before .before .before .args .start) (c .before .before .before .args .count)) (c .before .before .node-of .ensures))
+returns c =
+    let after-file-node = c .before in
+    let after-node-of = after-file-node .before in
+    let begin = after-node-of .before in
+    c .node-bytes .ensures ∙ ap nodeBytes (after-file-node .file-node .ensures ∙ ap (fileNode (begin .args .start) (begin .args .count)) (after-node-of .node-of .ensures))
 
 pub node-record-spec : {M : Type 1} → statement M
 node-record-spec =

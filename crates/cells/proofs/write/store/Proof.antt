@@ -25,14 +25,18 @@ told : (c : tie.Start) → Ready (c .args .nodes .now) (c .args .links .now) (c 
 told c = ready (c .args .nodes .now) (c .args .links .now) (c .args .junctions .now) (c .args .heights .now) (c .args .refs .now) (c .args .k) (c .pre .0)
 
 ends : (c : tie.After-places-for) → c .places-for .result .total ≡ length (written (cell (c .before .before .before)))
-ends c = ending (cell (c .before .before .before)) (c .before .before .before .args .k) (told (c .before .before .before)) (c .places-for .result) (c .places-for .ensures)
+ends c =
+    let begin = c .before .before .before in
+    ending (cell begin) (begin .args .k) (told begin) (c .places-for .result) (c .places-for .ensures)
 
 rooted : (c : tie.After-root-for) → c .root-for .result ≡ rootFor (cell (c .before .before .before .before .before)) (map length (blocks (cell (c .before .before .before .before .before))))
 unfolding rootFor
 rooted c =
-    let a = c .before .before .before .before .before .args in
-    let t = (told (c .before .before .before .before .before)) in
-    let e = placed (cell (c .before .before .before .before .before)) (a .k) t (c .before .before .places-for .result) (c .before .before .places-for .ensures) in
+    let after-places-for = c .before .before in
+    let begin = after-places-for .before .before .before in
+    let a = begin .args in
+    let t = (told begin) in
+    let e = placed (cell begin) (a .k) t (after-places-for .places-for .result) (after-places-for .places-for .ensures) in
     c .root-for .ensures
     ∙ (λ i. record {
       vft = a .ynd .vft;
@@ -52,24 +56,36 @@ rooted c =
     })
 
 places-for-requires : tie.Need-places-for-requires
-places-for-requires c κs = (omega (arith, (told (c .before .before)) .nodes-are, c .before .before .pre .1), omega (arith, (told (c .before .before)) .links-few), omega (arith, (told (c .before .before)) .junctions-are, c .before .before .pre .2), omega (arith, (told (c .before .before)) .heights-few), omega (arith, (told (c .before .before)) .refs-few))
+places-for-requires c κs =
+    let begin = c .before .before in
+    (omega (arith, (told begin) .nodes-are, begin .pre .1), omega (arith, (told begin) .links-few), omega (arith, (told begin) .junctions-are, begin .pre .2), omega (arith, (told begin) .heights-few), omega (arith, (told begin) .refs-few))
 
 returns : tie.Need-returns
 unfolding stored
-returns c = rw (lt-ltb (length (c .before .before .before .before .args .section .now)) (length (written (cell (c .before .before .before .before)))) (omega (arith, (ends (c .before)), c .if1 .taken)))
+returns c =
+    let after-places-for = c .before in
+    let begin = after-places-for .before .before .before in
+    rw (lt-ltb (length (begin .args .section .now)) (length (written (cell begin))) (omega (arith, ends after-places-for, c .if1 .taken)))
 
 root-for-requires : tie.Need-root-for-requires
-root-for-requires c κs = (omega (arith, (told (c .before .before .before .before)) .nodes-are, c .before .before .before .before .pre .1), omega (arith, (told (c .before .before .before .before)) .links-few), omega (arith, (told (c .before .before .before .before)) .junctions-are, c .before .before .before .before .pre .2), omega (arith, (told (c .before .before .before .before)) .heights-few), omega (arith, (told (c .before .before .before .before)) .refs-few))
+root-for-requires c κs =
+    let begin = c .before .before .before .before in
+    (omega (arith, (told begin) .nodes-are, begin .pre .1), omega (arith, (told begin) .links-few), omega (arith, (told begin) .junctions-are, begin .pre .2), omega (arith, (told begin) .heights-few), omega (arith, (told begin) .refs-few))
 
 mul-fill : tie.Need-mul-fill
-mul-fill c = omega (arith, (told (c .before .before .before .before .before .before .before)) .links-few)
+mul-fill c =
+    let begin = c .before .before .before .before .before .before .before in
+    omega (arith, (told begin) .links-few)
 
 fill-requires : tie.Need-fill-requires
 unfolding written
 fill-requires c κs =
-    let a = c .before .before .before .before .before .before .before .args in
-    let t = (told (c .before .before .before .before .before .before .before)) in (
-      omega (arith, (ends (c .before .before .before .before)), c .before .before .before .if1 .left, section-length (rootFor (cell (c .before .before .before .before .before .before .before)) (map length (blocks (cell (c .before .before .before .before .before .before .before))))) (blocks (cell (c .before .before .before .before .before .before .before))), lay-total headerSize (blocks (cell (c .before .before .before .before .before .before .before)))),
+    let else1 = c .before .before .before in
+    let after-places-for = else1 .before in
+    let begin = after-places-for .before .before .before in
+    let a = begin .args in
+    let t = (told begin) in (
+      omega (arith, ends after-places-for, else1 .if1 .left, section-length (rootFor (cell begin) (map length (blocks (cell begin)))) (blocks (cell begin)), lay-total headerSize (blocks (cell begin))),
       t .nodes-told,
       t .junctions-told,
       omega (arith, t .links-are, links-length (a .links .now) (a .nodes .now)),
@@ -79,11 +95,16 @@ fill-requires c κs =
 returns-2 : tie.Need-returns-2
 unfolding stored written
 returns-2 c =
-    let m = (cell (c .before .before .before .before .before .before .before .before .before .before)) in
-    let l = c .before .before .before .before .before .before .before .before .before .before .args .section .now in
-    let e = (ends (c .before .before .before .before .before .before .before)) in
-    let bytes = c .before .before .fill .ensures ∙ ap (λ (r : Root). put l 0 (sectionBytes r (blocks m))) (rooted (c .before .before .before .before .before)) ∙ put-start l (written m) in
-    (λ i. left (Wrote (e i)) (bytes i)) ∙ rw (le-ltb (length l) (length (written m)) (omega (arith, e, c .before .before .before .before .before .before .if1 .left)))
+    let after-fill = c .before .before in
+    let after-root-for = after-fill .before .before .before in
+    let else1 = after-root-for .before in
+    let after-places-for = else1 .before in
+    let begin = after-places-for .before .before .before in
+    let m = (cell begin) in
+    let l = begin .args .section .now in
+    let e = (ends after-places-for) in
+    let bytes = after-fill .fill .ensures ∙ ap (λ (r : Root). put l 0 (sectionBytes r (blocks m))) (rooted after-root-for) ∙ put-start l (written m) in
+    (λ i. left (Wrote (e i)) (bytes i)) ∙ rw (le-ltb (length l) (length (written m)) (omega (arith, e, else1 .if1 .left)))
 
 pub store-spec : {M : Type 1} → statement M
 store-spec =

@@ -10,17 +10,29 @@ use Rattle.cells.proofs.write.write.Statement.{statement}
 use Rattle.cells.proofs.write.write.Tie as tie
 
 write-held-requires : tie.Need-write-held-requires
-write-held-requires c κs = (omega (arith, length-take (c .before .before .before .before .before .before .before .before .before .before .least .result - 0) (drop 0 (c .before .before .before .before .before .before .before .before .before .before .before .before .before .before .args .nodes .now)), c .before .before .before .before .before .before .before .before .before .before .least .ensures .1), omega (arith, length-take (c .before .before .before .before .before .before .before .before .least3 .result - 0) (drop 0 (c .before .before .before .before .before .before .before .before .before .before .before .before .before .before .args .junctions .now)), c .before .before .before .before .before .before .before .before .least3 .ensures .1))
+write-held-requires c κs =
+    let after-least3 = c .before .before .before .before .before .before .before .before in
+    let after-least = after-least3 .before .before in
+    let begin = after-least .before .before .before .before in
+    (omega (arith, length-take (after-least .least .result - 0) (drop 0 (begin .args .nodes .now)), after-least .least .ensures .1), omega (arith, length-take (after-least3 .least3 .result - 0) (drop 0 (begin .args .junctions .now)), after-least3 .least3 .ensures .1))
 
 returns : tie.Need-returns
 unfolding writeCall held
 returns c =
-    let a = c .before .before .before .before .before .before .before .before .before .before .before .before .before .before .before .before .before .args in
+    let after-write-held = c .before .before in
+    let after-least5 = after-write-held .before .before .before .before .before .before .before in
+    let after-least4 = after-least5 .before in
+    let after-least3 = after-least4 .before in
+    let after-least2 = after-least3 .before in
+    let after-least = after-least2 .before in
+    let after-lacking = after-least .before in
+    let begin = after-lacking .before .before .before in
+    let a = begin .args in
     let y = a .ynd in
-    c .before .before .write-held .ensures
-    ∙ (λ i. writeHeld (memory y (front (a .nodes .now) (y .«node_count») (c .before .before .before .before .before .before .before .before .before .before .before .before .before .least .result) (c .before .before .before .before .before .before .before .before .before .before .before .before .before .least .ensures .0) i) (front (a .links .now) (y .«link_count») (c .before .before .before .before .before .before .before .before .before .before .before .before .least2 .result) (c .before .before .before .before .before .before .before .before .before .before .before .before .least2 .ensures .0) i)
-    (front (a .junctions .now) (y .«junction_count») (c .before .before .before .before .before .before .before .before .before .before .before .least3 .result) (c .before .before .before .before .before .before .before .before .before .before .before .least3 .ensures .0) i) (front (a .heights .now) (y .«heightmap_count») (c .before .before .before .before .before .before .before .before .before .before .least4 .result) (c .before .before .before .before .before .before .before .before .before .before .least4 .ensures .0) i)
-    (front (a .refs .now) (y .«ref_count») (c .before .before .before .before .before .before .before .before .before .least5 .result) (c .before .before .before .before .before .before .before .before .before .least5 .ensures .0) i)) (c .before .before .before .before .before .before .before .before .before .before .before .before .before .before .lacking .ensures i) (a .section .now))
+    after-write-held .write-held .ensures
+    ∙ (λ i. writeHeld (memory y (front (a .nodes .now) (y .«node_count») (after-least .least .result) (after-least .least .ensures .0) i) (front (a .links .now) (y .«link_count») (after-least2 .least2 .result) (after-least2 .least2 .ensures .0) i)
+    (front (a .junctions .now) (y .«junction_count») (after-least3 .least3 .result) (after-least3 .least3 .ensures .0) i) (front (a .heights .now) (y .«heightmap_count») (after-least4 .least4 .result) (after-least4 .least4 .ensures .0) i)
+    (front (a .refs .now) (y .«ref_count») (after-least5 .least5 .result) (after-least5 .least5 .ensures .0) i)) (after-lacking .lacking .ensures i) (a .section .now))
 
 pub write-spec : {M : Type 1} → statement M
 write-spec =

@@ -13,25 +13,40 @@ cell s = memory (s .args .ynd) (s .args .nodes .now) (s .args .links .now) (s .a
 
 returns : tie.Need-returns
 returns c =
-    let a = c .before .before .before .before .before .before .args in
-    let told = c .before .enum-told .given in
+    let after-enum-told = c .before in
+    let after-write-counts = after-enum-told .before .before in
+    let begin = after-write-counts .before .before .before in
+    let a = begin .args in
+    let told = after-enum-told .enum-told .given in
     ap (λ (w : Written). left w (a .section .now)) (c .not-written .ensures ∙ ap notWritten (told .1))
-    ∙ counts-refused (cell (c .before .before .before .before .before .before)) (a .lack) (a .section .now) (told .0 .0) (told .0 .1 .0) (sym (c .before .before .before .write-counts .ensures) ∙ told .1)
+    ∙ counts-refused (cell begin) (a .lack) (a .section .now) (told .0 .0) (told .0 .1 .0) (sym (after-write-counts .write-counts .ensures) ∙ told .1)
 
 returns-2 : tie.Need-returns-2
 returns-2 c =
-    let a = c .before .before .before .before .before .before .before .args in
-    let k = c .before .before .a .given in
-    list-refused (cell (c .before .before .before .before .before .before .before)) (a .lack) (a .section .now) (k .0 .0) (sym (c .before .before .before .before .write-counts .ensures) ∙ k .1) (c .if1 .taken)
+    let after-a = c .before .before in
+    let after-write-counts = after-a .before .before in
+    let begin = after-write-counts .before .before .before in
+    let a = begin .args in
+    let k = after-a .a .given in
+    list-refused (cell begin) (a .lack) (a .section .now) (k .0 .0) (sym (after-write-counts .write-counts .ensures) ∙ k .1) (c .if1 .taken)
 
 store-requires : tie.Need-store-requires
-store-requires c κs = (sym (c .before .before .before .before .before .write-counts .ensures) ∙ c .before .before .before .a .given .1, c .before .before .before .before .before .before .before .before .pre .0, c .before .before .before .before .before .before .before .before .pre .1)
+store-requires c κs =
+    let after-a = c .before .before .before in
+    let after-write-counts = after-a .before .before in
+    let begin = after-write-counts .before .before .before in
+    (sym (after-write-counts .write-counts .ensures) ∙ after-a .a .given .1, begin .pre .0, begin .pre .1)
 
 returns-3 : tie.Need-returns-3
 returns-3 c =
-    let a = c .before .before .before .before .before .before .before .before .before .before .before .args in
-    let k = c .before .before .before .before .before .before .a .given in
-    c .before .before .store .ensures ∙ goes-on (cell (c .before .before .before .before .before .before .before .before .before .before .before)) (a .lack) (a .section .now) (k .0 .0) (sym (c .before .before .before .before .before .before .before .before .write-counts .ensures) ∙ k .1) (c .before .before .before .before .if1 .left)
+    let after-store = c .before .before in
+    let else1 = after-store .before .before in
+    let after-a = else1 .before .before in
+    let after-write-counts = after-a .before .before in
+    let begin = after-write-counts .before .before .before in
+    let a = begin .args in
+    let k = after-a .a .given in
+    after-store .store .ensures ∙ goes-on (cell begin) (a .lack) (a .section .now) (k .0 .0) (sym (after-write-counts .write-counts .ensures) ∙ k .1) (else1 .if1 .left)
 
 pub write-held-spec : {M : Type 1} → statement M
 write-held-spec =

@@ -21,14 +21,18 @@ loop-holds c = (omega arith, omega arith, refl)
 
 returns : tie.Need-returns Inv-loop μ-loop
 returns c =
-    let a = c .before .before .before .args in
-    let l = c .before .before .loop in
+    let at-loop = c .before .before in
+    let begin = at-loop .before in
+    let a = begin .args in
+    let l = at-loop .loop in
     sym (junctions-10 (valuesWithin (a .pool)) (a .junctions .now) (l .i) (l .before) (l .i) (omega arith) (omega arith)) ∙ l .inv .2
 
 loop-again : tie.Need-loop-again Inv-loop μ-loop
 loop-again c =
-    let a = c .before .before .before .before .before .args in
-    let l = c .before .before .before .before .loop in
+    let at-loop = c .before .before .before .before in
+    let begin = at-loop .before in
+    let a = begin .args in
+    let l = at-loop .loop in
     let e = c .values-within .ensures .0 in (
       omega arith,
       omega (arith, c .values-within .ensures .1),
@@ -38,8 +42,10 @@ loop-again c =
 
 returns-2 : tie.Need-returns-2 Inv-loop μ-loop
 returns-2 c =
-    let a = c .before .before .args in
-    let l = c .before .loop in
+    let at-loop = c .before in
+    let begin = at-loop .before in
+    let a = begin .args in
+    let l = at-loop .loop in
     sym (junctions-end (valuesWithin (a .pool)) (a .junctions .now) (l .i) (l .before) (l .i) (omega arith)) ∙ l .inv .2
 
 pub check-junctions-spec : {M : Type 1} → statement M

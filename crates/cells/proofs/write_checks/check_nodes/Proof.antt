@@ -21,21 +21,30 @@ loop-holds c = (omega arith, omega arith, refl)
 
 returns : tie.Need-returns Inv-loop μ-loop
 returns c =
-    let a = c .before .before .before .before .before .args in
-    let l = c .before .before .before .before .loop in
-    sym (nodes-8 (linksWithin (a .pool)) (a .nodes .now) (l .i) (l .before) (l .i) (omega arith) (omega (arith, c .before .links-within .ensures))) ∙ l .inv .2
+    let after-links-within = c .before in
+    let at-loop = after-links-within .before .before .before in
+    let begin = at-loop .before in
+    let a = begin .args in
+    let l = at-loop .loop in
+    sym (nodes-8 (linksWithin (a .pool)) (a .nodes .now) (l .i) (l .before) (l .i) (omega arith) (omega (arith, after-links-within .links-within .ensures))) ∙ l .inv .2
 
 returns-2 : tie.Need-returns-2 Inv-loop μ-loop
 returns-2 c =
-    let a = c .before .before .before .before .before .before .args in
-    let l = c .before .before .before .before .before .loop in
-    sym (nodes-9 (linksWithin (a .pool)) (a .nodes .now) (l .i) (l .before) (l .i) (omega arith) (omega (arith, c .before .before .links-within .ensures)) (omega arith)) ∙ l .inv .2
+    let after-links-within = c .before .before in
+    let at-loop = after-links-within .before .before .before in
+    let begin = at-loop .before in
+    let a = begin .args in
+    let l = at-loop .loop in
+    sym (nodes-9 (linksWithin (a .pool)) (a .nodes .now) (l .i) (l .before) (l .i) (omega arith) (omega (arith, after-links-within .links-within .ensures)) (omega arith)) ∙ l .inv .2
 
 loop-again : tie.Need-loop-again Inv-loop μ-loop
 loop-again c =
-    let a = c .before .before .before .before .before .before .args in
-    let l = c .before .before .before .before .before .loop in
-    let e = c .before .before .links-within .ensures in (
+    let after-links-within = c .before .before in
+    let at-loop = after-links-within .before .before .before in
+    let begin = at-loop .before in
+    let a = begin .args in
+    let l = at-loop .loop in
+    let e = after-links-within .links-within .ensures in (
       omega arith,
       omega arith,
       ap (λ (k : ℕ). checkNodes (linksWithin (a .pool)) (l .i + 1) (l .before + k) (drop (l .i + 1) (a .nodes .now))) e
@@ -44,8 +53,10 @@ loop-again c =
 
 returns-3 : tie.Need-returns-3 Inv-loop μ-loop
 returns-3 c =
-    let a = c .before .before .args in
-    let l = c .before .loop in
+    let at-loop = c .before in
+    let begin = at-loop .before in
+    let a = begin .args in
+    let l = at-loop .loop in
     sym (nodes-end (linksWithin (a .pool)) (a .nodes .now) (l .i) (l .before) (l .i) (omega arith)) ∙ l .inv .2
 
 pub check-nodes-spec : {M : Type 1} → statement M

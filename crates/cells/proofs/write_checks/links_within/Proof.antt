@@ -7,7 +7,11 @@ use Rattle.cells.proofs.write_checks.links_within.Tie as tie
 
 returns : tie.Need-returns
 unfolding linksWithin
-returns c = c .cut .ensures ∙ (λ k. min (c .before .before .byte2 .ensures k) (c .before .before .before .args .pool - c .before .wide .ensures k))
+returns c =
+    let after-wide = c .before in
+    let after-byte2 = after-wide .before in
+    let begin = after-byte2 .before in
+    c .cut .ensures ∙ (λ k. min (after-byte2 .byte2 .ensures k) (begin .args .pool - after-wide .wide .ensures k))
 
 pub links-within-spec : {M : Type 1} → statement M
 links-within-spec =

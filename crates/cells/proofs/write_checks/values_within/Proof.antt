@@ -8,7 +8,11 @@ use Rattle.cells.proofs.write_checks.values_within.Tie as tie
 
 returns : tie.Need-returns
 unfolding valuesWithin
-returns c = (c .cut .ensures ∙ (λ k. min (c .before .area .ensures .0 k) (c .before .before .before .args .pool - c .before .before .wide .ensures k)), omega (arith, c .cut .ensures, c .before .area .ensures .1))
+returns c =
+    let after-area = c .before in
+    let after-wide = after-area .before in
+    let begin = after-wide .before in
+    (c .cut .ensures ∙ (λ k. min (after-area .area .ensures .0 k) (begin .args .pool - after-wide .wide .ensures k)), omega (arith, c .cut .ensures, after-area .area .ensures .1))
 
 pub values-within-spec : {M : Type 1} → statement M
 values-within-spec =

@@ -7,32 +7,50 @@ use Rattle.cells.proofs.write_checks.write_counts.Tie as tie
 
 returns : tie.Need-returns
 returns c =
-    let a = c .before .before .before .before .before .args in
-    let told = c .before .enum-told .given in
+    let after-enum-told = c .before in
+    let after-check-nodes = after-enum-told .before .before in
+    let begin = after-check-nodes .before .before in
+    let a = begin .args in
+    let told = after-enum-told .enum-told .given in
     c .refused .ensures ∙ ap handedOn (told .1)
-    ∙ nodes-refused (a .nodes .now) (a .links .now) (a .junctions .now) (a .heights .now) (a .refs .now) (told .0 .0) (told .0 .1 .0) (sym (c .before .before .before .check-nodes .ensures) ∙ told .1)
+    ∙ nodes-refused (a .nodes .now) (a .links .now) (a .junctions .now) (a .heights .now) (a .refs .now) (told .0 .0) (told .0 .1 .0) (sym (after-check-nodes .check-nodes .ensures) ∙ told .1)
 
 returns-2 : tie.Need-returns-2
 returns-2 c =
-    let a = c .before .before .before .before .before .before .before .before .before .args in
-    let l = c .before .before .before .before .before .a .given in
-    let told = c .before .enum-told2 .given in
+    let after-enum-told2 = c .before in
+    let after-check-junctions = after-enum-told2 .before .before in
+    let after-a = after-check-junctions .before .before in
+    let after-check-nodes = after-a .before .before in
+    let begin = after-check-nodes .before .before in
+    let a = begin .args in
+    let l = after-a .a .given in
+    let told = after-enum-told2 .enum-told2 .given in
     c .refused2 .ensures ∙ ap handedOn (told .1)
-    ∙ junctions-refused (a .nodes .now) (a .links .now) (a .junctions .now) (a .heights .now) (a .refs .now) (l .0 .0) (sym (c .before .before .before .before .before .before .before .check-nodes .ensures) ∙ l .1) (told .0 .0) (told .0 .1 .0) (sym (c .before .before .before .check-junctions .ensures) ∙ told .1)
+    ∙ junctions-refused (a .nodes .now) (a .links .now) (a .junctions .now) (a .heights .now) (a .refs .now) (l .0 .0) (sym (after-check-nodes .check-nodes .ensures) ∙ l .1) (told .0 .0) (told .0 .1 .0) (sym (after-check-junctions .check-junctions .ensures) ∙ told .1)
 
 returns-3 : tie.Need-returns-3
 returns-3 c =
-    let a = c .before .before .before .before .before .before .before .before .before .before .args in
-    let l = c .before .before .before .before .before .before .a .given in
-    let v = c .before .before .b .given in
-    refs-refused (a .nodes .now) (a .links .now) (a .junctions .now) (a .heights .now) (a .refs .now) (l .0 .0) (sym (c .before .before .before .before .before .before .before .before .check-nodes .ensures) ∙ l .1) (v .0 .0) (sym (c .before .before .before .before .check-junctions .ensures) ∙ v .1) (c .if1 .taken)
+    let after-b = c .before .before in
+    let after-check-junctions = after-b .before .before in
+    let after-a = after-check-junctions .before .before in
+    let after-check-nodes = after-a .before .before in
+    let begin = after-check-nodes .before .before in
+    let a = begin .args in
+    let l = after-a .a .given in
+    let v = after-b .b .given in
+    refs-refused (a .nodes .now) (a .links .now) (a .junctions .now) (a .heights .now) (a .refs .now) (l .0 .0) (sym (after-check-nodes .check-nodes .ensures) ∙ l .1) (v .0 .0) (sym (after-check-junctions .check-junctions .ensures) ∙ v .1) (c .if1 .taken)
 
 returns-4 : tie.Need-returns-4
 returns-4 c =
-    let a = c .before .before .before .before .before .before .before .before .before .before .args in
-    let l = c .before .before .before .before .before .before .a .given in
-    let v = c .before .before .b .given in
-    counted-all (a .nodes .now) (a .links .now) (a .junctions .now) (a .heights .now) (a .refs .now) (l .0 .0) (sym (c .before .before .before .before .before .before .before .before .check-nodes .ensures) ∙ l .1) (v .0 .0) (sym (c .before .before .before .before .check-junctions .ensures) ∙ v .1) (c .if1 .left)
+    let after-b = c .before .before in
+    let after-check-junctions = after-b .before .before in
+    let after-a = after-check-junctions .before .before in
+    let after-check-nodes = after-a .before .before in
+    let begin = after-check-nodes .before .before in
+    let a = begin .args in
+    let l = after-a .a .given in
+    let v = after-b .b .given in
+    counted-all (a .nodes .now) (a .links .now) (a .junctions .now) (a .heights .now) (a .refs .now) (l .0 .0) (sym (after-check-nodes .check-nodes .ensures) ∙ l .1) (v .0 .0) (sym (after-check-junctions .check-junctions .ensures) ∙ v .1) (c .if1 .left)
 
 pub write-counts-spec : {M : Type 1} → statement M
 write-counts-spec =

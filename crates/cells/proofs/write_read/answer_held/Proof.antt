@@ -20,37 +20,75 @@ counts : (c : tie.After-a) → writeCounts (c .before .before .before .before .a
 counts c = sym (c .before .before .write-counts .ensures) ∙ c .a .given .1
 
 told : (c : tie.After-a) → Ready (c .before .before .before .before .args .nodes .now) (c .before .before .before .before .args .links .now) (c .before .before .before .before .args .junctions .now) (c .before .before .before .before .args .heights .now) (c .before .before .before .before .args .refs .now) (c .a .given .0 .0)
-told c = ready (c .before .before .before .before .args .nodes .now) (c .before .before .before .before .args .links .now) (c .before .before .before .before .args .junctions .now) (c .before .before .before .before .args .heights .now) (c .before .before .before .before .args .refs .now) (c .a .given .0 .0) (counts c)
+told c =
+    let begin = c .before .before .before .before in
+    ready (begin .args .nodes .now) (begin .args .links .now) (begin .args .junctions .now) (begin .args .heights .now) (begin .args .refs .now) (c .a .given .0 .0) (counts c)
 
 ends : (c : tie.After-places-for) → c .places-for .result .total ≡ length (written (cell (c .before .before .before .before .before .before .before .before)))
-ends c = ending (cell (c .before .before .before .before .before .before .before .before)) (c .before .before .before .before .a .given .0 .0) (told (c .before .before .before .before)) (c .places-for .result) (c .places-for .ensures)
+ends c =
+    let after-a = c .before .before .before .before in
+    let begin = after-a .before .before .before .before in
+    ending (cell begin) (after-a .a .given .0 .0) (told after-a) (c .places-for .result) (c .places-for .ensures)
 
 returns : tie.Need-returns
 returns c =
-    let told = c .before .enum-told .given in
-    c .not-written .ensures ∙ ap notWritten (told .1) ∙ counts-first (cell (c .before .before .before .before .before)) (c .before .before .before .before .before .args .lent) (c .before .before .before .before .before .args .section) (told .0 .0) (told .0 .1 .0) (sym (c .before .before .before .write-counts .ensures) ∙ told .1)
+    let after-enum-told = c .before in
+    let after-write-counts = after-enum-told .before .before in
+    let begin = after-write-counts .before .before in
+    let told = after-enum-told .enum-told .given in
+    c .not-written .ensures ∙ ap notWritten (told .1) ∙ counts-first (cell begin) (begin .args .lent) (begin .args .section) (told .0 .0) (told .0 .1 .0) (sym (after-write-counts .write-counts .ensures) ∙ told .1)
 
 returns-2 : tie.Need-returns-2
-returns-2 c = lists-first (cell (c .before .before .before .before .before .before .before)) (c .before .before .before .before .before .before .before .args .lent) (c .before .before .before .before .before .before .before .args .section) (c .before .before .before .a .given .0 .0) (counts (c .before .before .before)) (c .before .lacking .result) (c .before .lacking .ensures) (c .if1 .taken)
+returns-2 c =
+    let after-lacking = c .before in
+    let after-a = after-lacking .before .before in
+    let begin = after-a .before .before .before .before in
+    lists-first (cell begin) (begin .args .lent) (begin .args .section) (after-a .a .given .0 .0) (counts after-a) (after-lacking .lacking .result) (after-lacking .lacking .ensures) (c .if1 .taken)
 
 places-for-requires : tie.Need-places-for-requires
-places-for-requires c κs = (omega (arith, (told (c .before .before .before)) .nodes-are, c .before .before .before .before .before .before .before .pre .0), omega (arith, (told (c .before .before .before)) .links-few), omega (arith, (told (c .before .before .before)) .junctions-are, c .before .before .before .before .before .before .before .pre .1), omega (arith, (told (c .before .before .before)) .heights-few), omega (arith, (told (c .before .before .before)) .refs-few))
+places-for-requires c κs =
+    let after-a = c .before .before .before in
+    let begin = after-a .before .before .before .before in
+    (omega (arith, (told after-a) .nodes-are, begin .pre .0), omega (arith, (told after-a) .links-few), omega (arith, (told after-a) .junctions-are, begin .pre .1), omega (arith, (told after-a) .heights-few), omega (arith, (told after-a) .refs-few))
 
 returns-3 : tie.Need-returns-3
-returns-3 c = room-first (cell (c .before .before .before .before .before .before .before .before .before)) (c .before .before .before .before .before .before .before .before .before .args .lent) (c .before .before .before .before .before .before .before .before .before .args .section) (c .before .before .before .before .before .a .given .0 .0) (counts (c .before .before .before .before .before)) (c .before .before .before .lacking .result) (c .before .before .before .lacking .ensures) (c .before .before .if1 .left) (omega (arith, (ends (c .before)), c .if2 .taken))
+returns-3 c =
+    let after-places-for = c .before in
+    let else1 = after-places-for .before in
+    let after-lacking = else1 .before in
+    let after-a = after-lacking .before .before in
+    let begin = after-a .before .before .before .before in
+    room-first (cell begin) (begin .args .lent) (begin .args .section) (after-a .a .given .0 .0) (counts after-a) (after-lacking .lacking .result) (after-lacking .lacking .ensures) (else1 .if1 .left) (omega (arith, ends after-places-for, c .if2 .taken))
 
 back-check-requires : tie.Need-back-check-requires
-back-check-requires c κs = ((told (c .before .before .before .before .before)) .junctions-are, (told (c .before .before .before .before .before)) .heights-are, (told (c .before .before .before .before .before)) .heights-few)
+back-check-requires c κs =
+    let after-a = c .before .before .before .before .before in
+    ((told after-a) .junctions-are, (told after-a) .heights-are, (told after-a) .heights-few)
 
 returns-4 : tie.Need-returns-4
 returns-4 c =
-    ap (λ (d : Answer). wroteIf d (c .before .before .before .before .before .places-for .result .total)) (sym (c .before .b .given .1))
-    ∙ back-last (cell (c .before .before .before .before .before .before .before .before .before .before .before .before .before)) (c .before .before .before .before .before .before .before .before .before .before .before .before .before .args .lent) (c .before .before .before .before .before .before .before .before .before .before .before .before .before .args .section) (c .before .before .before .before .before .before .before .before .before .a .given .0 .0) (counts (c .before .before .before .before .before .before .before .before .before)) (c .before .before .before .before .before .before .before .lacking .result) (c .before .before .before .before .before .before .before .lacking .ensures) (c .before .before .before .before .before .before .if1 .left) (omega (arith, (ends (c .before .before .before .before .before)), c .before .before .before .before .if2 .left)) (told (c .before .before .before .before .before .before .before .before .before)) (c .before .before .before .back-check .result) (c .before .before .before .before .before .places-for .result .total) (ends (c .before .before .before .before .before)) (c .before .before .before .back-check .ensures)
+    let after-b = c .before in
+    let after-back-check = after-b .before .before in
+    let else2 = after-back-check .before in
+    let after-places-for = else2 .before in
+    let else1 = after-places-for .before in
+    let after-lacking = else1 .before in
+    let after-a = after-lacking .before .before in
+    let begin = after-a .before .before .before .before in
+    ap (λ (d : Answer). wroteIf d (after-places-for .places-for .result .total)) (sym (after-b .b .given .1))
+    ∙ back-last (cell begin) (begin .args .lent) (begin .args .section) (after-a .a .given .0 .0) (counts after-a) (after-lacking .lacking .result) (after-lacking .lacking .ensures) (else1 .if1 .left) (omega (arith, ends after-places-for, else2 .if2 .left)) (told after-a) (after-back-check .back-check .result) (after-places-for .places-for .result .total) (ends after-places-for) (after-back-check .back-check .ensures)
 
 returns-5 : tie.Need-returns-5
 returns-5 c =
-    ap (λ (d : Answer). wroteIf d (c .before .before .before .before .places-for .result .total)) (sym (c .enum-told2 .given .1))
-    ∙ back-last (cell (c .before .before .before .before .before .before .before .before .before .before .before .before)) (c .before .before .before .before .before .before .before .before .before .before .before .before .args .lent) (c .before .before .before .before .before .before .before .before .before .before .before .before .args .section) (c .before .before .before .before .before .before .before .before .a .given .0 .0) (counts (c .before .before .before .before .before .before .before .before)) (c .before .before .before .before .before .before .lacking .result) (c .before .before .before .before .before .before .lacking .ensures) (c .before .before .before .before .before .if1 .left) (omega (arith, (ends (c .before .before .before .before)), c .before .before .before .if2 .left)) (told (c .before .before .before .before .before .before .before .before)) (c .before .before .back-check .result) (c .before .before .before .before .places-for .result .total) (ends (c .before .before .before .before)) (c .before .before .back-check .ensures)
+    let after-back-check = c .before .before in
+    let else2 = after-back-check .before in
+    let after-places-for = else2 .before in
+    let else1 = after-places-for .before in
+    let after-lacking = else1 .before in
+    let after-a = after-lacking .before .before in
+    let begin = after-a .before .before .before .before in
+    ap (λ (d : Answer). wroteIf d (after-places-for .places-for .result .total)) (sym (c .enum-told2 .given .1))
+    ∙ back-last (cell begin) (begin .args .lent) (begin .args .section) (after-a .a .given .0 .0) (counts after-a) (after-lacking .lacking .result) (after-lacking .lacking .ensures) (else1 .if1 .left) (omega (arith, ends after-places-for, else2 .if2 .left)) (told after-a) (after-back-check .back-check .result) (after-places-for .places-for .result .total) (ends after-places-for) (after-back-check .back-check .ensures)
 
 pub answer-held-spec : {M : Type 1} → statement M
 answer-held-spec =

@@ -37,41 +37,60 @@ loop-holds c =
     (omega arith, refl, refl, omega arith, scan-start 5 (lacks (a .heights .now) (a .junctions .now)) (length (a .junctions .now)))
 
 add-if1 : tie.Need-add-if1 Inv-loop μ-loop
-add-if1 c = omega (arith, c .before .before .before .loop .inv .1, joined-front (valuesIn (c .before .before .before .before .before .args .heights .now)) (c .before .before .before .before .before .args .junctions .now) (c .before .before .before .loop .i), c .before .before .before .before .before .pre .1, c .before .before .before .before .before .pre .2, c .area .ensures .1)
+add-if1 c =
+    let at-loop = c .before .before .before in
+    let begin = at-loop .before .before in
+    omega (arith, at-loop .loop .inv .1, joined-front (valuesIn (begin .args .heights .now)) (begin .args .junctions .now) (at-loop .loop .i), begin .pre .1, begin .pre .2, c .area .ensures .1)
 
 returns : tie.Need-returns Inv-loop μ-loop
 returns c =
-    let a = c .before .before .before .before .before .before .args in
-    let l = c .before .before .before .before .loop in
+    let after-area = c .before in
+    let at-loop = after-area .before .before .before in
+    let begin = at-loop .before .before in
+    let a = begin .args in
+    let l = at-loop .loop in
     let js = a .junctions .now in
     let hs = a .heights .now in
-    let h : ltb (a .total) (l .before + c .before .area .result) ≡ lacks hs js (l .i) = λ k. ltb (c .before .before .before .before .before .before .pre .1 k) (l .inv .1 k + c .before .area .ensures .0 k) in
+    let h : ltb (a .total) (l .before + after-area .area .result) ≡ lacks hs js (l .i) = λ k. ltb (begin .pre .1 k) (l .inv .1 k + after-area .area .ensures .0 k) in
     sym (ap (λ (x : Answer). totalOf x (sumTo (areaAt js) (length js))) (l .inv .4 ∙ scan-hit 5 (lacks hs js) (l .i) (length js) (omega arith) (sym h ∙ lt-ltb _ _ (c .if1 .taken))))
 
 add-before : tie.Need-add-before Inv-loop μ-loop
-add-before c = omega (arith, c .before .before .before .before .before .before .loop .inv .1, joined-front (valuesIn (c .before .before .before .before .before .before .before .before .args .heights .now)) (c .before .before .before .before .before .before .before .before .args .junctions .now) (c .before .before .before .before .before .before .loop .i), c .before .before .before .before .before .before .before .before .pre .1, c .before .before .before .before .before .before .before .before .pre .2, c .values-within .ensures .1)
+add-before c =
+    let at-loop = c .before .before .before .before .before .before in
+    let begin = at-loop .before .before in
+    omega (arith, at-loop .loop .inv .1, joined-front (valuesIn (begin .args .heights .now)) (begin .args .junctions .now) (at-loop .loop .i), begin .pre .1, begin .pre .2, c .values-within .ensures .1)
 
 add-sum : tie.Need-add-sum Inv-loop μ-loop
-add-sum c = omega (arith, c .before .before .before .before .before .before .loop .inv .3, c .before .before .before .before .before .before .before .before .pre .0, c .before .before .before .area .ensures .1)
+add-sum c =
+    let after-area = c .before .before .before in
+    let at-loop = after-area .before .before .before in
+    let begin = at-loop .before .before in
+    omega (arith, at-loop .loop .inv .3, begin .pre .0, after-area .area .ensures .1)
 
 loop-again : tie.Need-loop-again Inv-loop μ-loop
 loop-again c =
-    let a = c .before .before .before .before .before .before .before .before .args in
-    let l = c .before .before .before .before .before .before .loop in
+    let else1 = c .before .before in
+    let after-area = else1 .before in
+    let at-loop = after-area .before .before .before in
+    let begin = at-loop .before .before in
+    let a = begin .args in
+    let l = at-loop .loop in
     let js = a .junctions .now in
     let hs = a .heights .now in
-    let h : ltb (a .total) (l .before + c .before .before .before .area .result) ≡ lacks hs js (l .i) = λ k. ltb (c .before .before .before .before .before .before .before .before .pre .1 k) (l .inv .1 k + c .before .before .before .area .ensures .0 k) in (
+    let h : ltb (a .total) (l .before + after-area .area .result) ≡ lacks hs js (l .i) = λ k. ltb (begin .pre .1 k) (l .inv .1 k + after-area .area .ensures .0 k) in (
       omega arith,
       omega (arith, l .inv .1, c .values-within .ensures .0, value-count hs (getD js (l .i) []), joined-next (valuesIn hs) js (l .i) [] (omega arith)),
-      omega (arith, l .inv .2, c .before .before .before .area .ensures .0, sum-next (areaAt js) (l .i)),
-      omega (arith, l .inv .3, c .before .before .before .area .ensures .1),
-      l .inv .4 ∙ scan-on 5 (lacks hs js) (l .i) (length js) (omega arith) (sym h ∙ le-ltb _ _ (c .before .before .if1 .left)),
+      omega (arith, l .inv .2, after-area .area .ensures .0, sum-next (areaAt js) (l .i)),
+      omega (arith, l .inv .3, after-area .area .ensures .1),
+      l .inv .4 ∙ scan-on 5 (lacks hs js) (l .i) (length js) (omega arith) (sym h ∙ le-ltb _ _ (else1 .if1 .left)),
     )
 
 returns-2 : tie.Need-returns-2 Inv-loop μ-loop
 returns-2 c =
-    let a = c .before .before .before .args in
-    let l = c .before .loop in
+    let at-loop = c .before in
+    let begin = at-loop .before .before in
+    let a = begin .args in
+    let l = at-loop .loop in
     let js = a .junctions .now in
     let hs = a .heights .now in
     let e : l .i ≡ length js = omega arith in

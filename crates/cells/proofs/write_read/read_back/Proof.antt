@@ -11,9 +11,11 @@ use Rattle.cells.proofs.write_read.read_back.Tie as tie
 
 returns : tie.Need-returns
 returns c =
-    let a = c .before .before .before .before .before .before .before .before .before .before .before .before .before .before .before .before .args in
+    let after-read = c .before .before .before .before .before .before in
+    let begin = after-read .before .before .before .before .before .before .before .before .before .before in
+    let a = begin .args in
     let all : a .n - 0 ≡ a .n = omega arith in
-    c .before .before .before .before .before .before .read .ensures ∙ (λ i. readOf (take (all i) (a .section .now)) [] (memory (a .ynd) (a .nodes .now) (a .links .now) (a .junctions .now) (a .heights .now) (a .refs .now)))
+    after-read .read .ensures ∙ (λ i. readOf (take (all i) (a .section .now)) [] (memory (a .ynd) (a .nodes .now) (a .links .now) (a .junctions .now) (a .heights .now) (a .refs .now)))
 
 pub read-back-spec : {M : Type 1} → statement M
 read-back-spec =

@@ -7,10 +7,16 @@ use Rattle.cells.proofs.write_read.write_and_reread.Statement.{statemen
 use Rattle.cells.proofs.write_read.write_and_reread.Tie as tie
 
 read-back-requires : tie.Need-read-back-requires
-read-back-requires c κs = omega (arith, c .before .before .before .before .before .before .before .before .before .before .before .before .before .before .before .before .before .pre, c .before .before .before .before .before .before .before .before .write .kept)
+read-back-requires c κs =
+    let after-write = c .before .before .before .before .before .before .before .before in
+    let begin = after-write .before .before .before .before .before .before .before .before .before in
+    omega (arith, begin .pre, after-write .write .kept)
 
 returns : tie.Need-returns
-returns c = (ap (λ (w : WriteLeft). w .section) (c .before .before .before .before .before .before .before .before .before .before .before .before .before .before .before .before .write .ensures), ap (λ (l : Left). l .memory) (c .before .before .before .before .before .before .before .read-back .ensures))
+returns c =
+    let after-read-back = c .before .before .before .before .before .before .before in
+    let after-write = after-read-back .before .before .before .before .before .before .before .before .before in
+    (ap (λ (w : WriteLeft). w .section) (after-write .write .ensures), ap (λ (l : Left). l .memory) (after-read-back .read-back .ensures))
 
 pub write-and-reread-spec : {M : Type 1} → statement M
 write-and-reread-spec =

@@ -15,23 +15,33 @@ abbrev cell : tie.Start → Memory
 cell s = memory (s .args .ynd) (s .args .nodes .now) (s .args .links .now) (s .args .junctions .now) (s .args .heights .now) (s .args .refs .now)
 
 fine : (c : tie.After-a) → Accepted (cell (c .before .before .before .before .before .before .before .before .before .before)) (c .before .before .before .before .before .before .before .before .before .before .args .section .now) (c .a .given .0 .0)
-fine c = accepted-back (cell (c .before .before .before .before .before .before .before .before .before .before)) (c .before .before .before .before .before .before .before .before .before .before .args .section .now) (c .a .given .0 .0) (sym (c .before .before .back-answer .ensures) ∙ c .a .given .1)
+fine c =
+    let after-back-answer = c .before .before in
+    let begin = after-back-answer .before .before .before .before .before .before .before .before in
+    accepted-back (cell begin) (begin .args .section .now) (c .a .given .0 .0) (sym (after-back-answer .back-answer .ensures) ∙ c .a .given .1)
 
 returns : tie.Need-returns
 returns c =
+    let after-back-answer = c .before .before in
+    let begin = after-back-answer .before .before .before .before .before .before .before .before in
     let told = c .enum-told .given in
-    ap (λ (w : Written). record { answer = w; memory = (cell (c .before .before .before .before .before .before .before .before .before .before)); section = c .before .before .before .before .before .before .before .before .before .before .args .section .now }) (told .1)
-    ∙ sym (refused-back (cell (c .before .before .before .before .before .before .before .before .before .before)) (c .before .before .before .before .before .before .before .before .before .before .args .section .now) (told .0 .0) (told .0 .1 .0) (sym (c .before .before .back-answer .ensures) ∙ told .1))
+    ap (λ (w : Written). record { answer = w; memory = (cell begin); section = begin .args .section .now }) (told .1)
+    ∙ sym (refused-back (cell begin) (begin .args .section .now) (told .0 .0) (told .0 .1 .0) (sym (after-back-answer .back-answer .ensures) ∙ told .1))
 
 write-and-reread-requires : tie.Need-write-and-reread-requires
-write-and-reread-requires c κs = (fine (c .before .before .before .before .before .before .before)) .room
+write-and-reread-requires c κs =
+    let after-a = c .before .before .before .before .before .before .before in
+    (fine after-a) .room
 
 returns-2 : tie.Need-returns-2
 returns-2 c =
-    let n = c .before .before .before .before .before .before .before .before .before .before .before .before .before .before .before .before .a .given .0 .0 in
-    let f = c .before .before .before .before .before .before .before .before .write-and-reread .ensures in
-    let kept = f .1 ∙ ap (λ (x : List ℕ). readOf (take n x) [] (cell (c .before .before .before .before .before .before .before .before .before .before .before .before .before .before .before .before .before .before .before .before .before .before .before .before .before .before)) .memory) (f .0) in
-    (λ i. record { answer = Wrote n; memory = kept i; section = f .0 i }) ∙ sym ((fine (c .before .before .before .before .before .before .before .before .before .before .before .before .before .before .before .before)) .is)
+    let after-write-and-reread = c .before .before .before .before .before .before .before .before in
+    let after-a = after-write-and-reread .before .before .before .before .before .before .before .before in
+    let begin = after-a .before .before .before .before .before .before .before .before .before .before in
+    let n = after-a .a .given .0 .0 in
+    let f = after-write-and-reread .write-and-reread .ensures in
+    let kept = f .1 ∙ ap (λ (x : List ℕ). readOf (take n x) [] (cell begin) .memory) (f .0) in
+    (λ i. record { answer = Wrote n; memory = kept i; section = f .0 i }) ∙ sym ((fine after-a) .is)
 
 pub write-then-read-spec : {M : Type 1} → statement M
 write-then-read-spec =

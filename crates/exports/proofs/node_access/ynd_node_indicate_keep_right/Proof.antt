@@ -1,0 +1,12 @@
+use mathlib.Core.Path.{ap, _∙_}
+use Rattle.cells.specs.declared.node.PathNode.{PathNode}
+use Rattle.cells.specs.Access.{hasBit}
+use borrow.Author.Needs.{needs}
+use Rattle.exports.proofs.node_access.ynd_node_indicate_keep_right.Statement.{statement}
+use Rattle.exports.proofs.node_access.ynd_node_indicate_keep_right.Tie as tie
+
+returns : tie.Need-returns
+returns c = c .indicate-keep-right .ensures ∙ ap (λ (n : PathNode). hasBit 2 (n .flags1)) (c .before .node-of .ensures)
+
+pub ynd-node-indicate-keep-right-spec : {M : Type 1} → statement M
+ynd-node-indicate-keep-right-spec = tie.close (tie.spec (λ c κs. search needs) (λ c κs. search needs) returns)
