@@ -5,7 +5,9 @@ use lib.ListN.{getD}
 use Rattle.cells.specs.declared.ynd.Ynd.{Ynd}
 use Rattle.cells.specs.Memory.{Memory, memory, Left}
 use Rattle.cells.specs.Renumber.{Renumbered}
+use Rattle.cells.specs.WriteRead.{Both}
 use Rattle.exports.specs.Answers.{answerNumber, answerPlace}
+use Rattle.exports.specs.Found.{writtenTold}
 
 -- fifteen words: vft, the counts of vehicle and ped nodes, the seven unknowns, the counts of nodes, links, junctions, heightmap values and refs
 unfoldable pub toYnd : List ℕ → Ynd
@@ -63,6 +65,12 @@ unfoldable pub callOf : Left → Called
 callOf l =
     called (answerNumber (l .answer)) (answerPlace (l .answer)) (yndWords (l .memory .ynd))
     (l .memory .nodes) (l .memory .links) (l .memory .junctions) (l .memory .heights) (l .memory .refs)
+
+-- the same of write-then-read, whose section and length stand beside it
+unfoldable pub bothCalled : Both → Called
+bothCalled b =
+    called (writtenTold (b .answer) 0 .number) (writtenTold (b .answer) 0 .place) (yndWords (b .memory .ynd))
+    (b .memory .nodes) (b .memory .links) (b .memory .junctions) (b .memory .heights) (b .memory .refs)
 
 -- the same of renumbering, whose list of new places stands beside it
 unfoldable pub renumberedOf : Renumbered → Called

@@ -27,6 +27,13 @@ use Rattle.walks.specs.declared.walk.End.{End}
 use Rattle.walks.specs.declared.walk.End.the-variants as end
 use Rattle.walks.specs.declared.walk.Walked.{Walked}
 use Rattle.walks.specs.declared.walk.Walked.the-variants as walked
+use Rattle.walks.specs.declared.shown.SeenNode.{SeenNode}
+use Rattle.walks.specs.declared.shown.ShownNode.{ShownNode}
+use Rattle.walks.specs.declared.shown.ShownNode.the-variants as shown-node
+use Rattle.walks.specs.declared.shown.ShownJunction.{ShownJunction}
+use Rattle.walks.specs.declared.shown.ShownJunction.the-variants as shown-junction
+use Rattle.walks.specs.declared.shown.ShownLink.{ShownLink}
+use Rattle.walks.specs.declared.shown.ShownLink.the-variants as shown-link
 use Rattle.walks.specs.declared.sound.Soundness.{Soundness}
 use Rattle.walks.specs.declared.sound.Soundness.the-variants as soundness
 
@@ -113,3 +120,35 @@ abbrev pub soundTold : Soundness → Bool → Told Bool
 soundTold soundness.Sound old = told 0 0 true
 soundTold soundness.Unsound old = told 0 0 false
 soundTold (soundness.Refused n p) old = told n p old
+
+abbrev pub isPlace : Place → ℕ
+isPlace (place.At i) = 1
+isPlace place.Nothing = 0
+isPlace (place.Refused n p) = 0
+
+abbrev pub placeOrZero : Place → ℕ
+placeOrZero (place.At i) = i
+placeOrZero place.Nothing = 0
+placeOrZero (place.Refused n p) = 0
+
+-- area, street, position bits, flags0 to flags5, link count, 1 if there is a junction and else 0, the junction's place
+abbrev pub seenWords : SeenNode → List ℕ
+seenWords n =
+    n .«area_id» ∷ n .«street_name» ∷ n .position .x ∷ n .position .y ∷ n .position .z
+    ∷ n .flags0 ∷ n .flags1 ∷ n .flags2 ∷ n .flags3 ∷ n .flags4 ∷ n .flags5
+    ∷ n .«link_count» ∷ isPlace (n .junction) ∷ placeOrZero (n .junction) ∷ []
+
+abbrev pub shownNodeTold : ShownNode → List ℕ → Told (List ℕ)
+shownNodeTold (shown-node.Node n) old = told 0 0 (seenWords n)
+shownNodeTold (shown-node.Refused n p) old = told n p old
+
+-- the bits of corner and heights, width, height
+abbrev pub shownJunctionTold : ShownJunction → List ℕ → Told (List ℕ)
+shownJunctionTold (shown-junction.Junction j) old = told 0 0 (j .x ∷ j .y ∷ j .«min_z» ∷ j .«max_z» ∷ j .width ∷ j .height ∷ [])
+shownJunctionTold (shown-junction.Refused n p) old = told n p old
+
+-- 1, three flags and length where there is such a link, else five zeros
+abbrev pub shownLinkTold : ShownLink → List ℕ → Told (List ℕ)
+shownLinkTold (shown-link.Link l) old = told 0 0 (1 ∷ l .flags0 ∷ l .flags1 ∷ l .flags2 ∷ l .length ∷ [])
+shownLinkTold shown-link.NoLink old = told 0 0 (0 ∷ 0 ∷ 0 ∷ 0 ∷ 0 ∷ [])
+shownLinkTold (shown-link.Refused n p) old = told n p old

@@ -14,6 +14,7 @@ pub mod node_access;
 pub mod reading;
 pub mod renumbering;
 pub mod sections;
+pub mod showing;
 pub mod steps;
 pub mod walking;
 mod words;

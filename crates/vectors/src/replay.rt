@@ -19,6 +19,9 @@ fn agrees(kind: u8, body: &[u8]) -> bool {
         6 => crate::grid::grid_cell(body),
         7 => crate::grid::area(body),
         8 => crate::steps::lane_offset(body),
+        9 => crate::files::file(body),
+        10 => crate::edits::links(body),
+        11 => crate::edits::junction(body),
         _ => false,
     }
 }

@@ -1,4 +1,5 @@
 // Sound cells and walks.
+pub mod again;
 pub mod shown;
 pub mod sound;
 pub mod walk;

@@ -37,10 +37,11 @@ pub fn on_port(memory: &Memory, r: &mut Rng) -> Verdict {
     let full = write::written(&memory.cell()).map_or(1_500, |b| b.len());
     let length = r.pick(&[full, full, full + 3, full + 40, full - 1, 1_151, 0]);
     memory::writing(memory, length, r)?;
-    if memory.lacking().is_none() && memory.without_holes() { memory::writing_then_reading(memory, r.pick(&[full, full + 3, full - 1]), r)?; }
+    memory::writing_then_reading(memory, r.pick(&[full, full + 3, full - 1]), r)?;
     memory::lookups(memory, r)?;
     memory::soundness(memory, scratch)?;
     for _ in 0..3 {
+        memory::showing(memory, &memory.cell(), r.below(n + 1), r.pick(&[0, 0, 1, 2, 31, 255]))?;
         let choices = walks::choices(r);
         memory::walking(memory, r.below(n + 1), &choices, r.pick(&[choices.len() + 1, choices.len() + 1, choices.len() + 4, choices.len(), 1, 0]), r)?;
     }

@@ -86,7 +86,8 @@ pub fn writing_then_reading(memory: &Memory, length: usize, r: &mut Rng) -> Verd
     let mut after = memory.clone();
     let port = after.write_then_read(&mut section);
     let mut cell = memory.cell();
-    let model = write::write_then_read(&mut cell, &mut expected, memory.lent());
+    let lacking = write::check(&cell).and_then(|_| match memory.lacking() { Some(list) => Err(Refused(7, list)), None => Ok(()) });
+    let model = lacking.and_then(|_| write::write_then_read(&mut cell, &mut expected, memory.lent()));
     seen::note(&model);
     same("write-then-read's answer", PORT, &port, MODEL, &model)?;
     same("the section after write-then-read", PORT, &section, MODEL, &expected)?;
@@ -164,4 +165,29 @@ pub fn soundness(memory: &Memory, scratch: usize) -> Verdict {
     });
     same("soundness", PORT, &port, MODEL, &model)?;
     same("the scratch after soundness", PORT, &stays, MODEL, &true)
+}
+
+/// What a walk shows at a place: of the node, of its junction, of the link that a byte chooses. Position bits are the words as they stand.
+pub fn showing(memory: &Memory, cell: &Cell, at: usize, choice: u8) -> Verdict {
+    let (counts, lent) = (memory.counts(), memory.lent());
+    let needed = |i: usize| refuse_if(lent[i] < counts[i], 7, i);
+    let there = |i: usize| refuse_if(at >= counts[i], 13, 0);
+    let node = there(0).and_then(|_| needed(0)).and_then(|_| needed(1)).and_then(|_| needed(2)).and_then(|_| needed(4)).map(|_| {
+        let n = &cell.nodes[at];
+        let junction = cell.junction_of(n.area_id, n.node_id);
+        let [x, y, z] = [2, 3, 4].map(|i| memory.nodes[at][i] as usize);
+        let [f0, f1, f2, f3, f4, f5] = n.flags.map(usize::from);
+        [n.area_id as usize, n.street_name as usize, x, y, z, f0, f1, f2, f3, f4, f5, n.links.len(), junction.is_some() as usize, junction.unwrap_or(0)]
+    });
+    same("what a walk shows of a node", PORT, &memory.shown_node(at), MODEL, &(node, true))?;
+    let junction = there(2).and_then(|_| needed(2)).map(|_| {
+        let (j, w) = (&cell.junctions[at], &memory.junctions[at]);
+        [w[0], w[1], w[2], w[3], j.width as u32, j.height as u32]
+    });
+    same("what a walk shows of a junction", PORT, &memory.shown_junction(at), MODEL, &(junction, true))?;
+    let link = there(0).and_then(|_| needed(0)).and_then(|_| needed(1)).map(|_| match cell.nodes[at].links.get(choice as usize) {
+        Some(l) => [1, l.flags[0], l.flags[1], l.flags[2], l.length],
+        None => [0; 5],
+    });
+    same("what a walk shows of a link", PORT, &memory.shown_link(at, choice), MODEL, &(link, true))
 }

@@ -95,6 +95,7 @@ fn shown(memory: &Memory, cell: &Cell, start: usize, choices: &[u8], visited: us
         Ok((end, count)) => {
             let places: Vec<usize> = places[..count].iter().map(|&p| p as usize).collect();
             same("a walk", PORT, &(end, &places), MODEL, &(all.end, &all.places))?;
+            for (k, &p) in places.iter().enumerate() { super::memory::showing(memory, cell, p, choices.get(k).copied().unwrap_or(0))?; }
             Ok(all)
         }
         Err(e) => Err(e),

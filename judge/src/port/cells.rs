@@ -23,6 +23,11 @@ extern "C" {
         heights: *const u8, height_count: usize, refs: *const [u16; 4], ref_count: usize, section: *mut u8, section_length: usize, length: &mut usize,
         place: &mut usize,
     ) -> u32;
+    fn ynd_write_then_read(
+        ynd: &mut Words, nodes: *mut [u32; 8], node_count: usize, links: *mut [u16; 4], link_count: usize, junctions: *mut [u32; 6], junction_count: usize,
+        heights: *mut u8, height_count: usize, refs: *mut [u16; 4], ref_count: usize, section: *mut u8, section_length: usize, length: &mut usize,
+        place: &mut usize,
+    ) -> u32;
     fn ynd_node(ynd: &Words, nodes: *const [u32; 8], node_count: usize, node_id: u16, found: &mut bool, at: &mut usize, place: &mut usize) -> u32;
     fn ynd_junction_of(
         ynd: &Words, nodes: *const [u32; 8], node_count: usize, refs: *const [u16; 4], ref_count: usize, area_id: u16, node_id: u16, found: &mut bool,
@@ -92,11 +97,18 @@ impl Memory {
         answer(number, place, length)
     }
 
-    /// Write-then-read by its two parts.
+    /// The length written.
     pub fn write_then_read(&mut self, section: &mut [u8]) -> Answer<usize> {
-        let length = self.write(section)?;
-        self.read(&section[..length], &[])?;
-        Ok(length)
+        let (mut length, mut place) = (KEPT_PLACE, KEPT_PLACE);
+        let [n, l, j, h, x] = self.lent();
+        let number = unsafe {
+            ynd_write_then_read(
+                &mut self.ynd, self.nodes.as_mut_ptr(), n, self.links.as_mut_ptr(), l, self.junctions.as_mut_ptr(), j, self.heights.as_mut_ptr(), h,
+                self.refs.as_mut_ptr(), x, section.as_mut_ptr(), section.len(), &mut length, &mut place,
+            )
+        };
+        if number != 0 && length != KEPT_PLACE { return Ok(length); }
+        answer(number, place, length)
     }
 
     pub fn node(&self, node_id: u16) -> Found<usize> {

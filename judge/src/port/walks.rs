@@ -11,6 +11,15 @@ extern "C" {
         ynd: &Words, nodes: *const [u32; 8], node_count: usize, links: *const [u16; 4], link_count: usize, start: usize, choices: *const u8,
         choice_count: usize, visited: *mut u32, visited_count: usize, end: &mut [u32; 3], count: &mut usize, place: &mut usize,
     ) -> u32;
+    fn ynd_shown_node(
+        ynd: &Words, nodes: *const [u32; 8], node_count: usize, links: *const [u16; 4], link_count: usize, junctions: *const [u32; 6], junction_count: usize,
+        refs: *const [u16; 4], ref_count: usize, at: usize, shown: &mut [usize; 14], place: &mut usize,
+    ) -> u32;
+    fn ynd_shown_junction(ynd: &Words, junctions: *const [u32; 6], junction_count: usize, at: usize, shown: &mut [u32; 6], place: &mut usize) -> u32;
+    fn ynd_shown_link(
+        ynd: &Words, nodes: *const [u32; 8], node_count: usize, links: *const [u16; 4], link_count: usize, at: usize, choice: u8, shown: &mut [u8; 5],
+        place: &mut usize,
+    ) -> u32;
     fn ynd_sound(
         ynd: &Words, nodes: *const [u32; 8], node_count: usize, links: *const [u16; 4], link_count: usize, refs: *const [u16; 4], ref_count: usize,
         scratch: *mut u32, scratch_count: usize, sound: &mut bool, place: &mut usize,
@@ -18,6 +27,36 @@ extern "C" {
 }
 
 impl Memory {
+    /// Area, street, position bits, flags0 to flags5, link count, 1 or 0 for a junction, its place.
+    pub fn shown_node(&self, at: usize) -> (Answer<[usize; 14]>, bool) {
+        let (mut shown, mut place) = ([KEPT_PLACE; 14], KEPT_PLACE);
+        let number = unsafe {
+            ynd_shown_node(
+                &self.ynd, self.nodes.as_ptr(), self.nodes.len(), self.links.as_ptr(), self.links.len(), self.junctions.as_ptr(), self.junctions.len(),
+                self.refs.as_ptr(), self.refs.len(), at, &mut shown, &mut place,
+            )
+        };
+        (answer(number, place, shown), number == 0 || shown == [KEPT_PLACE; 14])
+    }
+
+    /// The bits of corner and heights, width, height.
+    pub fn shown_junction(&self, at: usize) -> (Answer<[u32; 6]>, bool) {
+        let (mut shown, mut place) = ([KEPT; 6], KEPT_PLACE);
+        let number = unsafe { ynd_shown_junction(&self.ynd, self.junctions.as_ptr(), self.junctions.len(), at, &mut shown, &mut place) };
+        (answer(number, place, shown), number == 0 || shown == [KEPT; 6])
+    }
+
+    /// 1, three flags and length, or five zeros.
+    pub fn shown_link(&self, at: usize, choice: u8) -> (Answer<[u8; 5]>, bool) {
+        let (mut shown, mut place) = ([KEPT as u8; 5], KEPT_PLACE);
+        let number = unsafe {
+            ynd_shown_link(
+                &self.ynd, self.nodes.as_ptr(), self.nodes.len(), self.links.as_ptr(), self.links.len(), at, choice, &mut shown, &mut place,
+            )
+        };
+        (answer(number, place, shown), number == 0 || shown == [KEPT as u8; 5])
+    }
+
     /// How the walk ended, and how many places it visited; the second part says that a refusal left what was lent for them.
     pub fn walk(&self, start: usize, choices: &[u8], visited: &mut [u32]) -> (Answer<(End, usize)>, bool) {
         let (mut end, mut count, mut place) = ([KEPT; 3], KEPT_PLACE, KEPT_PLACE);

@@ -1,6 +1,7 @@
 //! Writes the vectors file: a sample of the Rust's answers, replayed by the program `vectors` where no Rust is at hand.
 //! A record is a kind (one byte), the length of what follows (two bytes), then the input and the answer. Numbers are
 //! little-endian. The file is the same each time it is made.
+mod cells;
 mod numbers;
 
 use std::fs;
@@ -25,12 +26,13 @@ impl Records {
     }
 }
 
-pub enum Field<'a> { U8(u8), I16(i16), U32(u32), Bytes(&'a [u8]) }
+pub enum Field<'a> { U8(u8), U16(u16), I16(i16), U32(u32), Bytes(&'a [u8]) }
 
 impl Field<'_> {
     fn put(&self, to: &mut Vec<u8>) {
         match self {
             Field::U8(n) => to.push(*n),
+            Field::U16(n) => to.extend(n.to_le_bytes()),
             Field::I16(n) => to.extend(n.to_le_bytes()),
             Field::U32(n) => to.extend(n.to_le_bytes()),
             Field::Bytes(b) => to.extend(*b),
@@ -42,6 +44,7 @@ impl Field<'_> {
 pub fn write(path: &str) {
     let mut records = Records::default();
     numbers::add(&mut records);
+    cells::add(&mut records);
     assert!(records.bytes.len() <= MOST, "{} bytes of vectors", records.bytes.len());
     fs::write(path, &records.bytes).expect("the vectors file");
     let said = format!("{} of {} vectors agree\n", records.count, records.count);

@@ -1,0 +1,34 @@
+use Rattle.walks.proofs.AgainLaws.{both-made}
+use borrow.Author.Needs.{needs}
+use Rattle.walks.proofs.again.both_walks.Statement.{statement}
+use Rattle.walks.proofs.again.both_walks.Tie as tie
+
+same-length-9 : tie.Need-same-length-9
+same-length-9 c = c .before .before .before .before .before .before .before .before .before .before .before .before .before .before .before .before .before .before .before .before .before .before .before .before .before .before .before .before .before .before .before .visited .given
+
+returns : tie.Need-returns
+returns c =
+    let w = c .before .before in
+    let p = w .before .before .before .before .before in
+    let n = p .before .before .before .before .before .before .before .before .before .before .before .before .before .before in
+    both-made _ _ _ _ _ _ _ _ _ _ _ _ (n .before .before .before .before .before .before .before .before .before .before .before .walk .ensures _ _ _) (n .renewed .ensures) (p .place-after .ensures) (w .walk2 .ensures _ _ _)
+
+pub both-walks-spec : {M : Type 1} → statement M
+both-walks-spec =
+    tie.close
+    (tie.spec
+    (λ c κs. search needs)
+    (λ c κs. search needs)
+    (λ c κs. search needs)
+    (λ c κs. search needs)
+    (λ c. search needs)
+    (λ c. search needs)
+    (λ c. search needs)
+    (λ c. search needs)
+    (λ c. search needs)
+    (λ c. search needs)
+    (λ c. search needs)
+    (λ c. search needs)
+    same-length-9
+    (λ c. search needs)
+    returns)

@@ -1,0 +1,25 @@
+use Rattle.walks.proofs.AgainLaws.{renewed-made}
+use borrow.Author.Needs.{needs}
+use Rattle.walks.proofs.again.renewed.Statement.{statement}
+use Rattle.walks.proofs.again.renewed.Tie as tie
+
+returns : tie.Need-returns
+returns c =
+    let w = c .before .before .before .before .before .before .before .before .before in
+    renewed-made _ _ _ _ _ _ (w .before .before .before .before .before .before .before .before .before .before .before .before .before .before .before .recalculate-node-indices .ensures) (w .write-then-read .ensures)
+
+pub renewed-spec : {M : Type 1} → statement M
+renewed-spec =
+    tie.close
+    (tie.spec
+    (λ c κs. search needs)
+    (λ c κs. search needs)
+    (λ c. search needs)
+    (λ c. search needs)
+    (λ c. search needs)
+    (λ c. search needs)
+    (λ c. search needs)
+    (λ c. search needs)
+    (λ c. search needs)
+    (λ c. search needs)
+    returns)
