@@ -15,5 +15,5 @@ pub mod CallLists
 pub mod Routes
 pub mod WalksAlike
 pub mod Demand
-pub mod AgainLaws
 pub mod Example
+pub mod StarredPairs

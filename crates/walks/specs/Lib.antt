@@ -8,4 +8,3 @@ pub mod Shown
 pub mod ShownParts
 pub mod Calls
 pub mod Claim
-pub mod Again

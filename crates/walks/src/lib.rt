@@ -1,5 +1,4 @@
 // Sound cells and walks.
-pub mod again;
 pub mod shown;
 pub mod sound;
 pub mod walk;

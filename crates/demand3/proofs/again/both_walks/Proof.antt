@@ -1,7 +1,7 @@
-use Rattle.walks.proofs.AgainLaws.{both-made}
+use Rattle.demand3.proofs.AgainLaws.{both-made}
 use borrow.Author.Needs.{needs}
-use Rattle.walks.proofs.again.both_walks.Statement.{statement}
-use Rattle.walks.proofs.again.both_walks.Tie as tie
+use Rattle.demand3.proofs.again.both_walks.Statement.{statement}
+use Rattle.demand3.proofs.again.both_walks.Tie as tie
 
 same-length-9 : tie.Need-same-length-9
 same-length-9 c = c .before .before .before .before .before .before .before .before .before .before .before .before .before .before .before .before .before .before .before .before .before .before .before .before .before .before .before .before .before .before .before .visited .given

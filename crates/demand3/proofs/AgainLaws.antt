@@ -20,19 +20,19 @@ use Rattle.cells.proofs.FileRead.{read-cell}
 use Rattle.cells.proofs.CellRenumbered.{places-tell}
 use Rattle.numbers.specs.declared.answer.Answer.{Answer}
 use Rattle.numbers.specs.declared.answer.Answer.the-variants as answer
 use Rattle.walks.specs.Sound.{sound}
 use Rattle.walks.specs.SoundCall.{SoundLeft, soundCall}
 use Rattle.walks.specs.WalkCall.{Route, route, WalkLeft, walkCall}
 use Rattle.walks.specs.Calls.{after, run, renumbers, moved}
-use Rattle.walks.specs.Again.{AgainLeft, RenewLeft, renew, placeAfter, bothWalks, stopped, ifSound, soundWalks, ifRead, walkAgain, calls, SamePlaces, SameWalks}
+use Rattle.demand3.specs.Again.{AgainLeft, RenewLeft, renew, placeAfter, bothWalks, stopped, ifSound, soundWalks, ifRead, walkAgain, calls, SamePlaces, SameWalks}
 use Rattle.walks.specs.declared.sound.Soundness.{Soundness}
 use Rattle.walks.specs.declared.sound.Soundness.the-variants as soundness
-use Rattle.walks.specs.declared.again.Walks.{Walks}
-use Rattle.walks.specs.declared.again.Walks.the-variants as walks
+use Rattle.demand3.specs.declared.again.Walks.{Walks}
+use Rattle.demand3.specs.declared.again.Walks.the-variants as walks
 use Rattle.walks.proofs.Routes.{moveRoute}
 use Rattle.walks.proofs.WalksAlike.{Lies, nodes-long, routeLeft, walk-left, read-lies}
 use Rattle.walks.proofs.Demand.{walks-unnoticed}
 use Rattle.walks.proofs.SoundCases.{says-yes}
 
 -- ---- one call after the other
 

@@ -1,8 +1,8 @@
 use mathlib.Core.Path.{_∙_}
-use Rattle.walks.proofs.AgainLaws.{not-read, was-read, told}
+use Rattle.demand3.proofs.AgainLaws.{not-read, was-read, told}
 use borrow.Author.Needs.{needs}
-use Rattle.walks.proofs.again.walk_again.Statement.{statement}
-use Rattle.walks.proofs.again.walk_again.Tie as tie
+use Rattle.demand3.proofs.again.walk_again.Statement.{statement}
+use Rattle.demand3.proofs.again.walk_again.Tie as tie
 
 returns : tie.Need-returns
 returns c =

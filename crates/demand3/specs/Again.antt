@@ -13,16 +13,16 @@ use Rattle.cells.specs.declared.ynd.Outcome.{Outcome}
 use Rattle.cells.specs.WriteRead.{writeReadOf}
 use Rattle.numbers.specs.declared.answer.Answer.{Answer}
 use Rattle.numbers.specs.declared.answer.Answer.the-variants as answer
 use Rattle.walks.specs.SoundCall.{soundCall}
 use Rattle.walks.specs.WalkCall.{walkCall}
 use Rattle.walks.specs.Calls.{Call, renumbering, write-read, moved}
 use Rattle.walks.specs.declared.sound.Soundness.{Soundness}
 use Rattle.walks.specs.declared.sound.Soundness.the-variants as soundness
 use Rattle.walks.specs.declared.walk.Walked.{Walked}
 use Rattle.walks.specs.declared.walk.Walked.the-variants as walked
-use Rattle.walks.specs.declared.again.Walks.{Walks}
-use Rattle.walks.specs.declared.again.Walks.the-variants.{Both, Unsound, Refused}
-use Rattle.walks.specs.declared.again.Again.{Again}
+use Rattle.demand3.specs.declared.again.Walks.{Walks}
+use Rattle.demand3.specs.declared.again.Walks.the-variants.{Both, Unsound, Refused}
+use Rattle.demand3.specs.declared.again.Again.{Again}
 
 -- what the call answers, and what it leaves of the cell's memory and of the lists lent. The scratch is free: renumbering leaves anything in it
 pub record AgainLeft : Type 0 where

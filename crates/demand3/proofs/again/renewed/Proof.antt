@@ -1,7 +1,7 @@
-use Rattle.walks.proofs.AgainLaws.{renewed-made}
+use Rattle.demand3.proofs.AgainLaws.{renewed-made}
 use borrow.Author.Needs.{needs}
-use Rattle.walks.proofs.again.renewed.Statement.{statement}
-use Rattle.walks.proofs.again.renewed.Tie as tie
+use Rattle.demand3.proofs.again.renewed.Statement.{statement}
+use Rattle.demand3.proofs.again.renewed.Tie as tie
 
 returns : tie.Need-returns
 returns c =

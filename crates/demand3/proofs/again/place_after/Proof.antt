@@ -3,10 +3,10 @@ use mathlib.Core.Path.{sym, ap, _∙_}
 use Prim.Native.Nat.{ℕ}
 use lib.ListN.{List·getD-eq-default}
 use Rattle.numbers.specs.declared.answer.Answer.{Answer}
-use Rattle.walks.specs.Again.{placeAfter}
+use Rattle.demand3.specs.Again.{placeAfter}
 use borrow.Author.Needs.{needs}
-use Rattle.walks.proofs.again.place_after.Statement.{statement}
-use Rattle.walks.proofs.again.place_after.Tie as tie
+use Rattle.demand3.proofs.again.place_after.Statement.{statement}
+use Rattle.demand3.proofs.again.place_after.Tie as tie
 
 cast-result : tie.Need-cast-result
 cast-result c = omega (arith, c .shared-slice-known .given (c .before .before .before .before .args .p))

@@ -1,8 +1,8 @@
 use mathlib.Core.Path.{_∙_}
-use Rattle.walks.proofs.AgainLaws.{not-sound, not-checked, no-start, walks-made}
+use Rattle.demand3.proofs.AgainLaws.{not-sound, not-checked, no-start, walks-made}
 use borrow.Author.Needs.{needs}
-use Rattle.walks.proofs.again.sound_walks.Statement.{statement}
-use Rattle.walks.proofs.again.sound_walks.Tie as tie
+use Rattle.demand3.proofs.again.sound_walks.Statement.{statement}
+use Rattle.demand3.proofs.again.sound_walks.Tie as tie
 
 returns : tie.Need-returns
 returns c = not-sound _ _ _ _ _ _ _ _ _ (c .before .before .before .before .sound .ensures _ _) (c .enum-told .given .1)

@@ -4,12 +4,8 @@ ghost use Prim.Native.Nat.{ℕ};
 ghost use lib.ListN.{length};
 ghost use Rattle.cells.specs.Memory.{memory};
 ghost use Rattle.cells.specs.Read.{readOf};
 ghost use Rattle.walks.specs.Calls.{moved};
-ghost use Rattle.walks.specs.Again.{againLeft, renewLeft, renew, placeAfter, bothWalks, soundWalks, walkAgain, calls, SameWalks};
-use crate::sound::Soundness;
-use crate::sound::sound;
-use crate::walk::Walked;
-use crate::walk::walk;
+ghost use Rattle.demand3.specs.Again.{againLeft, renewLeft, renew, placeAfter, bothWalks, soundWalks, walkAgain, calls, SameWalks};
 use cells::junction::JunctionWords;
 use cells::link::LinkWords;
 use cells::node::NodeWords;
@@ -19,6 +15,10 @@ use cells::write_read::write_then_read;
 use cells::ynd::Outcome;
 use cells::ynd::Ynd;
 use numbers::answer::Answer;
+use walks::sound::Soundness;
+use walks::sound::sound;
+use walks::walk::Walked;
+use walks::walk::walk;
 
 // What the two walks answer; or the cell is not sound, or a call before them was refused.
 pub enum Walks {
