@@ -11,13 +11,14 @@ mod vectors;
 
 fn main() {
     let args: Vec<String> = std::env::args().skip(1).collect();
-    let option = |name: &str| args.iter().position(|a| a == name).and_then(|i| args.get(i + 1)).and_then(|v| v.parse::<f64>().ok());
+    let word = |name: &str| args.iter().position(|a| a == name).and_then(|i| args.get(i + 1)).cloned();
+    let option = |name: &str| word(name).and_then(|v| v.parse::<f64>().ok());
     let seed = option("--seed").unwrap_or(1.0) as u64;
     let full = args.iter().any(|a| a == "--full");
     match args.first().map(String::as_str) {
-        Some("diff") => compare::diff::diff(seed, option("--seconds").unwrap_or(120.0), full),
+        Some("diff") => compare::diff::diff(seed, option("--seconds").unwrap_or(120.0), full, word("--only")),
         Some("bench") => bench::bench(),
         Some("vectors") if args.len() == 2 => vectors::write(&args[1]),
-        _ => { eprintln!("judge diff [--seed N] [--seconds S] [--full] | judge bench | judge vectors FILE"); std::process::exit(2); }
+        _ => { eprintln!("judge diff [--seed N] [--seconds S] [--full] [--only FAMILY] | judge bench | judge vectors FILE"); std::process::exit(2); }
     }
 }

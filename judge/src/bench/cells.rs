@@ -38,25 +38,31 @@ pub fn rows() -> Vec<Row> {
         lent = memory.clone();
         lent.renumber(&mut scratch, &mut places).expect("room for all");
         row("node, numbers by place", Goal::Ratio(2.0), &|| timed(|| nodes(&by_place)), &mut || timed(|| port_nodes(&lent)));
-        out.push(walking(&cell));
+        out.push(walking(&cell, "a walk's link, to a near node", true));
+        out.push(walking(&cell, "a walk's link, in random order", false));
     }
     out.sort_by_key(|r| r.call);
     out
 }
 
-/// A walk over a renumbered cell whose first links lead from node to node, all of them, in random order.
-fn walking(cell: &Cell) -> Row {
+/// A walk over a renumbered cell whose first links lead from node to node, through all of them: each to one that is near, or in
+/// random order.
+fn walking(cell: &Cell, call: &'static str, near: bool) -> Row {
     let (mut cell, size) = (cell.clone(), cell.nodes.len());
     renumber::renumber(&mut cell, 65_536, size).expect("room for all");
     let mut r = Rng::new(7);
-    let mut next: Vec<u16> = (0..size).map(|i| i as u16).collect();
-    for i in (1..size).rev() { next.swap(i, r.below(i)); }
-    for (n, to) in cell.nodes.iter_mut().zip(next) { n.links[0] = Link { area_id: n.area_id, node_id: to, ..Link::default() }; }
+    let mut order: Vec<usize> = (0..size).collect();
+    let reach = if near { 16 } else { size };
+    for part in order.chunks_mut(reach) { for i in (1..part.len()).rev() { part.swap(i, r.below(i + 1)); } }
+    for i in 0..size {
+        let n = &mut cell.nodes[order[i]];
+        n.links[0] = Link { area_id: n.area_id, node_id: order[(i + 1) % size] as u16, ..Link::default() };
+    }
     let memory = Memory::of(&mut r, &cell, cell.counts());
     let (choices, mut visited) = (vec![0; size], vec![0; size + 1]);
     let (_, port) = both(size, || Duration::ZERO, || timed(|| memory.walk(0, &choices, &mut visited)));
     assert_eq!(visited[size], 0, "a walk over all nodes");
-    Row { call: "a walk's link", size, rust: None, port, goal: if size == 60_000 { Goal::Nanoseconds(25.0) } else { Goal::None } }
+    Row { call, size, rust: None, port, goal: if size == 60_000 { Goal::Nanoseconds(25.0) } else { Goal::None } }
 }
 
 /// A cell as drawn: up to three links a node, a ped node in five, a junction and a ref in every two hundred, numbers that differ.

@@ -41,7 +41,7 @@ pub fn bench() {
     println!();
     println!("Nanoseconds a node, or a call for steps, grid and lengths; the fastest of {TURNS} turns, each side in turn. Inputs are made once.");
     println!("Steps, grid and lengths are called on both sides through a function pointer, one call an input, so that neither is inlined.");
-    println!("A walk's link: a walk over all nodes of a renumbered cell, each once, in random order; the Rust has no walks.");
+    println!("A walk's link: a walk through all nodes of a renumbered cell; near is within 16 places. The Rust has no walks.");
     println!("The Rust's memory is its own, allocated in the call as it does; the port's is lent, not cleared first, and has been used before.");
 }
 

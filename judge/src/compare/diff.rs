@@ -5,8 +5,8 @@ use super::{access, cells, files, records, scripts};
 use crate::inputs::{self, floats, limits, memories, names, rng::Rng, shrink};
 use crate::model::length;
 
-pub fn diff(seed: u64, seconds: f64, full: bool) {
-    let run = Run::new(seed, full);
+pub fn diff(seed: u64, seconds: f64, full: bool, only: Option<String>) {
+    let run = Run::new(seed, full, only);
     numbers(&run, seconds);
     let r = &mut Rng::new(seed);
     run.list("files around limits", &limits::files(r), files::check);

@@ -10,6 +10,8 @@ use std::time::{Duration, Instant};
 pub struct Run {
     pub seed: u64,
     pub full: bool,
+    /// The one family that is run, if one is named.
+    only: Option<String>,
     compared: AtomicU64,
     /// Held by the thread that reports a mismatch, so that one is printed.
     report: Mutex<()>,
@@ -17,14 +19,17 @@ pub struct Run {
 }
 
 impl Run {
-    pub fn new(seed: u64, full: bool) -> Self {
-        Run { seed, full, compared: AtomicU64::new(0), report: Mutex::new(()), began: Instant::now() }
+    pub fn new(seed: u64, full: bool, only: Option<String>) -> Self {
+        Run { seed, full, only, compared: AtomicU64::new(0), report: Mutex::new(()), began: Instant::now() }
     }
 
     pub fn compared(&self) -> u64 { self.compared.load(Relaxed) }
 
+    fn skips(&self, name: &str) -> bool { self.only.as_deref().is_some_and(|o| o != name) }
+
     /// Every so many of `total` numbers, with one stride for a short run and one for a full run; the seed says where it starts.
     pub fn sweep(&self, name: &str, total: u64, strides: [u64; 2], check: impl Fn(u64) -> Verdict + Sync) {
+        if self.skips(name) { return; }
         let stride = strides[self.full as usize];
         let first = if stride > 1 { self.seed % stride } else { 0 };
         let count = (total - first).div_ceil(stride);
@@ -41,6 +46,7 @@ impl Run {
 
     /// Each input of a list.
     pub fn list<I>(&self, name: &str, inputs: &[(String, I)], check: impl Fn(&I) -> Verdict) {
+        if self.skips(name) { return; }
         for (what, input) in inputs { if let Err(m) = check(input) { self.fail(name, what, m); } }
         self.done(name, inputs.len() as u64);
     }
@@ -50,6 +56,7 @@ impl Run {
         &self, name: &str, seconds: f64, generate: impl Fn(&mut Rng) -> I + Sync, check: impl Fn(&I) -> Verdict + Sync,
         smaller: impl Fn(&I) -> Vec<I> + Sync,
     ) {
+        if self.skips(name) { return; }
         let until = Instant::now() + Duration::from_secs_f64(seconds);
         let next = AtomicU64::new(0);
         std::thread::scope(|s| for _ in 0..threads() {

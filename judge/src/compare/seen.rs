@@ -13,6 +13,11 @@ pub fn note<T>(answer: &Answer<T>) {
     SEEN[number.min(NUMBERS - 1)][place.min(PLACES - 1)].fetch_add(1, Relaxed);
 }
 
+/// Sound cells that demand 3 was tried on.
+static SOUND: AtomicU64 = AtomicU64::new(0);
+
+pub fn note_sound() { SOUND.fetch_add(1, Relaxed); }
+
 /// What was seen since the last time, as one line.
 pub fn account() -> String {
     let mut parts = Vec::new();
@@ -24,5 +29,7 @@ pub fn account() -> String {
         let by_place: Vec<String> = counts.iter().enumerate().filter(|(_, &c)| c > 0).map(|(p, c)| format!("{p}: {c}")).collect();
         parts.push(format!("refused {number} at {}", by_place.join(" ")));
     }
+    let sound = SOUND.swap(0, Relaxed);
+    if sound > 0 { parts.push(format!("sound cells {sound}")); }
     parts.join("; ")
 }
