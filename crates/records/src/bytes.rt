@@ -1,6 +1,7 @@
 // Bytes and little-endian numbers at a place of a section, and the bytes of a number.
 ghost use mathlib.Core.Path.{_≡_};
 ghost use Prim.Native.Nat.{_+_, _*_, _<_};
+ghost use lib.ListN.{length};
 ghost use Rattle.records.specs.Bytes.{byteAt, le16, le32, le64, bytes16, bytes32, signed16, bits16};
 
 // The byte at a place, 0 past the end.
@@ -31,10 +32,21 @@ fn join64(low: u32, high: u32) -> u64
     low as u64 + high as u64 * 4294967296
 }
 
+// Two bytes that stand inside: one test for both.
+fn pair_at(s: &[u8], at: usize) -> u16
+    requires { ⌜ at + 1 < length (now s) ⌝ }
+    ensures { λ r. ⌜ r ≡ le16 (now (s .entry)) at ⌝ }
+{
+    join16(s[at], s[at + 1])
+}
+
 pub(crate) fn u16_from(s: &[u8], at: usize) -> u16
     requires { ⌜ at < 0x8000_0000_0000_0000 ⌝ }
     ensures { λ r. ⌜ r ≡ le16 (now (s .entry)) at ⌝ }
 {
+    if at + 1 < s.len() {
+        return pair_at(s, at);
+    }
     join16(byte_at(s, at), byte_at(s, at + 1))
 }
 
@@ -42,6 +54,9 @@ pub(crate) fn u32_from(s: &[u8], at: usize) -> u32
     requires { ⌜ at < 0x4000_0000_0000_0000 ⌝ }
     ensures { λ r. ⌜ r ≡ le32 (now (s .entry)) at ⌝ }
 {
+    if at + 3 < s.len() {
+        return join32(pair_at(s, at), pair_at(s, at + 2));
+    }
     join32(u16_from(s, at), u16_from(s, at + 2))
 }
 
