@@ -6,10 +6,10 @@ use mathlib.Core.Path.{_≡_, refl, ap, sym, _∙_}
 use mathlib.Core.Bool.{Bool, true, false, cond, _&&_}
 use mathlib.Core.List.{List, [], _∷_}
 use mathlib.Core.Option.{Option, none, some}
-use lib.Dec.{eqb, ltb}
+use lib.Dec.{eqb, ltb, leb}
 use lib.ListN.{length, getD, drop, length-drop, drop-of-length-le}
 use lib.Seq.{drop-cons, drop-drop}
-use borrow.Author.Tests.{ltb-true}
+use borrow.Author.Tests.{ltb-true, le-leb}
 use Rattle.cells.specs.Memory.{Memory}
 use Rattle.cells.specs.Order.{belongs}
 use Rattle.cells.specs.Cell.{Node, Link, numbers, firstOf}
@@ -139,6 +139,7 @@ module _ (m : Memory) (fits : m .ynd .«node_count» ≤ length (m .nodes)) wher
     unfolding routeIn
     finish le = reached-end N bs s i p h le
 
+    -- what is answered there
     traced-is : (e : End) → (routeIn m bs s .ending ≡ e) × (drop i (routeIn m bs s .places) ≡ p ∷ []) → _≡_ {A = Traced} (record { end = e; count = i + 1 }) (traced (routeIn m bs s))
     traced-is e h = cc (h .0, one-left (routeIn m bs s .places) i p (h .1))
 
@@ -147,3 +148,23 @@ module _ (m : Memory) (fits : m .ynd .«node_count» ≤ length (m .nodes)) wher
 
     pub finish-traced : length bs ≤ i → _≡_ {A = Traced} (record { end = Done; count = i + 1 }) (traced (routeIn m bs s))
     finish-traced le = traced-is Done (finish le)
+
+    pub halt-counted : (e : End) → i < length bs → Stop e ≡ stepIn m p (getD bs i 0) → i + 1 ≡ length (routeIn m bs s .places)
+    halt-counted e lt x = ap (λ (t : Traced). t .count) (halt-traced e lt x)
+
+    pub finish-counted : length bs ≤ i → i + 1 ≡ length (routeIn m bs s .places)
+    finish-counted le = ap (λ (t : Traced). t .count) (finish-traced le)
+
+-- at most one place a choice, and the start
+places-few : (ns : List Node) (bs : List ℕ) (p : ℕ) → length (route ns bs p .places) ≤ length bs + 1
+unfolding route
+places-few ns [] p = omega arith
+places-few ns (b ∷ bs) p = go (next ns p b) (places-few ns bs)
+  where
+    go : (x : Next ℕ) → ((q : ℕ) → length (route ns bs q .places) ≤ length bs + 1) → length (stepOn p (route ns bs) x .places) ≤ suc (length bs) + 1
+    go (to q) ih = omega (arith, ih q)
+    go (stop e) ih = omega arith
+
+pub room-sure : (m : Memory) (bs : List ℕ) (s room : ℕ) → length bs < room → true ≡ leb (length (routeIn m bs s .places)) room
+unfolding routeIn
+room-sure m bs s room h = sym (le-leb (length (route (nodesOf m) bs s .places)) room (omega (arith, places-few (nodesOf m) bs s)))

@@ -9,11 +9,13 @@ use Rattle.cells.specs.Cell.{Node}
 use Rattle.cells.specs.CellOf.{nodesOf}
 use Rattle.walks.specs.Walk.{Next, to, stop, next}
 use Rattle.walks.specs.WalkCall.{stepOn, route}
-use Rattle.walks.specs.WalkParts.{stepIn, routeIn, over}
+use Rattle.walks.specs.WalkParts.{stepIn, routeIn, traced, over}
 use Rattle.walks.specs.declared.walk.End.{End}
+use Rattle.walks.specs.declared.walk.End.the-variants.{Done}
 use Rattle.walks.specs.declared.walk.Step.the-variants.{To, Stop}
+use Rattle.walks.specs.declared.walk.Traced.{Traced}
 use Rattle.walks.proofs.VisitedLaws.{over-step, over-last, over-inside}
-use Rattle.walks.proofs.Reaches.{Reached, reached-start, advance, halt, finish}
+use Rattle.walks.proofs.Reaches.{Reached, reached-start, advance, halt, finish, halt-traced, finish-traced}
 
 -- a route begins at its start
 route-head : (ns : List Node) (bs : List ℕ) (p : ℕ) → (rest : List ℕ) × (route ns bs p .places ≡ p ∷ rest)
@@ -69,8 +71,8 @@ module _ (m : Memory) (holds : m .ynd .«node_count» ≤ length (m .nodes)) (bs
           long = rw (length-set) (h .long);
         }
 
-    pub stored-stop : (e : End) → i < length bs → Stop e ≡ stepIn m p (getD bs i 0) → set now i p ≡ over P first
-    stored-stop e lt x = rw (h .stored) (over-last P first fits i p (halt m holds bs s i p (h .reached) e lt x .1))
+    pub stored-stop : (e : End) → i < length bs → Stop e ≡ stepIn m p (getD bs i 0) → _≡_ {A = Traced} (record { end = e; count = i + 1 }) (traced (routeIn m bs s)) × (set now i p ≡ over P first)
+    stored-stop e lt x = (halt-traced m holds bs s i p (h .reached) e lt x, rw (h .stored) (over-last P first fits i p (halt m holds bs s i p (h .reached) e lt x .1)))
 
-    pub stored-end : length bs ≤ i → set now i p ≡ over P first
-    stored-end le = rw (h .stored) (over-last P first fits i p (finish m holds bs s i p (h .reached) le .1))
+    pub stored-end : length bs ≤ i → _≡_ {A = Traced} (record { end = Done; count = i + 1 }) (traced (routeIn m bs s)) × (set now i p ≡ over P first)
+    stored-end le = (finish-traced m holds bs s i p (h .reached) le, rw (h .stored) (over-last P first fits i p (finish m holds bs s i p (h .reached) le .1)))

@@ -32,10 +32,10 @@ module _ (m : Memory) (bs : List ℕ) (s : ℕ) (visited : List ℕ) where
         unfolding walkCall routeIn nodesOf
         visited-short h = rw (lt-leb _ _ inside, le-ltb _ _ nodes, le-ltb _ _ links, lt-ltb _ _ h)
 
-        pub ends : (t : Traced) (v : List ℕ) → t ≡ traced (routeIn (lent (m .ynd) (m .nodes) (m .links)) bs s) → t .count ≤ length visited
+        pub ends : (t : Traced) (v : List ℕ) → t ≡ traced (routeIn (lent (m .ynd) (m .nodes) (m .links)) bs s) → length (routeIn (lent (m .ynd) (m .nodes) (m .links)) bs s .places) ≤ length visited
             → v ≡ over (routeIn (lent (m .ynd) (m .nodes) (m .links)) bs s .places) visited → walkLeft (Ended (t .end) (t .count)) v ≡ walkCall m bs s visited
         unfolding walkCall routeIn nodesOf
-        ends t v e h o = rw (e, o) (whole (rw e at h))
+        ends t v e h o = rw (e, o) (whole h)
           where
             whole : length (routeIn (lent (m .ynd) (m .nodes) (m .links)) bs s .places) ≤ length visited
                 → walkLeft (Ended (routeIn (lent (m .ynd) (m .nodes) (m .links)) bs s .ending) (length (routeIn (lent (m .ynd) (m .nodes) (m .links)) bs s .places)))

@@ -2,6 +2,7 @@
 ghost use mathlib.Core.Path.{_≡_};
 ghost use mathlib.Core.List.{List};
 ghost use Prim.Native.Nat.{ℕ, _≤_, _<_};
+ghost use lib.Dec.{leb};
 ghost use lib.ListN.{length, getD};
 ghost use Rattle.cells.specs.Memory.{memory};
 ghost use Rattle.walks.specs.WalkCall.{walkLeft, walkCall};
@@ -87,14 +88,72 @@ fn follow(ynd: Ynd, nodes: &[NodeWords], links: &[LinkWords], p: usize, b: usize
     Step::Stop(End::Left(area, number))
 }
 
-// Nothing is stored.
-fn trace(ynd: Ynd, nodes: &[NodeWords], links: &[LinkWords], start: usize, choices: &[u8]) -> Traced
+// How many places a walk visits. Nothing is stored.
+fn places_visited(
+    ynd: Ynd,
+    nodes: &[NodeWords],
+    links: &[LinkWords],
+    start: usize,
+    choices: &[u8],
+) -> usize
     requires { ⌜ (ynd .«node_count» ≤ length (now nodes)) × (ynd .«link_count» ≤ length (now links)) × (start < ynd .«node_count») ⌝ }
-    ensures { λ r. ⌜ r ≡ traced (routeIn (lent ynd (now (nodes .entry)) (now (links .entry))) (now (choices .entry)) start) ⌝ }
+    ensures { λ r. ⌜ r ≡ length (routeIn (lent ynd (now (nodes .entry)) (now (links .entry))) (now (choices .entry)) start .places) ⌝ }
 {
     let mut p = start;
     let mut i = 0;
     while i < choices.len() {
+        let b = choices[i] as usize;
+        let x = follow(ynd, nodes, links, p, b);
+        match x {
+            Step::To(q) => {
+                p = q;
+                i += 1;
+            }
+            Step::Stop(_) => {
+                return i + 1;
+            }
+        }
+    }
+    i + 1
+}
+
+// Whether the places that a walk visits go into a list of `room` entries. They are counted only where there are as many choices.
+fn has_room(
+    ynd: Ynd,
+    nodes: &[NodeWords],
+    links: &[LinkWords],
+    start: usize,
+    choices: &[u8],
+    room: usize,
+) -> bool
+    requires { ⌜ (ynd .«node_count» ≤ length (now nodes)) × (ynd .«link_count» ≤ length (now links)) × (start < ynd .«node_count») ⌝ }
+    ensures { λ r. ⌜ r ≡ leb (length (routeIn (lent ynd (now (nodes .entry)) (now (links .entry))) (now (choices .entry)) start .places)) room ⌝ }
+{
+    if choices.len() < room {
+        return true;
+    }
+    places_visited(ynd, nodes, links, start, choices) <= room
+}
+
+// Stores the places that a walk visits.
+fn store(
+    ynd: Ynd,
+    nodes: &[NodeWords],
+    links: &[LinkWords],
+    start: usize,
+    choices: &[u8],
+    visited: &mut [u32],
+) -> Traced
+    requires { ⌜ (ynd .«node_count» ≤ length (now nodes)) × (ynd .«link_count» ≤ length (now links)) × (start < ynd .«node_count»)
+        × (ynd .«node_count» ≤ 4294967295)
+        × (length (routeIn (lent ynd (now nodes) (now links)) (now choices) start .places) ≤ length (now visited)) ⌝ }
+    ensures { λ r. ⌜ (r ≡ traced (routeIn (lent ynd (now (nodes .entry)) (now (links .entry))) (now (choices .entry)) start))
+        × (now (visited .exit) ≡ over (routeIn (lent ynd (now (nodes .entry)) (now (links .entry))) (now (choices .entry)) start .places) (now (visited .entry))) ⌝ }
+{
+    let mut p = start;
+    let mut i = 0;
+    while i < choices.len() {
+        visited[i] = p as u32;
         let b = choices[i] as usize;
         let x = follow(ynd, nodes, links, p, b);
         match x {
@@ -110,44 +169,11 @@ fn trace(ynd: Ynd, nodes: &[NodeWords], links: &[LinkWords], start: usize, choic
             }
         }
     }
+    visited[i] = p as u32;
     Traced {
         end: End::Done,
         count: i + 1,
     }
-}
-
-// Stores the places that a walk visits.
-fn store(
-    ynd: Ynd,
-    nodes: &[NodeWords],
-    links: &[LinkWords],
-    start: usize,
-    choices: &[u8],
-    visited: &mut [u32],
-)
-    requires { ⌜ (ynd .«node_count» ≤ length (now nodes)) × (ynd .«link_count» ≤ length (now links)) × (start < ynd .«node_count»)
-        × (ynd .«node_count» ≤ 4294967295)
-        × (length (routeIn (lent ynd (now nodes) (now links)) (now choices) start .places) ≤ length (now visited)) ⌝ }
-    ensures { λ r. ⌜ now (visited .exit)
-        ≡ over (routeIn (lent ynd (now (nodes .entry)) (now (links .entry))) (now (choices .entry)) start .places) (now (visited .entry)) ⌝ }
-{
-    let mut p = start;
-    let mut i = 0;
-    while i < choices.len() {
-        visited[i] = p as u32;
-        let b = choices[i] as usize;
-        let x = follow(ynd, nodes, links, p, b);
-        match x {
-            Step::To(q) => {
-                p = q;
-                i += 1;
-            }
-            Step::Stop(_) => {
-                return;
-            }
-        }
-    }
-    visited[i] = p as u32;
 }
 
 // A walk from a place, by a byte a choice, whatever the lists that are not lent. `visited` gets the places; a refusal changes nothing.
@@ -171,11 +197,10 @@ pub fn walk(
     if links.len() < ynd.link_count as usize {
         return Walked::Refused(7, 1);
     }
-    let t = trace(ynd, nodes, links, start, choices);
-    if visited.len() < t.count {
+    if !has_room(ynd, nodes, links, start, choices, visited.len()) {
         return Walked::Refused(7, 8);
     }
-    store(ynd, nodes, links, start, choices, visited);
+    let t = store(ynd, nodes, links, start, choices, visited);
     let end = t.end;
     let count = t.count;
     Walked::Ended(end, count)

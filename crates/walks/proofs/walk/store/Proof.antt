@@ -27,7 +27,7 @@ loop-again : tie.Need-loop-again Inv-loop μ-loop
 loop-again c = storing-step _ (search needs) _ _ _ (search needs) _ _ _ (c .before .before .before .before .before .before .loop .inv) _ (search needs) (sym (c .before .x .given .1) ∙ c .before .before .before .follow .ensures)
 
 returns : tie.Need-returns Inv-loop μ-loop
-returns c = stored-stop _ (search needs) _ _ _ (search needs) _ _ _ (c .before .before .before .before .before .loop .inv) (c .enum-told .given .0 .0) (search needs) (sym (c .enum-told .given .1) ∙ c .before .before .follow .ensures)
+returns c = stored-stop _ (search needs) _ _ _ (search needs) _ _ _ (c .before .before .before .before .before .before .loop .inv) _ (search needs) (sym (c .before .x2 .given .1) ∙ c .before .before .before .follow .ensures)
 
 returns-2 : tie.Need-returns-2 Inv-loop μ-loop
 returns-2 c = stored-end _ (search needs) _ _ _ (search needs) _ _ _ (c .before .loop .inv) (search needs)
@@ -51,7 +51,9 @@ store-spec =
     loop-again
     (λ c. search needs)
     (λ c. search needs)
+    (λ c. search needs)
     returns
+    (λ c. search needs)
     (λ c. search needs)
     (λ c. search needs)
     (λ c. search needs)
