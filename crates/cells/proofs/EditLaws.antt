@@ -25,28 +25,10 @@ entry-inside n len list p i e =
     let q : p ≡ i = (let d = rw (f₀, f₁) at e in cc) in
     (sym q, omega (arith, leb-false n p f₀, ltb-false len n f₁))))
 
-pub held-none : (r : Range) (l : ℕ) → l ≤ r .start → 0 ≡ heldIn r l
-unfolding heldIn
-held-none r l h = let z : l - r .start ≡ 0 = omega arith in rw z (go (r .count))
-  where
-    go : (c : ℕ) → 0 ≡ cond (ltb 0 c) 0 c
-    go zero = refl
-    go (suc c) = rw (lt-ltb 0 (suc c) (omega arith))
-
-pub held-cut : (r : Range) (l : ℕ) → l - r .start < r .count → l - r .start ≡ heldIn r l
-unfolding heldIn
-held-cut r l h = rw (lt-ltb _ _ h)
-
-pub held-all : (r : Range) (l : ℕ) → r .count ≤ l - r .start → r .count ≡ heldIn r l
-unfolding heldIn
-held-all r l h = rw (le-ltb _ _ h)
-
 -- never more than are there, or than the range says
 pub held-bound : (r : Range) (l : ℕ) → (heldIn r l ≤ l - r .start) × (heldIn r l ≤ r .count)
 unfolding heldIn
-held-bound r l = by-test (ltb (l - r .start) (r .count))
-    (λ t. rw t (omega arith, omega (arith, ltb-true (l - r .start) (r .count) t)))
-    (λ f. rw f (omega (arith, ltb-false (l - r .start) (r .count) f), omega arith))
+held-bound r l = (omega arith, omega arith)
 
 pub range-inside : (n len list l pool values p k i : ℕ) (r : Range) → rangeEntry n len list l pool values p r k ≡ At i → (p < len) × (r .start + k ≡ i) × (i < pool)
 unfolding rangeEntry

@@ -1,5 +1,5 @@
 -- Adding a link in memory adds it to the cell that the memory holds.
-use Prim.Native.Nat.{ℕ, zero, suc, _+_, _-_, _*_, _/_, _%_, _≤_, _<_}
+use Prim.Native.Nat.{ℕ, zero, suc, _+_, _-_, _*_, _/_, _%_, _≤_, _<_, min}
 use native.Mathlib.Omega.{arith}
 use native.Mathlib.Numerals.{add-one}
 use mathlib.Core.Path.{_≡_, refl, ap, sym, _∙_}
@@ -74,8 +74,11 @@ module _ {A : Type 0} where
   unfolding heldIn
   part-held s c P = by-test (ltb (length P - s) c)
       (λ t. let lt : length P - s < c = ltb-true (length P - s) c t in
-      rw t (take-all (length P - s) (drop s P) (rw length-drop (omega arith)) ∙ sym (take-all c (drop s P) (rw length-drop (omega arith)))))
-      (λ f. rw f)
+      let e : min c (length P - s) ≡ length P - s = omega arith in
+      rw e (take-all (length P - s) (drop s P) (rw length-drop (omega arith)) ∙ sym (take-all c (drop s P) (rw length-drop (omega arith)))))
+      (λ f. let le : c ≤ length P - s = ltb-false (length P - s) c f in
+      let e : min c (length P - s) ≡ c = omega arith in
+      rw e refl)
 
 -- ---- a node with another range
 

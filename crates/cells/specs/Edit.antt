@@ -1,5 +1,5 @@
 -- Section 4, other calls: entries taken out and stored by place. Causes of refusal, in their order: 13 no such place, 12, 7 a list shorter than its count.
-use Prim.Native.Nat.{ℕ, _+_, _-_, _*_}
+use Prim.Native.Nat.{ℕ, _+_, _-_, _*_, min}
 use mathlib.Core.Bool.{Bool, true, false, not, cond}
 use mathlib.Core.List.{List, []}
 use lib.Dec.{eqb, ltb, leb}
@@ -49,7 +49,7 @@ valueRange junctions p = record { start = valueStart (getD junctions p []); coun
 
 -- how many of a range are among the first l: a range that leaves the list is cut
 unfoldable pub heldIn : Range → ℕ → ℕ
-heldIn r l = cond (ltb (l - r .start) (r .count)) (l - r .start) (r .count)
+heldIn r l = min (r .count) (l - r .start)
 
 -- entry k of the range r, which belongs to the place p of n and lies among l entries of a pool; both lists' lengths, and their own places a and b
 unfoldable pub rangeEntry : ℕ → ℕ → ℕ → ℕ → ℕ → ℕ → ℕ → Range → ℕ → Entry

@@ -9,6 +9,7 @@ use crate::arrays::Found;
 use crate::count::Counted;
 use crate::count::Counts;
 use crate::count::Total;
+use crate::range::map_size;
 use numbers::answer::Answer;
 use records::bytes::byte_at;
 use records::bytes::u16_at;
@@ -63,17 +64,11 @@ pub(crate) fn values_start(j: &[u8], i: usize) -> usize
     wide16(u16_at(j, (i * 12) as u32 + 8))
 }
 
-pub(crate) fn product(a: u8, b: u8) -> usize
-    ensures { λ r. ⌜ (r ≡ a * b) × (r < 65536) ⌝ }
-{
-    a as usize * b as usize
-}
-
 pub(crate) fn values_at(j: &[u8], i: usize) -> usize
     requires { ⌜ i ≤ 65536 ⌝ }
     ensures { λ r. ⌜ (r ≡ valuesAt (now (j .entry)) i) × (r < 65536) ⌝ }
 {
-    product(byte_at(j, i * 12 + 10), byte_at(j, i * 12 + 11))
+    map_size(byte_at(j, i * 12 + 10), byte_at(j, i * 12 + 11))
 }
 
 // 4: each node's range is within `links` links; how many links they have together.

@@ -25,7 +25,7 @@ mod order;
 mod pack;
 mod permute;
 pub mod put;
-mod range;
+pub mod range;
 pub mod read;
 mod recount;
 pub mod relink;

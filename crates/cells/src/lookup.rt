@@ -10,6 +10,7 @@ ghost use Rattle.cells.specs.LookupCall.{areaIdCall, firstIn, findIn, no
 use crate::node::NodeWords;
 use crate::node_words::area_of;
 use crate::node_words::number_of;
+use crate::relink::own_area;
 use crate::ynd::Ynd;
 
 pub enum OwnArea {
@@ -78,17 +79,6 @@ pub fn node(ynd: Ynd, nodes: &[NodeWords], node_id: u16) -> Place
         return Place::Refused(7, 0);
     }
     find_in(nodes, n, node_id)
-}
-
-// The area of the first of n nodes, 0 if there is none.
-fn first_area(nodes: &[NodeWords], n: usize) -> u16
-    requires { ⌜ n ≤ length (now nodes) ⌝ }
-    ensures { λ r. ⌜ r ≡ firstArea (take n (now (nodes .entry))) ⌝ }
-{
-    if n == 0 {
-        return 0;
-    }
-    area_of(nodes[0])
 }
 
 fn ref_for(own: u16, area: u16, area_id: u16) -> bool
@@ -163,7 +153,7 @@ pub fn junction_of(
     if refs.len() < r {
         return Place::Refused(7, 4);
     }
-    let own = first_area(nodes, n);
+    let own = own_area(nodes, n);
     below_of(
         first_ref(refs, r, own, area_id, node_id),
         ynd.junction_count as usize,

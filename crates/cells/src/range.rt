@@ -1,9 +1,9 @@
 // The range of links that a node has, and of heightmap values that a junction has.
 ghost use mathlib.Core.Path.{_≡_};
-ghost use Prim.Native.Nat.{_*_, _/_};
-ghost use lib.ListN.{getD};
-ghost use Rattle.cells.specs.NodeWords.{linkCount, valueCount};
+ghost use Prim.Native.Nat.{_-_, _*_, _<_, min};
+ghost use Rattle.cells.specs.NodeWords.{linkStart, linkCount, valueStart, valueCount};
 ghost use Rattle.cells.specs.Edit.{startAt, linkRange, valueRange, heldIn};
+use crate::junction::JunctionWords;
 use crate::junction::PathJunction;
 use crate::node::NodeWords;
 use crate::pack::byte0;
@@ -15,32 +15,34 @@ pub struct Range {
     pub count: usize,
 }
 
-pub(crate) fn link_start(w: NodeWords) -> u32
-    ensures { λ r. ⌜ r ≡ getD w 7 0 ⌝ }
+// Where a node's links start, and how many its words name.
+pub fn link_start(w: NodeWords) -> u32
+    ensures { λ r. ⌜ r ≡ linkStart w ⌝ }
 {
     w[7]
 }
 
-pub(crate) fn link_count(w: NodeWords) -> u8
+pub fn link_count(w: NodeWords) -> u8
     ensures { λ r. ⌜ r ≡ linkCount w ⌝ }
 {
     byte2(w[6])
 }
 
-pub(crate) fn value_start(w: [u32; 6]) -> u32
-    ensures { λ r. ⌜ r ≡ getD w 5 0 ⌝ }
+// The same of a junction's heightmap values.
+pub fn value_start(w: JunctionWords) -> u32
+    ensures { λ r. ⌜ r ≡ valueStart w ⌝ }
 {
     w[5]
 }
 
 pub(crate) fn map_size(width: u8, height: u8) -> usize
-    ensures { λ r. ⌜ r ≡ width * height ⌝ }
+    ensures { λ r. ⌜ (r ≡ width * height) × (r < 65536) ⌝ }
 {
     width as usize * height as usize
 }
 
-fn value_count(w: [u32; 6]) -> usize
-    ensures { λ r. ⌜ r ≡ valueCount w ⌝ }
+pub fn value_count(w: JunctionWords) -> usize
+    ensures { λ r. ⌜ (r ≡ valueCount w) × (r < 65536) ⌝ }
 {
     map_size(byte0(w[4]), byte1(w[4]))
 }
@@ -82,15 +84,22 @@ pub(crate) fn value_range(junctions: &[[u32; 6]], place: usize) -> Range
     }
 }
 
+// How many of `count` entries from `start` on are among the first `pool`.
+pub fn cut(start: usize, count: usize, pool: usize) -> usize
+    ensures { λ r. ⌜ r ≡ min count (pool - start) ⌝ }
+{
+    if pool <= start {
+        return 0;
+    }
+    if pool - start < count {
+        return pool - start;
+    }
+    count
+}
+
 // How many of a range are among the first l.
 pub(crate) fn held_in(r: Range, l: usize) -> usize
     ensures { λ e. ⌜ e ≡ heldIn r l ⌝ }
 {
-    if l <= r.start {
-        return 0;
-    }
-    if l - r.start < r.count {
-        return l - r.start;
-    }
-    r.count
+    cut(r.start, r.count, l)
 }

@@ -20,7 +20,7 @@ pub fn belongs_to(own: u16, area: u16) -> bool
 }
 
 // The first node's area, 0 if there is no node.
-fn own_area(nodes: &[NodeWords], n: usize) -> u16
+pub(crate) fn own_area(nodes: &[NodeWords], n: usize) -> u16
     requires { ⌜ n ≤ length (now nodes) ⌝ }
     ensures { λ r. ⌜ r ≡ firstArea (take n (now (nodes .entry))) ⌝ }
 {

@@ -1,29 +1,17 @@
 // The checks before writing: 8 and 9 node by node, 10 junction by junction, then 11.
 ghost use mathlib.Core.Path.{_≡_};
-ghost use Prim.Native.Nat.{_-_, _<_, min};
-ghost use Rattle.cells.specs.NodeWords.{valueCount};
+ghost use Prim.Native.Nat.{_<_};
 ghost use Rattle.cells.specs.WriteChecks.{linksWithin, valuesWithin, checkNodes, checkJunctions};
 ghost use Rattle.cells.specs.WriteCounts.{writeCounts};
-use crate::checks::product;
 use crate::checks::refused;
 use crate::count::Counted;
 use crate::count::Counts;
 use crate::count::Total;
-use crate::pack::byte0;
-use crate::pack::byte1;
-use crate::pack::byte2;
-
-fn cut(start: usize, count: usize, pool: usize) -> usize
-    ensures { λ r. ⌜ r ≡ min count (pool - start) ⌝ }
-{
-    if pool <= start {
-        return 0;
-    }
-    if pool - start < count {
-        return pool - start;
-    }
-    count
-}
+use crate::range::cut;
+use crate::range::link_count;
+use crate::range::link_start;
+use crate::range::value_count;
+use crate::range::value_start;
 
 pub(crate) fn wide(x: u32) -> usize
     ensures { λ r. ⌜ r ≡ x ⌝ }
@@ -35,24 +23,17 @@ pub(crate) fn wide(x: u32) -> usize
 pub(crate) fn links_within(w: [u32; 8], pool: usize) -> usize
     ensures { λ r. ⌜ r ≡ linksWithin pool w ⌝ }
 {
-    let count = byte2(w[6]) as usize;
-    let start = wide(w[7]);
+    let count = link_count(w) as usize;
+    let start = wide(link_start(w));
     cut(start, count, pool)
-}
-
-// Width × height of a junction, by its words.
-pub(crate) fn area(w: [u32; 6]) -> usize
-    ensures { λ r. ⌜ (r ≡ valueCount w) × (r < 65536) ⌝ }
-{
-    product(byte0(w[4]), byte1(w[4]))
 }
 
 // How many of `pool` heightmap bytes a junction's words name.
 pub(crate) fn values_within(w: [u32; 6], pool: usize) -> usize
     ensures { λ r. ⌜ (r ≡ valuesWithin pool w) × (r < 65536) ⌝ }
 {
-    let start = wide(w[5]);
-    cut(start, area(w), pool)
+    let start = wide(value_start(w));
+    cut(start, value_count(w), pool)
 }
 
 pub(crate) fn check_nodes(nodes: &[[u32; 8]], pool: usize) -> Total

@@ -15,6 +15,7 @@ ghost use Rattle.cells.specs.BackAnswer.{backAnswer, both};
 use crate::count::Counted;
 use crate::count::Counts;
 use crate::count::Total;
+use crate::range::value_count;
 use crate::read::check_room;
 use crate::read::read;
 use crate::room::lacking;
@@ -23,7 +24,6 @@ use crate::write::least;
 use crate::write::not_written;
 use crate::write::places_for;
 use crate::write::write;
-use crate::write_checks::area;
 use crate::write_checks::values_within;
 use crate::write_checks::write_counts;
 use crate::ynd::Outcome;
@@ -46,7 +46,7 @@ fn check_values(junctions: &[[u32; 6]], heights: &[u8], total: usize) -> Total
     let mut sum: usize = 0;
     let mut i = 0;
     while i < junctions.len() {
-        let size = area(junctions[i]);
+        let size = value_count(junctions[i]);
         if total < before + size {
             return Total::Refused(5, i);
         }

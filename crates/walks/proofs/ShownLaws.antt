@@ -1,7 +1,7 @@
 -- What a walk shows, by the words in memory.
 use Prim.Native.Nat.{ℕ, _+_, _-_, _*_, _<_, _≤_, min}
 use native.Mathlib.Omega.{arith}
-use native.Mathlib.Nat.{lt-of-le-of-lt, mul-le-mul-left, le-of-lt, min-zero, min-eq-left, min-eq-right, min-le-left, min-le-right, le-min}
+use native.Mathlib.Nat.{min-eq-left, min-eq-right, min-le-left, min-le-right, le-min}
 use mathlib.Core.Path.{_≡_, refl, ap, sym, _∙_}
 use mathlib.Core.Bool.{true, false}
 use mathlib.Core.List.{List, [], _∷_, map}
@@ -18,6 +18,7 @@ use Rattle.cells.specs.Lookup.{refOf, junctionAt, junctionOf}
 use Rattle.cells.specs.LookupCall.{placeOf, refIn, below, junctionOfCall}
 use Rattle.cells.specs.declared.lookup.Place.{Place}
 use Rattle.cells.proofs.Tests.{by-test}
+use Rattle.cells.proofs.LookupLaws.{area-held}
 use Rattle.walks.specs.Walk.{see, linkAt, bodyOf}
 use Rattle.walks.specs.Shown.{inside, junctionPlace, seenNode, shownNode, seenJunction, orNone, shownJunction, valuesOf, shownValues, seenLink, orNoLink, shownLink}
 use Rattle.walks.specs.ShownParts.{seenOf}
@@ -30,13 +31,7 @@ use Rattle.walks.specs.declared.shown.ShownLink.the-variants as link
 use Rattle.walks.proofs.Ranges.{cut-all, cut-part}
 use Rattle.walks.proofs.StepLaws.{elem-at, elem-past, getD-map-in, node-in, link-past, link-out, link-in}
 
-pub bytes-times : (a b : ℕ) → a < 256 → b < 256 → a * b < 65536
-bytes-times a b ha hb = lt-of-le-of-lt (mul-le-mul-left a (let h : b < 256 = hb in le-of-lt h)) (let h : a * 256 < 65536 = omega arith in h)
-
 -- ---- a range, cut where the list ends
-
-pub held-none : (start count l : ℕ) → l ≤ start → 0 ≡ min count (l - start)
-held-none start count l h = let e : l - start ≡ 0 = omega arith in sym (ap (min count) e ∙ min-zero count)
 
 module _ {A : Type 0} (xs : List A) (l start count : ℕ) where
   abbrev end : ℕ
@@ -92,14 +87,6 @@ module _ (m : Memory) where
   abbrev pool : List Link
   pool = map linkOf (take l (m .links))
 
-  first-area : firstOf (nodesOf m) ≡ firstArea (take n (m .nodes))
-  unfolding nodesOf firstArea
-  first-area = go (take n (m .nodes))
-    where
-      go : (ws : List (List ℕ)) → firstOf (map (nodeWith pool) ws) ≡ firstArea ws
-      go [] = refl
-      go (w ∷ ws) = refl
-
   junctions-long : m .ynd .«junction_count» ≤ length (m .junctions) → length (junctionsOf m) ≡ m .ynd .«junction_count»
   unfolding junctionsOf
   junctions-long h = length-map (take (m .ynd .«junction_count») (m .junctions)) (junctionWith (take (m .ynd .«heightmap_count») (m .heights))) ∙ length-take-le _ (m .junctions) h
@@ -107,7 +94,7 @@ module _ (m : Memory) where
   module _ (nodes : n ≤ length (m .nodes)) (links : l ≤ length (m .links)) (junctions : m .ynd .«junction_count» ≤ length (m .junctions)) (refs : m .ynd .«ref_count» ≤ length (m .refs)) where
     junction-place : (a k : ℕ) → junctionOfCall (m .ynd) (m .nodes) (m .refs) a k ≡ placeOf (junctionPlace (cellOf m) a k)
     unfolding junctionOfCall junctionPlace cellOf refIn refsOf
-    junction-place a k = rw (le-ltb _ _ nodes, le-ltb _ _ refs, first-area, junctions-long junctions) (go (refOf _ _ a k))
+    junction-place a k = rw (le-ltb _ _ nodes, le-ltb _ _ refs, area-held m, junctions-long junctions) (go (refOf _ _ a k))
       where
         go : (o : Option ℕ) → below (m .ynd .«junction_count») (placeOf o) ≡ placeOf (inside (m .ynd .«junction_count») o)
         go none = refl

@@ -17,6 +17,7 @@ use Rattle.cells.specs.CellOf.{linkOf, refOf, nodeWith, nodesOf, refsOf, cellOf
 use Rattle.cells.specs.Lookup.{firstWith, isSome}
 use Rattle.cells.specs.LookupCall.{numbersIn}
 use Rattle.cells.proofs.Tests.{map-take, map-drop}
+use Rattle.cells.proofs.LookupLaws.{numbers-held}
 use Rattle.walks.specs.Sound.{linkNamed, refNamed, differing, nodeSound, sound}
 use Rattle.walks.specs.SoundParts.{wordNamed, wordSound, wordsSound, noneOr}
 use Rattle.walks.proofs.Ranges.{every-mapped, cut-all, cut-none, cut-part}
@@ -69,12 +70,8 @@ module _ (m : Memory) where
   N = nodesOf m
 
   pub numbers-same : numbers (cellOf m .nodes) ≡ numbersIn n (m .nodes)
-  unfolding cellOf nodesOf numbersIn
-  numbers-same = go (take n (m .nodes))
-    where
-      go : (ws : List (List ℕ)) → numbers (map (nodeWith pool) ws) ≡ map numberOf ws
-      go [] = refl
-      go (w ∷ ws) = ap {B = List ℕ} (λ t. numberOf w ∷ t) (go ws)
+  unfolding cellOf
+  numbers-same = numbers-held m
 
   sound-empty : n ≡ 0 → true ≡ sound (cellOf m)
   unfolding sound cellOf nodesOf

@@ -2,4 +2,3 @@
 pub mod shown;
 pub mod sound;
 pub mod walk;
-mod words;

@@ -7,11 +7,6 @@ ghost use Rattle.cells.specs.Memory.{memory};
 ghost use Rattle.cells.specs.CellOf.{linkOf, junctionWith};
 ghost use Rattle.walks.specs.Shown.{shownNode, seenJunction, shownJunction, shownValues, seenLink, shownLink};
 ghost use Rattle.walks.specs.ShownParts.{seenOf};
-use crate::words::held_in;
-use crate::words::link_count;
-use crate::words::link_start;
-use crate::words::value_count;
-use crate::words::value_start;
 use cells::junction::JunctionWords;
 use cells::link::LinkWords;
 use cells::link::link_of;
@@ -21,6 +16,11 @@ use cells::node::NodeWords;
 use cells::node::node_of;
 use cells::node_words::area_of;
 use cells::node_words::number_of;
+use cells::range::cut;
+use cells::range::link_count;
+use cells::range::link_start;
+use cells::range::value_count;
+use cells::range::value_start;
 use cells::ynd::Ynd;
 
 // The bits of three f32.
@@ -131,7 +131,7 @@ pub fn shown_node(
     }
     let w = nodes[place];
     let start = link_start(w) as usize;
-    let count = held_in(start, link_count(w) as usize, ynd.link_count as usize);
+    let count = cut(start, link_count(w) as usize, ynd.link_count as usize);
     let junction = junction_of(ynd, nodes, refs, area_of(w), number_of(w));
     ShownNode::Node(seen_of(w, count, junction))
 }
@@ -167,8 +167,8 @@ pub fn shown_junction(ynd: Ynd, junctions: &[JunctionWords], place: usize) -> Sh
 fn part_held(heights: &[u8], l: usize, start: usize, count: usize) -> &[u8]
     ensures { λ r. ⌜ now r ≡ take count (drop start (take l (now (heights .entry)))) ⌝ }
 {
-    let end = held_in(0, l, heights.len());
-    let n = held_in(start, count, end);
+    let end = cut(0, l, heights.len());
+    let n = cut(start, count, end);
     if end <= start {
         return &heights[0..0];
     }
@@ -196,7 +196,7 @@ pub fn shown_values<'a>(
         heights,
         ynd.heightmap_count as usize,
         value_start(w) as usize,
-        value_count(w) as usize,
+        value_count(w),
     )
 }
 

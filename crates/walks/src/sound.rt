@@ -12,12 +12,12 @@ ghost use Rattle.cells.specs.Renumber.{Indexed};
 ghost use Rattle.walks.specs.Sound.{differing};
 ghost use Rattle.walks.specs.SoundCall.{verdict, indexed, soundLeft, soundCall};
 ghost use Rattle.walks.specs.SoundParts.{Ready, wordNamed, wordSound, wordsSound, noneOr};
-use crate::words::link_count;
-use crate::words::link_start;
 use cells::link::LinkWords;
 use cells::node::NodeWords;
 use cells::node_words::area_of;
 use cells::node_words::number_of;
+use cells::range::link_count;
+use cells::range::link_start;
 use cells::relink::belongs_to;
 use cells::ynd::Ynd;
 

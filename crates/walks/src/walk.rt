@@ -7,13 +7,13 @@ ghost use lib.ListN.{length, getD};
 ghost use Rattle.cells.specs.Memory.{memory};
 ghost use Rattle.walks.specs.WalkCall.{walkLeft, walkCall};
 ghost use Rattle.walks.specs.WalkParts.{lent, stepIn, stepTo, routeIn, traced, over};
-use crate::words::link_count;
-use crate::words::link_start;
 use cells::link::LinkWords;
 use cells::lookup::Place;
 use cells::lookup::node;
 use cells::node::NodeWords;
 use cells::node_words::area_of;
+use cells::range::link_count;
+use cells::range::link_start;
 use cells::relink::belongs_to;
 use cells::ynd::Ynd;
 

@@ -16,7 +16,7 @@ answer-is : (c : tie.After-room-for-junction) → let a = c .before .before .bef
 answer-is c =
     let a = c .before .before .before .before .before .before .args in
     c .room-for-junction .ensures
-    ∙ (λ i. roomForJunction (a .ynd .«junction_count») (a .ynd .«heightmap_count») (c .before .map-size .ensures i) (length (a .values .now)) (length (a .junctions .now)) (length (a .heights .now)))
+    ∙ (λ i. roomForJunction (a .ynd .«junction_count») (a .ynd .«heightmap_count») (c .before .map-size .ensures .0 i) (length (a .values .now)) (length (a .junctions .now)) (length (a .heights .now)))
 
 -- an accepted call has room
 room : (c : tie.After-enum-told) → let a = c .before .before .before .before .before .before .before .before .args in

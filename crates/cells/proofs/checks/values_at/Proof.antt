@@ -7,7 +7,7 @@ use Rattle.cells.proofs.checks.values_at.Tie as tie
 
 returns : tie.Need-returns
 unfolding junctionAt
-returns c = (c .product .ensures .0 ∙ (λ i. c .before .before .byte-at .ensures i * c .before .byte-at2 .ensures i), c .product .ensures .1)
+returns c = (c .map-size .ensures .0 ∙ (λ i. c .before .before .byte-at .ensures i * c .before .byte-at2 .ensures i), c .map-size .ensures .1)
 
 pub values-at-spec : {M : Type 1} → statement M
 values-at-spec =

@@ -19,7 +19,7 @@ unfolding junctionOfCall
 returns-3 c =
     let t = c .before .before .before .before in
     let a = t .before .before .before .before .args in
-    let f = c .before .before .first-ref .ensures ∙ (λ i. placeOf (refIn (c .before .before .before .first-area .ensures i) (take (a .ynd .«ref_count») (a .refs .now)) (a .area-id) (a .node-id))) in
+    let f = c .before .before .first-ref .ensures ∙ (λ i. placeOf (refIn (c .before .before .before .own-area .ensures i) (take (a .ynd .«ref_count») (a .refs .now)) (a .area-id) (a .node-id))) in
     rw (le-ltb _ _ (t .before .if1 .left), le-ltb _ _ (t .if2 .left)) (c .below-of .ensures ∙ ap (below (a .ynd .«junction_count»)) f)
 
 pub junction-of-spec : {M : Type 1} → statement M

@@ -23,7 +23,7 @@ returns c =
     let t = e .before .before in
     let a = t .before .before .before .before .before .args in
     let w = c .junction-words .ensures ∙ ap junctionWords (c .before .start-at .ensures ∙ ap (startAt (a .j)) (c .before .before .value-start .ensures)) in
-    let at = t .sized-entry .ensures ∙ (λ i. sizedEntry (a .ynd .«junction_count») (length (a .junctions .now)) (a .place) (t .before .map-size .ensures i) (t .before .before .value-range .ensures i .count)) in
+    let at = t .sized-entry .ensures ∙ (λ i. sizedEntry (a .ynd .«junction_count») (length (a .junctions .now)) (a .place) (t .before .map-size .ensures .0 i) (t .before .before .value-range .ensures i .count)) in
     (λ i. stored Done (set (a .junctions .now) (e .e .given .0 .0) (w i)))
     ∙ sym (ap (λ (x : Entry). changeAt x (λ v. junctionWords (startAt (a .j) (valueStart v))) [] (a .junctions .now)) (sym at ∙ e .e .given .1))
 
@@ -32,7 +32,7 @@ unfolding putJunction
 returns-2 c =
     let t = c .before .before .before in
     let a = t .before .before .before .before .before .args in
-    let at = t .sized-entry .ensures ∙ (λ i. sizedEntry (a .ynd .«junction_count») (length (a .junctions .now)) (a .place) (t .before .map-size .ensures i) (t .before .before .value-range .ensures i .count)) in
+    let at = t .sized-entry .ensures ∙ (λ i. sizedEntry (a .ynd .«junction_count») (length (a .junctions .now)) (a .place) (t .before .map-size .ensures .0 i) (t .before .before .value-range .ensures i .count)) in
     sym (ap (λ (x : Entry). changeAt x (λ v. junctionWords (startAt (a .j) (valueStart v))) [] (a .junctions .now)) (sym at ∙ c .before .e2 .given .1))
 
 pub put-junction-spec : {M : Type 1} → statement M

@@ -11,7 +11,7 @@ returns : tie.Need-returns
 returns c = let a = c .before .args in sym (ap (λ (w : List ℕ). record { start = valueStart w; count = valueCount w }) (past (a .junctions .now) (a .place) [] (c .if1 .taken)))
 
 returns-2 : tie.Need-returns-2
-returns-2 c = λ i. record { start = c .before .value-start .ensures i; count = c .value-count .ensures i }
+returns-2 c = λ i. record { start = c .before .value-start .ensures i; count = c .value-count .ensures .0 i }
 
 pub value-range-spec : {M : Type 1} → statement M
 value-range-spec =

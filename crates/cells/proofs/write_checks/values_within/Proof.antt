@@ -9,16 +9,19 @@ use Rattle.cells.proofs.write_checks.values_within.Tie as tie
 returns : tie.Need-returns
 unfolding valuesWithin
 returns c =
-    let after-area = c .before in
-    let after-wide = after-area .before in
-    let begin = after-wide .before in
-    (c .cut .ensures ∙ (λ k. min (after-area .area .ensures .0 k) (begin .args .pool - after-wide .wide .ensures k)), omega (arith, c .cut .ensures, after-area .area .ensures .1))
+    let after-value-count = c .before in
+    let after-wide = after-value-count .before in
+    let after-value-start = after-wide .before in
+    let begin = after-value-start .before in (
+      c .cut .ensures ∙ (λ k. min (after-value-count .value-count .ensures .0 k) (begin .args .pool - (after-wide .wide .ensures ∙ after-value-start .value-start .ensures) k)),
+      omega (arith, c .cut .ensures, after-value-count .value-count .ensures .1),
+    )
 
 pub values-within-spec : {M : Type 1} → statement M
 values-within-spec =
     tie.close
     (tie.spec
-    (λ c. search needs)
+    (λ c κs. search needs)
     (λ c κs. search needs)
     (λ c κs. search needs)
     (λ c κs. search needs)

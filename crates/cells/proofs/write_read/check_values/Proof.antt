@@ -40,18 +40,18 @@ add-if1 : tie.Need-add-if1 Inv-loop μ-loop
 add-if1 c =
     let at-loop = c .before .before .before in
     let begin = at-loop .before .before in
-    omega (arith, at-loop .loop .inv .1, joined-front (valuesIn (begin .args .heights .now)) (begin .args .junctions .now) (at-loop .loop .i), begin .pre .1, begin .pre .2, c .area .ensures .1)
+    omega (arith, at-loop .loop .inv .1, joined-front (valuesIn (begin .args .heights .now)) (begin .args .junctions .now) (at-loop .loop .i), begin .pre .1, begin .pre .2, c .value-count .ensures .1)
 
 returns : tie.Need-returns Inv-loop μ-loop
 returns c =
-    let after-area = c .before in
-    let at-loop = after-area .before .before .before in
+    let after-value-count = c .before in
+    let at-loop = after-value-count .before .before .before in
     let begin = at-loop .before .before in
     let a = begin .args in
     let l = at-loop .loop in
     let js = a .junctions .now in
     let hs = a .heights .now in
-    let h : ltb (a .total) (l .before + after-area .area .result) ≡ lacks hs js (l .i) = λ k. ltb (begin .pre .1 k) (l .inv .1 k + after-area .area .ensures .0 k) in
+    let h : ltb (a .total) (l .before + after-value-count .value-count .result) ≡ lacks hs js (l .i) = λ k. ltb (begin .pre .1 k) (l .inv .1 k + after-value-count .value-count .ensures .0 k) in
     sym (ap (λ (x : Answer). totalOf x (sumTo (areaAt js) (length js))) (l .inv .4 ∙ scan-hit 5 (lacks hs js) (l .i) (length js) (omega arith) (sym h ∙ lt-ltb _ _ (c .if1 .taken))))
 
 add-before : tie.Need-add-before Inv-loop μ-loop
@@ -62,26 +62,26 @@ add-before c =
 
 add-sum : tie.Need-add-sum Inv-loop μ-loop
 add-sum c =
-    let after-area = c .before .before .before in
-    let at-loop = after-area .before .before .before in
+    let after-value-count = c .before .before .before in
+    let at-loop = after-value-count .before .before .before in
     let begin = at-loop .before .before in
-    omega (arith, at-loop .loop .inv .3, begin .pre .0, after-area .area .ensures .1)
+    omega (arith, at-loop .loop .inv .3, begin .pre .0, after-value-count .value-count .ensures .1)
 
 loop-again : tie.Need-loop-again Inv-loop μ-loop
 loop-again c =
     let else1 = c .before .before in
-    let after-area = else1 .before in
-    let at-loop = after-area .before .before .before in
+    let after-value-count = else1 .before in
+    let at-loop = after-value-count .before .before .before in
     let begin = at-loop .before .before in
     let a = begin .args in
     let l = at-loop .loop in
     let js = a .junctions .now in
     let hs = a .heights .now in
-    let h : ltb (a .total) (l .before + after-area .area .result) ≡ lacks hs js (l .i) = λ k. ltb (begin .pre .1 k) (l .inv .1 k + after-area .area .ensures .0 k) in (
+    let h : ltb (a .total) (l .before + after-value-count .value-count .result) ≡ lacks hs js (l .i) = λ k. ltb (begin .pre .1 k) (l .inv .1 k + after-value-count .value-count .ensures .0 k) in (
       omega arith,
       omega (arith, l .inv .1, c .values-within .ensures .0, value-count hs (getD js (l .i) []), joined-next (valuesIn hs) js (l .i) [] (omega arith)),
-      omega (arith, l .inv .2, after-area .area .ensures .0, sum-next (areaAt js) (l .i)),
-      omega (arith, l .inv .3, after-area .area .ensures .1),
+      omega (arith, l .inv .2, after-value-count .value-count .ensures .0, sum-next (areaAt js) (l .i)),
+      omega (arith, l .inv .3, after-value-count .value-count .ensures .1),
       l .inv .4 ∙ scan-on 5 (lacks hs js) (l .i) (length js) (omega arith) (sym h ∙ le-ltb _ _ (else1 .if1 .left)),
     )
 

@@ -12,7 +12,7 @@ returns : tie.Need-returns
 returns c =
     let h = c .before .before .before in
     let a = h .before .before .args in
-    let e : h .held-in .result ≡ min (a .l) (length (a .heights .now)) = h .held-in .ensures ∙ ap (min (a .l)) (sub-zero (length (a .heights .now))) in
+    let e : h .cut .result ≡ min (a .l) (length (a .heights .now)) = h .cut .ensures ∙ ap (min (a .l)) (sub-zero (length (a .heights .now))) in
     let out : min (a .l) (length (a .heights .now)) ≤ a .start = omega (arith, e, c .before .if1 .taken) in
     cut-gone (a .heights .now) (a .l) (a .start) (a .count) out
 
@@ -20,10 +20,10 @@ returns-2 : tie.Need-returns-2
 returns-2 c =
     let h = c .before .before .before in
     let a = h .before .before .args in
-    let n = c .before .before .held-in2 .result in
-    let e : h .held-in .result ≡ min (a .l) (length (a .heights .now)) = h .held-in .ensures ∙ ap (min (a .l)) (sub-zero (length (a .heights .now))) in
+    let n = c .before .before .cut2 .result in
+    let e : h .cut .result ≡ min (a .l) (length (a .heights .now)) = h .cut .ensures ∙ ap (min (a .l)) (sub-zero (length (a .heights .now))) in
     let lt : a .start < min (a .l) (length (a .heights .now)) = omega (arith, e, c .before .if1 .left) in
-    let is : n ≡ min (a .count) (min (a .l) (length (a .heights .now)) - a .start) = c .before .before .held-in2 .ensures ∙ (λ i. min (a .count) (e i - a .start)) in
+    let is : n ≡ min (a .count) (min (a .l) (length (a .heights .now)) - a .start) = c .before .before .cut2 .ensures ∙ (λ i. min (a .count) (e i - a .start)) in
     let k : a .start + n - a .start ≡ n = omega arith in
     ap (λ (k : ℕ). take k (drop (a .start) (a .heights .now))) k ∙ cut-held (a .heights .now) (a .l) (a .start) (a .count) n is lt
 

@@ -36,7 +36,7 @@ returns-6 c = λ hs.
     let ar = c .before .before .before .area-of .ensures in
     let nr = c .before .before .number-of .ensures in
     node-answered _ (f .before .before .if2 .left) (f .if3 .left) (g .before .before .if4 .left) (g .if5 .left) _ (f .before .before .before .before .if1 .left) _ _ _
-    (c .seen-of .ensures) (h .held-in .ensures ∙ (λ i. min (ct i) (a .ynd .«link_count» - st i)))
+    (c .seen-of .ensures) (h .cut .ensures ∙ (λ i. min (ct i) (a .ynd .«link_count» - st i)))
     (c .before .junction-of .ensures ∙ (λ i. junctionOfCall (a .ynd) (a .nodes .now) (a .refs .now) (ar i) (nr i)))
 
 pub shown-node-spec : {M : Type 1} → statement M

@@ -13,7 +13,7 @@ returns-2 c = λ ns ls rs. values-no-entry _ _ (c .before .if2 .taken)
 returns-3 : tie.Need-returns-3
 returns-3 c = λ ns ls rs.
     let f = c .before .before .before .before .before in
-    c .part-held .ensures ∙ values-answered _ _ (f .before .if1 .left) (f .if2 .left) _ _ (c .before .before .value-start .ensures) (c .before .value-count .ensures)
+    c .part-held .ensures ∙ values-answered _ _ (f .before .if1 .left) (f .if2 .left) _ _ (c .before .before .value-start .ensures) (c .before .value-count .ensures .0)
 
 pub shown-values-spec : {M : Type 1} → statement M
 shown-values-spec =
@@ -34,6 +34,5 @@ shown-values-spec =
     (λ c κs. search needs)
     (λ c. search needs)
     (λ c κs. search needs)
-    (λ c. search needs)
     (λ c κs. search needs)
     returns-3)
