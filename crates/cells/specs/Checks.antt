@@ -22,6 +22,10 @@ use Rattle.cells.specs.declared.count.Counts.{Counts}
 use Rattle.cells.specs.declared.count.Counted.{Counted}
 use Rattle.cells.specs.declared.count.Counted.the-variants as counted
 
+-- Section 2: the root that reading goes by.
+abbrev pub rootRead : List ℕ → Root
+rootRead s = rootOf s
+
 -- ---- 2 and 1: the sections' sizes
 
 abbrev pub refuseIf : Bool → ℕ → ℕ → Answer → Answer
@@ -130,5 +134,5 @@ inArrays (found.Arrays p) next = next (p .nodes) (p .links) (p .junctions) (p .h
 unfoldable pub countOf : List ℕ → List ℕ → Counted
 countOf s g =
     after (sizesCheck (length s) (length g))
-    (inArrays (arraysFound (rootOf s) (length s) (length g)) λ n l j h r.
+    (inArrays (arraysFound (rootRead s) (length s) (length g)) λ n l j h r.
     arraysCheck (bytesOf n s g) (bytesOf l s g) (bytesOf j s g) (bytesOf h s g) (bytesOf r s g))

@@ -6,9 +6,9 @@ use lib.ListN.{length}
 use Rattle.numbers.specs.Steps.{unstep}
 use Rattle.records.specs.Bytes.{byteAt}
 use Rattle.records.specs.Sections.{arrayAt}
-use Rattle.records.specs.Root.{rootOf}
 use Rattle.records.specs.Records.{nodeAt, linkAt, junctionAt, refAt}
 use Rattle.cells.specs.Lists.{upTo}
+use Rattle.cells.specs.Checks.{rootRead}
 use Rattle.cells.specs.Cell.{Link, Node, NodeBody, Junction, Ref, Cell}
 use Rattle.records.specs.declared.root.Root.{Root}
 use Rattle.records.specs.declared.node.Node as raw-node
@@ -88,4 +88,4 @@ cellBy r s g =
     (arrayAt (r .junctions) (r .«junction_count») 12 s g) (arrayAt (r .heightmap) (r .«heightmap_count») 1 s g) (arrayAt (r .refs) (r .«ref_count») 8 s g)
 
 unfoldable pub fileCell : List ℕ → List ℕ → Cell
-fileCell s g = cellBy (rootOf s) s g
+fileCell s g = cellBy (rootRead s) s g

@@ -4,14 +4,13 @@ use mathlib.Core.List.{List, _++_}
 use lib.Dec.{ltb}
 use lib.ListN.{length, drop}
 use Rattle.records.specs.Bytes.{byteAt}
-use Rattle.records.specs.Root.{rootOf}
 use Rattle.records.specs.Sections.{bytesOf}
 use Rattle.records.specs.Records.{nodeAt, linkAt, junctionAt, refAt}
 use Rattle.records.specs.declared.root.Root.{Root}
 use Rattle.records.specs.declared.section.Part.{Part}
 use Rattle.cells.specs.Lists.{upTo, joinTo, sumTo}
 use Rattle.cells.specs.Words.{pathNode, pathLink, pathJunction, nodeWords, linkWords, junctionWords, refWords}
-use Rattle.cells.specs.Checks.{refuseIf, sizesCheck, arraysFound, arraysCheck, linksAt, valuesAt}
+use Rattle.cells.specs.Checks.{rootRead, refuseIf, sizesCheck, arraysFound, arraysCheck, linksAt, valuesAt}
 use Rattle.cells.specs.Memory.{Memory, memory, Left, refuse, unless}
 use Rattle.cells.specs.declared.ynd.Ynd.{Ynd}
 use Rattle.cells.specs.declared.count.Counts.{Counts}
@@ -99,5 +98,5 @@ readArrays root n l j h r m =
 unfoldable pub readOf : List ℕ → List ℕ → Memory → Left
 readOf s g m =
     unless (sizesCheck (length s) (length g)) m
-    (ifFound (arraysFound (rootOf s) (length s) (length g)) m λ n l j h r.
-    readArrays (rootOf s) (bytesOf n s g) (bytesOf l s g) (bytesOf j s g) (bytesOf h s g) (bytesOf r s g) m)
+    (ifFound (arraysFound (rootRead s) (length s) (length g)) m λ n l j h r.
+    readArrays (rootRead s) (bytesOf n s g) (bytesOf l s g) (bytesOf j s g) (bytesOf h s g) (bytesOf r s g) m)

@@ -4,6 +4,7 @@ ghost use mathlib.Core.List.{List};
 ghost use Prim.Native.Nat.{ℕ, _+_, _<_};
 ghost use Rattle.cells.specs.Memory.{memory, left};
 ghost use Rattle.cells.specs.Add.{roomForJunction, addJunction};
+use crate::junction::JunctionWords;
 use crate::junction::PathJunction;
 use crate::junction::junction_words;
 use crate::range::map_size;
@@ -46,7 +47,7 @@ fn room_for_junction(
 // A junction behind all others, its values behind all others.
 pub fn add_junction(
     ynd: Ynd,
-    junctions: &mut [[u32; 6]],
+    junctions: &mut [JunctionWords],
     heights: &mut [u8],
     j: PathJunction,
     values: &[u8],

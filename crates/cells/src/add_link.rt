@@ -5,6 +5,7 @@ ghost use Prim.Native.Nat.{ℕ, _+_, _<_, _≤_};
 ghost use lib.ListN.{length};
 ghost use Rattle.cells.specs.Memory.{memory, left};
 ghost use Rattle.cells.specs.AddLink.{heldAt, behind, atIn, inserted, nodesAfter, roomForLink, addLink, LinkRoom};
+use crate::link::LinkWords;
 use crate::link::PathLink;
 use crate::link::link_words;
 use crate::node::NodeWords;
@@ -30,7 +31,7 @@ fn behind_of(s: usize, e: usize, l: usize) -> usize
 }
 
 // The entries from `at` to l move up by one.
-fn insert(links: &mut [[u16; 4]], at: usize, l: usize, link: [u16; 4])
+fn insert(links: &mut [LinkWords], at: usize, l: usize, link: LinkWords)
     requires { ⌜ (at ≤ l) × (l < length (now links)) ⌝ }
     ensures { λ _. ⌜ now (links .exit) ≡ inserted at l link (now (links .entry)) ⌝ }
 {
@@ -48,12 +49,12 @@ fn insert(links: &mut [[u16; 4]], at: usize, l: usize, link: [u16; 4])
 // The link put in behind the e links of its node, and the ranges moved.
 fn place_link(
     nodes: &mut [NodeWords],
-    links: &mut [[u16; 4]],
+    links: &mut [LinkWords],
     n: usize,
     l: usize,
     p: usize,
     e: usize,
-    link: [u16; 4],
+    link: LinkWords,
 )
     requires { ⌜ LinkRoom n l p e (length (now nodes)) (length (now links)) × (e ≡ heldAt (now nodes) p l) ⌝ }
     ensures { λ _. ⌜ (now (nodes .exit) ≡ nodesAfter n l p (now (nodes .entry)))
@@ -92,7 +93,7 @@ fn room_for_link(n: usize, l: usize, p: usize, e: usize, nodes: usize, links: us
 pub fn add_link(
     ynd: Ynd,
     nodes: &mut [NodeWords],
-    links: &mut [[u16; 4]],
+    links: &mut [LinkWords],
     place: usize,
     link: PathLink,
 ) -> Outcome

@@ -4,6 +4,7 @@ ghost use mathlib.Core.List.{List};
 ghost use Prim.Native.Nat.{ℕ};
 ghost use Rattle.cells.specs.Memory.{memory, left};
 ghost use Rattle.cells.specs.Add.{addRef};
+use crate::junction_ref::RefWords;
 use crate::junction_ref::ref_words;
 use crate::recount::with_counts;
 use crate::room_check::room_for;
@@ -13,7 +14,7 @@ use numbers::answer::Answer;
 use records::junction_ref::NodeJunctionRef;
 
 // A ref behind all others.
-pub fn add_ref(ynd: Ynd, refs: &mut [[u16; 4]], r: NodeJunctionRef) -> Outcome
+pub fn add_ref(ynd: Ynd, refs: &mut [RefWords], r: NodeJunctionRef) -> Outcome
     ensures { λ o. ⌜ ((nodes links junctions : List (List ℕ)) (heights : List ℕ) →
         left o nodes links junctions heights (now (refs .exit)) ≡ addRef (memory ynd nodes links junctions heights (now (refs .entry))) r) ⌝ }
 {

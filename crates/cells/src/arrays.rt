@@ -1,7 +1,8 @@
-// Where the five arrays of a file lie: cause 3, in its order.
+// The root of a file, and where its five arrays lie: cause 3, in its order.
 ghost use mathlib.Core.Path.{_≡_};
-ghost use Rattle.cells.specs.Checks.{arraysFound};
+ghost use Rattle.cells.specs.Checks.{rootRead, arraysFound};
 use records::root::Root;
+use records::root::root_of;
 use records::section::Located;
 use records::section::Part;
 use records::section::locate;
@@ -17,6 +18,13 @@ pub struct Arrays {
 pub enum Found {
     Arrays(Arrays),
     Refused(u32, usize),
+}
+
+// The root that reading goes by.
+pub(crate) fn read_root(system: &[u8]) -> Root
+    ensures { λ r. ⌜ r ≡ rootRead (now (system .entry)) ⌝ }
+{
+    root_of(system)
 }
 
 pub(crate) fn find_arrays(root: Root, system: usize, graphics: usize) -> Found

@@ -8,6 +8,10 @@ ghost use Rattle.records.specs.Layout.{padded};
 ghost use Rattle.cells.specs.Entries.{valuesIn};
 ghost use Rattle.cells.specs.WriteChecks.{linksWithin, valuesWithin, accepted, checkNodes, checkJunctions};
 ghost use Rattle.cells.specs.Blocks.{linkRecord, linksRecords, refsBlock, heightsBlock, junctionsBlock, linksBlock, nodesBlock};
+use crate::junction::JunctionWords;
+use crate::junction_ref::RefWords;
+use crate::link::LinkWords;
+use crate::node::NodeWords;
 use crate::to_file::junction_record;
 use crate::to_file::link_record;
 use crate::to_file::node_record;
@@ -19,7 +23,7 @@ use records::layout::gap_for;
 use records::put::put_bytes;
 use records::put::put_zeros;
 
-fn put_refs(section: &mut [u8], at: usize, refs: &[[u16; 4]])
+fn put_refs(section: &mut [u8], at: usize, refs: &[RefWords])
     requires { ⌜ at + 8 * length (now refs) ≤ length (now section) ⌝ }
     ensures { λ _. ⌜ now (section .exit) ≡ put (now (section .entry)) at (refsBlock (now (refs .entry))) ⌝ }
 {
@@ -31,7 +35,7 @@ fn put_refs(section: &mut [u8], at: usize, refs: &[[u16; 4]])
     }
 }
 
-fn put_entries(section: &mut [u8], at: usize, links: &[[u16; 4]])
+fn put_entries(section: &mut [u8], at: usize, links: &[LinkWords])
     requires { ⌜ at + 8 * length (now links) ≤ length (now section) ⌝ }
     ensures { λ _. ⌜ now (section .exit) ≡ put (now (section .entry)) at (joined linkRecord (now (links .entry))) ⌝ }
 {
@@ -44,7 +48,7 @@ fn put_entries(section: &mut [u8], at: usize, links: &[[u16; 4]])
 }
 
 // The links of the node with these words. Answers where they end.
-fn put_links_of(section: &mut [u8], at: usize, w: [u32; 8], links: &[[u16; 4]]) -> usize
+fn put_links_of(section: &mut [u8], at: usize, w: NodeWords, links: &[LinkWords]) -> usize
     requires { ⌜ at + length (linksRecords (now links) w) ≤ length (now section) ⌝ }
     ensures { λ r. ⌜ (r ≡ at + length (linksRecords (now (links .entry)) w))
         × (now (section .exit) ≡ put (now (section .entry)) at (linksRecords (now (links .entry)) w)) ⌝ }
@@ -58,7 +62,7 @@ fn put_links_of(section: &mut [u8], at: usize, w: [u32; 8], links: &[[u16; 4]]) 
     at + 8 * count
 }
 
-fn put_links(section: &mut [u8], at: usize, nodes: &[[u32; 8]], links: &[[u16; 4]])
+fn put_links(section: &mut [u8], at: usize, nodes: &[NodeWords], links: &[LinkWords])
     requires { ⌜ at + length (linksBlock (now links) (now nodes)) ≤ length (now section) ⌝ }
     ensures { λ _. ⌜ now (section .exit) ≡ put (now (section .entry)) at (linksBlock (now (links .entry)) (now (nodes .entry))) ⌝ }
 {
@@ -71,7 +75,7 @@ fn put_links(section: &mut [u8], at: usize, nodes: &[[u32; 8]], links: &[[u16; 4
 }
 
 // The heightmap of the junction with these words. Answers where it ends.
-fn put_values_of(section: &mut [u8], at: usize, w: [u32; 6], heights: &[u8]) -> usize
+fn put_values_of(section: &mut [u8], at: usize, w: JunctionWords, heights: &[u8]) -> usize
     requires { ⌜ at + length (valuesIn (now heights) w) ≤ length (now section) ⌝ }
     ensures { λ r. ⌜ (r ≡ at + length (valuesIn (now (heights .entry)) w))
         × (now (section .exit) ≡ put (now (section .entry)) at (valuesIn (now (heights .entry)) w)) ⌝ }
@@ -85,7 +89,7 @@ fn put_values_of(section: &mut [u8], at: usize, w: [u32; 6], heights: &[u8]) -> 
     at + count
 }
 
-fn put_heights(section: &mut [u8], at: usize, junctions: &[[u32; 6]], heights: &[u8])
+fn put_heights(section: &mut [u8], at: usize, junctions: &[JunctionWords], heights: &[u8])
     requires { ⌜ at + length (heightsBlock (now heights) (now junctions)) ≤ length (now section) ⌝ }
     ensures { λ _. ⌜ now (section .exit) ≡ put (now (section .entry)) at (heightsBlock (now (heights .entry)) (now (junctions .entry))) ⌝ }
 {
@@ -97,7 +101,7 @@ fn put_heights(section: &mut [u8], at: usize, junctions: &[[u32; 6]], heights: &
     }
 }
 
-fn put_junctions(section: &mut [u8], at: usize, junctions: &[[u32; 6]], heights: &[u8])
+fn put_junctions(section: &mut [u8], at: usize, junctions: &[JunctionWords], heights: &[u8])
     requires { ⌜ (at + 12 * length (now junctions) ≤ length (now section))
         × (accepted (checkJunctions (valuesWithin (length (now heights))) 0 0 (now junctions)) ≡ true) ⌝ }
     ensures { λ _. ⌜ now (section .exit) ≡ put (now (section .entry)) at (junctionsBlock (now (heights .entry)) (now (junctions .entry))) ⌝ }
@@ -112,7 +116,7 @@ fn put_junctions(section: &mut [u8], at: usize, junctions: &[[u32; 6]], heights:
     }
 }
 
-fn put_nodes(section: &mut [u8], at: usize, nodes: &[[u32; 8]], links: &[[u16; 4]])
+fn put_nodes(section: &mut [u8], at: usize, nodes: &[NodeWords], links: &[LinkWords])
     requires { ⌜ (at + 40 * length (now nodes) ≤ length (now section))
         × (accepted (checkNodes (linksWithin (length (now links))) 0 0 (now nodes)) ≡ true) ⌝ }
     ensures { λ _. ⌜ now (section .exit) ≡ put (now (section .entry)) at (nodesBlock (now (links .entry)) (now (nodes .entry))) ⌝ }
@@ -130,7 +134,7 @@ fn put_nodes(section: &mut [u8], at: usize, nodes: &[[u32; 8]], links: &[[u16; 4
 
 // ---- a block: zeros up to the next multiple of 16, then the array. Each answers where it ends.
 
-pub(crate) fn refs_block(section: &mut [u8], at: usize, refs: &[[u16; 4]]) -> usize
+pub(crate) fn refs_block(section: &mut [u8], at: usize, refs: &[RefWords]) -> usize
     requires { ⌜ at + length (padded at (refsBlock (now refs))) ≤ length (now section) ⌝ }
     ensures { λ r. ⌜ (r ≡ at + length (padded at (refsBlock (now (refs .entry)))))
         × (now (section .exit) ≡ put (now (section .entry)) at (padded at (refsBlock (now (refs .entry))))) ⌝ }
@@ -145,7 +149,7 @@ pub(crate) fn refs_block(section: &mut [u8], at: usize, refs: &[[u16; 4]]) -> us
 pub(crate) fn heights_block(
     section: &mut [u8],
     at: usize,
-    junctions: &[[u32; 6]],
+    junctions: &[JunctionWords],
     heights: &[u8],
     size: usize,
 ) -> usize
@@ -163,7 +167,7 @@ pub(crate) fn heights_block(
 pub(crate) fn junctions_block(
     section: &mut [u8],
     at: usize,
-    junctions: &[[u32; 6]],
+    junctions: &[JunctionWords],
     heights: &[u8],
 ) -> usize
     requires { ⌜ (at + length (padded at (junctionsBlock (now heights) (now junctions))) ≤ length (now section))
@@ -181,8 +185,8 @@ pub(crate) fn junctions_block(
 pub(crate) fn links_block(
     section: &mut [u8],
     at: usize,
-    nodes: &[[u32; 8]],
-    links: &[[u16; 4]],
+    nodes: &[NodeWords],
+    links: &[LinkWords],
     size: usize,
 ) -> usize
     requires { ⌜ (at + length (padded at (linksBlock (now links) (now nodes))) ≤ length (now section))
@@ -199,8 +203,8 @@ pub(crate) fn links_block(
 pub(crate) fn nodes_block(
     section: &mut [u8],
     at: usize,
-    nodes: &[[u32; 8]],
-    links: &[[u16; 4]],
+    nodes: &[NodeWords],
+    links: &[LinkWords],
 ) -> usize
     requires { ⌜ (at + length (padded at (nodesBlock (now links) (now nodes))) ≤ length (now section))
         × (accepted (checkNodes (linksWithin (length (now links))) 0 0 (now nodes)) ≡ true) ⌝ }

@@ -3,12 +3,12 @@ ghost use mathlib.Core.Path.{_≡_};
 ghost use Rattle.cells.specs.Checks.{countOf};
 use crate::arrays::Found;
 use crate::arrays::find_arrays;
+use crate::arrays::read_root;
 use crate::checks::check_arrays;
 use crate::checks::check_sizes;
 use crate::checks::counted_of;
 use crate::checks::found_answer;
 use numbers::answer::Answer;
-use records::root::root_of;
 use records::section::named_part;
 
 pub struct Counts {
@@ -38,7 +38,7 @@ pub fn count<'a>(system: &'a [u8], graphics: &'a [u8]) -> Counted
     let Answer::Done = a else {
         return counted_of(a);
     };
-    let root = root_of(system);
+    let root = read_root(system);
     let b = find_arrays(root, system.len(), graphics.len());
     let Found::Arrays(p) = b else {
         return counted_of(found_answer(b));

@@ -1,6 +1,7 @@
 // The entry of a lent list that a place names.
 ghost use mathlib.Core.Path.{_≡_};
 ghost use Rattle.cells.specs.Edit.{entryAt, rangeEntry, linkEntry, sizedEntry, heightEntry};
+use crate::junction::JunctionWords;
 use crate::node::NodeWords;
 use crate::range::Range;
 use crate::range::held_in;
@@ -74,7 +75,7 @@ pub(crate) fn link_entry(
 // Value k of the junction at a place.
 pub(crate) fn height_entry(
     ynd: Ynd,
-    junctions: &[[u32; 6]],
+    junctions: &[JunctionWords],
     heights: usize,
     place: usize,
     k: usize,

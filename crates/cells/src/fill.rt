@@ -15,9 +15,13 @@ use crate::checks::values_start;
 use crate::from_file::path_junction;
 use crate::from_file::path_link;
 use crate::from_file::path_node;
+use crate::junction::JunctionWords;
 use crate::junction::junction_words;
+use crate::junction_ref::RefWords;
 use crate::junction_ref::ref_words;
+use crate::link::LinkWords;
 use crate::link::link_words;
+use crate::node::NodeWords;
 use crate::node::node_words;
 use records::bytes::byte_at;
 use records::junction::junction_at;
@@ -26,7 +30,7 @@ use records::link::link_at;
 use records::node::node_at;
 
 // Links `from` on of the file's list, into the entries from `to` on.
-fn copy_links(l: &[u8], links: &mut [[u16; 4]], from: usize, to: usize, count: usize)
+fn copy_links(l: &[u8], links: &mut [LinkWords], from: usize, to: usize, count: usize)
     requires { ⌜ (from < 65536) × (count < 32) × (to + count ≤ length (now links)) ⌝ }
     ensures { λ _. ⌜ now (links .exit) ≡ take to (now (links .entry)) ++ linksFrom (now (l .entry)) from count ++ drop (to + count) (now (links .entry)) ⌝ }
 {
@@ -52,8 +56,8 @@ fn copy_values(h: &[u8], heights: &mut [u8], from: usize, to: usize, count: usiz
 fn fill_node(
     n: &[u8],
     l: &[u8],
-    nodes: &mut [[u32; 8]],
-    links: &mut [[u16; 4]],
+    nodes: &mut [NodeWords],
+    links: &mut [LinkWords],
     i: usize,
     held: usize,
 ) -> usize
@@ -74,8 +78,8 @@ fn fill_node(
 pub(crate) fn fill_nodes(
     n: &[u8],
     l: &[u8],
-    nodes: &mut [[u32; 8]],
-    links: &mut [[u16; 4]],
+    nodes: &mut [NodeWords],
+    links: &mut [LinkWords],
     count: usize,
 )
     requires { ⌜ (count ≤ 65536) × (count ≤ length (now nodes)) × (sumTo (linksAt (now n)) count ≤ length (now links)) ⌝ }
@@ -94,7 +98,7 @@ pub(crate) fn fill_nodes(
 fn fill_junction(
     j: &[u8],
     h: &[u8],
-    junctions: &mut [[u32; 6]],
+    junctions: &mut [JunctionWords],
     heights: &mut [u8],
     i: usize,
     held: usize,
@@ -116,7 +120,7 @@ fn fill_junction(
 pub(crate) fn fill_junctions(
     j: &[u8],
     h: &[u8],
-    junctions: &mut [[u32; 6]],
+    junctions: &mut [JunctionWords],
     heights: &mut [u8],
     count: usize,
 )
@@ -132,7 +136,7 @@ pub(crate) fn fill_junctions(
     }
 }
 
-pub(crate) fn fill_refs(r: &[u8], refs: &mut [[u16; 4]], count: usize)
+pub(crate) fn fill_refs(r: &[u8], refs: &mut [RefWords], count: usize)
     requires { ⌜ (count ≤ 16777216) × (count ≤ length (now refs)) ⌝ }
     ensures { λ _. ⌜ now (refs .exit) ≡ upTo (refIn (now (r .entry))) count ++ drop count (now (refs .entry)) ⌝ }
 {

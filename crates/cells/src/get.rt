@@ -6,9 +6,12 @@ use crate::entry::Entry;
 use crate::entry::entry_at;
 use crate::entry::height_entry;
 use crate::entry::link_entry;
+use crate::junction::JunctionWords;
 use crate::junction::PathJunction;
 use crate::junction::path_junction_of;
+use crate::junction_ref::RefWords;
 use crate::junction_ref::ref_of;
+use crate::link::LinkWords;
 use crate::link::PathLink;
 use crate::link::link_of;
 use crate::node::NodeWords;
@@ -56,7 +59,7 @@ pub fn get_node(ynd: Ynd, nodes: &[NodeWords], place: usize) -> GotNode
 pub fn get_link(
     ynd: Ynd,
     nodes: &[NodeWords],
-    links: &[[u16; 4]],
+    links: &[LinkWords],
     place: usize,
     k: usize,
 ) -> GotLink
@@ -69,7 +72,7 @@ pub fn get_link(
     }
 }
 
-pub fn get_ref(ynd: Ynd, refs: &[[u16; 4]], place: usize) -> GotRef
+pub fn get_ref(ynd: Ynd, refs: &[RefWords], place: usize) -> GotRef
     ensures { λ r. ⌜ r ≡ gotRef (refEntry ynd (now (refs .entry)) place) (now (refs .entry)) ⌝ }
 {
     let e = entry_at(ynd.ref_count as usize, refs.len(), 4, place);
@@ -79,7 +82,7 @@ pub fn get_ref(ynd: Ynd, refs: &[[u16; 4]], place: usize) -> GotRef
     }
 }
 
-pub fn get_junction(ynd: Ynd, junctions: &[[u32; 6]], place: usize) -> GotJunction
+pub fn get_junction(ynd: Ynd, junctions: &[JunctionWords], place: usize) -> GotJunction
     ensures { λ r. ⌜ r ≡ gotJunction (junctionEntry ynd (now (junctions .entry)) place) (now (junctions .entry)) ⌝ }
 {
     let e = entry_at(ynd.junction_count as usize, junctions.len(), 2, place);
@@ -92,7 +95,7 @@ pub fn get_junction(ynd: Ynd, junctions: &[[u32; 6]], place: usize) -> GotJuncti
 // Value k of the junction at a place.
 pub fn get_height(
     ynd: Ynd,
-    junctions: &[[u32; 6]],
+    junctions: &[JunctionWords],
     heights: &[u8],
     place: usize,
     k: usize,

@@ -22,7 +22,7 @@ pub struct PathJunction {
 }
 
 // The junction that six words hold.
-pub fn path_junction_of(w: [u32; 6]) -> PathJunction
+pub fn path_junction_of(w: JunctionWords) -> PathJunction
     ensures { λ r. ⌜ r ≡ toJunction w ⌝ }
 {
     let position = Vec2 {
@@ -40,7 +40,7 @@ pub fn path_junction_of(w: [u32; 6]) -> PathJunction
 }
 
 // The six words that hold a junction.
-pub fn junction_words(j: PathJunction) -> [u32; 6]
+pub fn junction_words(j: PathJunction) -> JunctionWords
     ensures { λ r. ⌜ r ≡ junctionWords j ⌝ }
 {
     let p = j.position;

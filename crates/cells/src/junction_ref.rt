@@ -3,8 +3,11 @@ use records::junction_ref::NodeJunctionRef;
 ghost use mathlib.Core.Path.{_≡_};
 ghost use Rattle.cells.specs.Words.{toRef, refWords};
 
+// The numbers of a ref.
+pub type RefWords = [u16; 4];
+
 // The ref that four numbers hold.
-pub fn ref_of(w: [u16; 4]) -> NodeJunctionRef
+pub fn ref_of(w: RefWords) -> NodeJunctionRef
     ensures { λ r. ⌜ r ≡ toRef w ⌝ }
 {
     NodeJunctionRef {
@@ -16,7 +19,7 @@ pub fn ref_of(w: [u16; 4]) -> NodeJunctionRef
 }
 
 // The four numbers that hold a ref.
-pub fn ref_words(r: NodeJunctionRef) -> [u16; 4]
+pub fn ref_words(r: NodeJunctionRef) -> RefWords
     ensures { λ w. ⌜ w ≡ refWords r ⌝ }
 {
     [r.area_id, r.node_id, r.junction_id, r.unk0]

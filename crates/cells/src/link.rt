@@ -18,7 +18,7 @@ pub struct PathLink {
 }
 
 // The link that four numbers hold.
-pub fn link_of(w: [u16; 4]) -> PathLink
+pub fn link_of(w: LinkWords) -> PathLink
     ensures { λ r. ⌜ r ≡ toLink w ⌝ }
 {
     PathLink {
@@ -32,7 +32,7 @@ pub fn link_of(w: [u16; 4]) -> PathLink
 }
 
 // The four numbers that hold a link.
-pub fn link_words(l: PathLink) -> [u16; 4]
+pub fn link_words(l: PathLink) -> LinkWords
     ensures { λ r. ⌜ r ≡ linkWords l ⌝ }
 {
     [

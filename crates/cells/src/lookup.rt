@@ -7,6 +7,7 @@ ghost use Rattle.cells.specs.CellOf.{refOf};
 ghost use Rattle.cells.specs.Cell.{refFor};
 ghost use Rattle.cells.specs.Lookup.{refMatches};
 ghost use Rattle.cells.specs.LookupCall.{areaIdCall, firstIn, findIn, nodeCall, placeOf, refIn, below, junctionOfCall};
+use crate::junction_ref::RefWords;
 use crate::node::NodeWords;
 use crate::node_words::area_of;
 use crate::node_words::number_of;
@@ -87,7 +88,7 @@ fn ref_for(own: u16, area: u16, area_id: u16) -> bool
     area == area_id
 }
 
-fn ref_matches(w: [u16; 4], own: u16, area_id: u16, node_id: u16) -> bool
+fn ref_matches(w: RefWords, own: u16, area_id: u16, node_id: u16) -> bool
     ensures { λ r. ⌜ r ≡ refMatches own «area_id» «node_id» (refOf w) ⌝ }
 {
     if ref_for(own, w[0], area_id) {
@@ -96,14 +97,14 @@ fn ref_matches(w: [u16; 4], own: u16, area_id: u16, node_id: u16) -> bool
     false
 }
 
-fn junction_word(w: [u16; 4]) -> usize
+fn junction_word(w: RefWords) -> usize
     ensures { λ r. ⌜ r ≡ getD w 2 0 ⌝ }
 {
     w[2] as usize
 }
 
 // The junction number of the first of r refs that names the node.
-fn first_ref(refs: &[[u16; 4]], r: usize, own: u16, area_id: u16, node_id: u16) -> Place
+fn first_ref(refs: &[RefWords], r: usize, own: u16, area_id: u16, node_id: u16) -> Place
     requires { ⌜ r ≤ length (now refs) ⌝ }
     ensures { λ p. ⌜ p ≡ placeOf (refIn own (take r (now (refs .entry))) «area_id» «node_id») ⌝ }
 {
@@ -139,7 +140,7 @@ fn below_of(p: Place, count: usize) -> Place
 pub fn junction_of(
     ynd: Ynd,
     nodes: &[NodeWords],
-    refs: &[[u16; 4]],
+    refs: &[RefWords],
     area_id: u16,
     node_id: u16,
 ) -> Place

@@ -36,7 +36,7 @@ pub struct PathNode {
 }
 
 // The node that eight words hold.
-pub fn node_of(w: [u32; 8]) -> PathNode
+pub fn node_of(w: NodeWords) -> PathNode
     ensures { λ r. ⌜ r ≡ toNode w ⌝ }
 {
     let position = Vec3 {
@@ -61,7 +61,7 @@ pub fn node_of(w: [u32; 8]) -> PathNode
 }
 
 // The eight words that hold a node.
-pub fn node_words(n: PathNode) -> [u32; 8]
+pub fn node_words(n: PathNode) -> NodeWords
     ensures { λ r. ⌜ r ≡ nodeWords n ⌝ }
 {
     let p = n.position;

@@ -6,9 +6,12 @@ use crate::entry::entry_at;
 use crate::entry::height_entry;
 use crate::entry::link_entry;
 use crate::entry::sized_entry;
+use crate::junction::JunctionWords;
 use crate::junction::PathJunction;
 use crate::junction::junction_words;
+use crate::junction_ref::RefWords;
 use crate::junction_ref::ref_words;
+use crate::link::LinkWords;
 use crate::link::PathLink;
 use crate::link::link_words;
 use crate::node::NodeWords;
@@ -70,7 +73,7 @@ pub fn set_position(ynd: Ynd, nodes: &mut [NodeWords], place: usize, p: Vec3) ->
 pub fn put_link(
     ynd: Ynd,
     nodes: &[NodeWords],
-    links: &mut [[u16; 4]],
+    links: &mut [LinkWords],
     place: usize,
     k: usize,
     l: PathLink,
@@ -87,7 +90,7 @@ pub fn put_link(
     }
 }
 
-pub fn put_ref(ynd: Ynd, refs: &mut [[u16; 4]], place: usize, r: NodeJunctionRef) -> Answer
+pub fn put_ref(ynd: Ynd, refs: &mut [RefWords], place: usize, r: NodeJunctionRef) -> Answer
     ensures { λ a. ⌜ stored a (now (refs .exit)) ≡ putRef ynd (now (refs .entry)) place r ⌝ }
 {
     let e = entry_at(ynd.ref_count as usize, refs.len(), 4, place);
@@ -101,7 +104,12 @@ pub fn put_ref(ynd: Ynd, refs: &mut [[u16; 4]], place: usize, r: NodeJunctionRef
 }
 
 // Stores every field but where the heightmap starts. It keeps as many values.
-pub fn put_junction(ynd: Ynd, junctions: &mut [[u32; 6]], place: usize, j: PathJunction) -> Answer
+pub fn put_junction(
+    ynd: Ynd,
+    junctions: &mut [JunctionWords],
+    place: usize,
+    j: PathJunction,
+) -> Answer
     ensures { λ r. ⌜ stored r (now (junctions .exit)) ≡ putJunction ynd (now (junctions .entry)) place j ⌝ }
 {
     let n = ynd.junction_count as usize;
@@ -126,7 +134,7 @@ pub fn put_junction(ynd: Ynd, junctions: &mut [[u32; 6]], place: usize, j: PathJ
 // Value k of the junction at a place.
 pub fn put_height(
     ynd: Ynd,
-    junctions: &[[u32; 6]],
+    junctions: &[JunctionWords],
     heights: &mut [u8],
     place: usize,
     k: usize,

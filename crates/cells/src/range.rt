@@ -71,7 +71,7 @@ pub(crate) fn link_range(nodes: &[NodeWords], place: usize) -> Range
 }
 
 // The values of the junction at a place, likewise.
-pub(crate) fn value_range(junctions: &[[u32; 6]], place: usize) -> Range
+pub(crate) fn value_range(junctions: &[JunctionWords], place: usize) -> Range
     ensures { λ r. ⌜ r ≡ valueRange (now (junctions .entry)) place ⌝ }
 {
     if junctions.len() <= place {

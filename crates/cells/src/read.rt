@@ -6,6 +6,7 @@ ghost use Rattle.cells.specs.Memory.{memory, left};
 ghost use Rattle.cells.specs.Read.{roomCheck, cellRead, readArrays, readOf};
 use crate::arrays::Found;
 use crate::arrays::find_arrays;
+use crate::arrays::read_root;
 use crate::checks::check_arrays;
 use crate::checks::check_sizes;
 use crate::checks::counted_answer;
@@ -15,11 +16,14 @@ use crate::count::Counts;
 use crate::fill::fill_junctions;
 use crate::fill::fill_nodes;
 use crate::fill::fill_refs;
+use crate::junction::JunctionWords;
+use crate::junction_ref::RefWords;
+use crate::link::LinkWords;
+use crate::node::NodeWords;
 use crate::ynd::Outcome;
 use crate::ynd::Ynd;
 use numbers::answer::Answer;
 use records::root::Root;
-use records::root::root_of;
 use records::section::named_part;
 
 // 7: the memory lent holds what is read.
@@ -78,11 +82,11 @@ fn read_arrays(
     j: &[u8],
     h: &[u8],
     r: &[u8],
-    nodes: &mut [[u32; 8]],
-    links: &mut [[u16; 4]],
-    junctions: &mut [[u32; 6]],
+    nodes: &mut [NodeWords],
+    links: &mut [LinkWords],
+    junctions: &mut [JunctionWords],
     heights: &mut [u8],
-    refs: &mut [[u16; 4]],
+    refs: &mut [RefWords],
 ) -> Outcome
     requires { ⌜ length (now r) ≤ 16777216 ⌝ }
     ensures { λ a. ⌜ left a (now (nodes .exit)) (now (links .exit)) (now (junctions .exit)) (now (heights .exit)) (now (refs .exit))
@@ -120,11 +124,11 @@ pub fn read<'a>(
     ynd: Ynd,
     system: &'a [u8],
     graphics: &'a [u8],
-    nodes: &mut [[u32; 8]],
-    links: &mut [[u16; 4]],
-    junctions: &mut [[u32; 6]],
+    nodes: &mut [NodeWords],
+    links: &mut [LinkWords],
+    junctions: &mut [JunctionWords],
     heights: &mut [u8],
-    refs: &mut [[u16; 4]],
+    refs: &mut [RefWords],
 ) -> Outcome
     ensures { λ a. ⌜ left a (now (nodes .exit)) (now (links .exit)) (now (junctions .exit)) (now (heights .exit)) (now (refs .exit))
         ≡ readOf (now (system .entry)) (now (graphics .entry))
@@ -134,7 +138,7 @@ pub fn read<'a>(
     let Answer::Done = a else {
         return Outcome { answer: a, ynd };
     };
-    let root = root_of(system);
+    let root = read_root(system);
     let b = find_arrays(root, system.len(), graphics.len());
     let Found::Arrays(p) = b else {
         let answer = found_answer(b);

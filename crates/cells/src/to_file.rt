@@ -5,11 +5,15 @@ ghost use Rattle.cells.specs.Entries.{fileNode, fileLink, fileJunction};
 ghost use Rattle.cells.specs.Blocks.{linkRecord, junctionRecord, refRecord};
 ghost use Rattle.cells.specs.Words.{toNode};
 ghost use Rattle.records.specs.Records.{nodeBytes};
+use crate::junction::JunctionWords;
 use crate::junction::PathJunction;
 use crate::junction::path_junction_of;
+use crate::junction_ref::RefWords;
 use crate::junction_ref::ref_of;
+use crate::link::LinkWords;
 use crate::link::PathLink;
 use crate::link::link_of;
+use crate::node::NodeWords;
 use crate::node::PathNode;
 use crate::node::node_of;
 use numbers::position::quantise;
@@ -87,26 +91,26 @@ fn file_junction(j: PathJunction, start: u16) -> NodeJunction
 
 // ---- the bytes of an entry's record
 
-pub(crate) fn node_record(w: [u32; 8], start: u16, count: u8) -> [u8; 40]
+pub(crate) fn node_record(w: NodeWords, start: u16, count: u8) -> [u8; 40]
     requires { ⌜ count ≤ 31 ⌝ }
     ensures { λ r. ⌜ r ≡ nodeBytes (fileNode start count (toNode w)) ⌝ }
 {
     node_bytes(file_node(node_of(w), start, count))
 }
 
-pub(crate) fn link_record(w: [u16; 4]) -> [u8; 8]
+pub(crate) fn link_record(w: LinkWords) -> [u8; 8]
     ensures { λ r. ⌜ r ≡ linkRecord w ⌝ }
 {
     link_bytes(file_link(link_of(w)))
 }
 
-pub(crate) fn junction_record(w: [u32; 6], start: u16) -> [u8; 12]
+pub(crate) fn junction_record(w: JunctionWords, start: u16) -> [u8; 12]
     ensures { λ r. ⌜ r ≡ junctionRecord start w ⌝ }
 {
     junction_bytes(file_junction(path_junction_of(w), start))
 }
 
-pub(crate) fn ref_record(w: [u16; 4]) -> [u8; 8]
+pub(crate) fn ref_record(w: RefWords) -> [u8; 8]
     ensures { λ r. ⌜ r ≡ refRecord w ⌝ }
 {
     ref_bytes(ref_of(w))

@@ -18,6 +18,10 @@ use crate::blocks::nodes_block;
 use crate::blocks::refs_block;
 use crate::count::Counted;
 use crate::count::Counts;
+use crate::junction::JunctionWords;
+use crate::junction_ref::RefWords;
+use crate::link::LinkWords;
+use crate::node::NodeWords;
 use crate::room::lacking;
 use crate::write_checks::write_counts;
 use crate::ynd::Ynd;
@@ -88,11 +92,11 @@ fn root_for(ynd: Ynd, k: Counts, places: Places) -> Root
 fn fill(
     section: &mut [u8],
     root: Root,
-    nodes: &[[u32; 8]],
-    links: &[[u16; 4]],
-    junctions: &[[u32; 6]],
+    nodes: &[NodeWords],
+    links: &[LinkWords],
+    junctions: &[JunctionWords],
     heights: &[u8],
-    refs: &[[u16; 4]],
+    refs: &[RefWords],
     lsize: usize,
     hsize: usize,
 )
@@ -116,11 +120,11 @@ fn fill(
 fn store(
     ynd: Ynd,
     k: Counts,
-    nodes: &[[u32; 8]],
-    links: &[[u16; 4]],
-    junctions: &[[u32; 6]],
+    nodes: &[NodeWords],
+    links: &[LinkWords],
+    junctions: &[JunctionWords],
     heights: &[u8],
-    refs: &[[u16; 4]],
+    refs: &[RefWords],
     section: &mut [u8],
 ) -> Written
     requires { ⌜ (writeCounts (now nodes) (now links) (now junctions) (now heights) (now refs) ≡ Held k)
@@ -161,11 +165,11 @@ pub(crate) fn not_written(c: Counted) -> Written
 fn write_held(
     ynd: Ynd,
     lack: usize,
-    nodes: &[[u32; 8]],
-    links: &[[u16; 4]],
-    junctions: &[[u32; 6]],
+    nodes: &[NodeWords],
+    links: &[LinkWords],
+    junctions: &[JunctionWords],
     heights: &[u8],
-    refs: &[[u16; 4]],
+    refs: &[RefWords],
     section: &mut [u8],
 ) -> Written
     requires { ⌜ (length (now nodes) < 4294967296) × (length (now junctions) < 4294967296) ⌝ }
@@ -194,11 +198,11 @@ pub(crate) fn least(count: u32, len: usize) -> usize
 // Writes the cell that stands in the lists lent.
 pub fn write(
     ynd: Ynd,
-    nodes: &[[u32; 8]],
-    links: &[[u16; 4]],
-    junctions: &[[u32; 6]],
+    nodes: &[NodeWords],
+    links: &[LinkWords],
+    junctions: &[JunctionWords],
     heights: &[u8],
-    refs: &[[u16; 4]],
+    refs: &[RefWords],
     section: &mut [u8],
 ) -> Written
     ensures { λ w. ⌜ left w (now (section .exit))

@@ -7,6 +7,10 @@ use crate::checks::refused;
 use crate::count::Counted;
 use crate::count::Counts;
 use crate::count::Total;
+use crate::junction::JunctionWords;
+use crate::junction_ref::RefWords;
+use crate::link::LinkWords;
+use crate::node::NodeWords;
 use crate::range::cut;
 use crate::range::link_count;
 use crate::range::link_start;
@@ -20,7 +24,7 @@ pub(crate) fn wide(x: u32) -> usize
 }
 
 // How many of `pool` links a node's words name.
-pub(crate) fn links_within(w: [u32; 8], pool: usize) -> usize
+pub(crate) fn links_within(w: NodeWords, pool: usize) -> usize
     ensures { λ r. ⌜ r ≡ linksWithin pool w ⌝ }
 {
     let count = link_count(w) as usize;
@@ -29,14 +33,14 @@ pub(crate) fn links_within(w: [u32; 8], pool: usize) -> usize
 }
 
 // How many of `pool` heightmap bytes a junction's words name.
-pub(crate) fn values_within(w: [u32; 6], pool: usize) -> usize
+pub(crate) fn values_within(w: JunctionWords, pool: usize) -> usize
     ensures { λ r. ⌜ (r ≡ valuesWithin pool w) × (r < 65536) ⌝ }
 {
     let start = wide(value_start(w));
     cut(start, value_count(w), pool)
 }
 
-pub(crate) fn check_nodes(nodes: &[[u32; 8]], pool: usize) -> Total
+pub(crate) fn check_nodes(nodes: &[NodeWords], pool: usize) -> Total
     ensures { λ r. ⌜ r ≡ checkNodes (linksWithin pool) 0 0 (now (nodes .entry)) ⌝ }
 {
     let mut before: usize = 0;
@@ -55,7 +59,7 @@ pub(crate) fn check_nodes(nodes: &[[u32; 8]], pool: usize) -> Total
     Total::Sum(before)
 }
 
-pub(crate) fn check_junctions(junctions: &[[u32; 6]], pool: usize) -> Total
+pub(crate) fn check_junctions(junctions: &[JunctionWords], pool: usize) -> Total
     ensures { λ r. ⌜ r ≡ checkJunctions (valuesWithin pool) 0 0 (now (junctions .entry)) ⌝ }
 {
     let mut before: usize = 0;
@@ -72,11 +76,11 @@ pub(crate) fn check_junctions(junctions: &[[u32; 6]], pool: usize) -> Total
 
 // 8 to 11, of the cell whose entries these are. Else how much there is to write.
 pub(crate) fn write_counts(
-    nodes: &[[u32; 8]],
-    links: &[[u16; 4]],
-    junctions: &[[u32; 6]],
+    nodes: &[NodeWords],
+    links: &[LinkWords],
+    junctions: &[JunctionWords],
     heights: &[u8],
-    refs: &[[u16; 4]],
+    refs: &[RefWords],
 ) -> Counted
     ensures { λ r. ⌜ r ≡ writeCounts (now (nodes .entry)) (now (links .entry)) (now (junctions .entry)) (now (heights .entry)) (now (refs .entry)) ⌝ }
 {

@@ -15,6 +15,10 @@ ghost use Rattle.cells.specs.BackAnswer.{backAnswer, both};
 use crate::count::Counted;
 use crate::count::Counts;
 use crate::count::Total;
+use crate::junction::JunctionWords;
+use crate::junction_ref::RefWords;
+use crate::link::LinkWords;
+use crate::node::NodeWords;
 use crate::range::value_count;
 use crate::read::check_room;
 use crate::read::read;
@@ -37,7 +41,7 @@ pub struct WroteRead {
 }
 
 // 5, as reading back finds it in `total` written heightmap bytes. Else how many values are read.
-fn check_values(junctions: &[[u32; 6]], heights: &[u8], total: usize) -> Total
+fn check_values(junctions: &[JunctionWords], heights: &[u8], total: usize) -> Total
     requires { ⌜ (length (now junctions) ≤ 4096) × (total ≡ length (heightsBlock (now heights) (now junctions))) × (total ≤ 130560) ⌝ }
     ensures { λ r. ⌜ r ≡ totalOf (scan 5 (lacks (now (heights .entry)) (now (junctions .entry))) 0 (length (now (junctions .entry))))
         (sumTo (areaAt (now (junctions .entry))) (length (now (junctions .entry)))) ⌝ }
@@ -62,7 +66,7 @@ fn back_check(
     k: Counts,
     total: usize,
     lent: Counts,
-    junctions: &[[u32; 6]],
+    junctions: &[JunctionWords],
     heights: &[u8],
 ) -> Answer
     requires { ⌜ (k .junctions ≡ length (now junctions)) × (k .heights ≡ length (heightsBlock (now heights) (now junctions))) × (k .heights ≤ 130560) ⌝ }
@@ -101,11 +105,11 @@ fn back_check(
 fn answer_held(
     ynd: Ynd,
     lent: Counts,
-    nodes: &[[u32; 8]],
-    links: &[[u16; 4]],
-    junctions: &[[u32; 6]],
+    nodes: &[NodeWords],
+    links: &[LinkWords],
+    junctions: &[JunctionWords],
     heights: &[u8],
-    refs: &[[u16; 4]],
+    refs: &[RefWords],
     section: usize,
 ) -> Written
     requires { ⌜ (length (now nodes) < 4294967296) × (length (now junctions) < 4294967296) ⌝ }
@@ -141,11 +145,11 @@ fn answer_held(
 // The answer, with nothing stored.
 fn back_answer(
     ynd: Ynd,
-    nodes: &[[u32; 8]],
-    links: &[[u16; 4]],
-    junctions: &[[u32; 6]],
+    nodes: &[NodeWords],
+    links: &[LinkWords],
+    junctions: &[JunctionWords],
     heights: &[u8],
-    refs: &[[u16; 4]],
+    refs: &[RefWords],
     section: usize,
 ) -> Written
     ensures { λ r. ⌜ r ≡ backAnswer (held (memory ynd (now (nodes .entry)) (now (links .entry)) (now (junctions .entry)) (now (heights .entry)) (now (refs .entry))))
@@ -180,11 +184,11 @@ fn read_back(
     ynd: Ynd,
     section: &[u8],
     n: usize,
-    nodes: &mut [[u32; 8]],
-    links: &mut [[u16; 4]],
-    junctions: &mut [[u32; 6]],
+    nodes: &mut [NodeWords],
+    links: &mut [LinkWords],
+    junctions: &mut [JunctionWords],
     heights: &mut [u8],
-    refs: &mut [[u16; 4]],
+    refs: &mut [RefWords],
 ) -> Outcome
     requires { ⌜ n ≤ length (now section) ⌝ }
     ensures { λ a. ⌜ left a (now (nodes .exit)) (now (links .exit)) (now (junctions .exit)) (now (heights .exit)) (now (refs .exit))
@@ -209,11 +213,11 @@ fn read_back(
 fn write_and_reread(
     ynd: Ynd,
     n: usize,
-    nodes: &mut [[u32; 8]],
-    links: &mut [[u16; 4]],
-    junctions: &mut [[u32; 6]],
+    nodes: &mut [NodeWords],
+    links: &mut [LinkWords],
+    junctions: &mut [JunctionWords],
     heights: &mut [u8],
-    refs: &mut [[u16; 4]],
+    refs: &mut [RefWords],
     section: &mut [u8],
 ) -> Ynd
     requires { ⌜ n ≤ length (now section) ⌝ }
@@ -231,11 +235,11 @@ fn write_and_reread(
 // Writes the cell, and reads just what it wrote. A refusal of either leaves all as it was.
 pub fn write_then_read(
     ynd: Ynd,
-    nodes: &mut [[u32; 8]],
-    links: &mut [[u16; 4]],
-    junctions: &mut [[u32; 6]],
+    nodes: &mut [NodeWords],
+    links: &mut [LinkWords],
+    junctions: &mut [JunctionWords],
     heights: &mut [u8],
-    refs: &mut [[u16; 4]],
+    refs: &mut [RefWords],
     section: &mut [u8],
 ) -> WroteRead
     ensures { λ w. ⌜ both w (now (nodes .exit)) (now (links .exit)) (now (junctions .exit)) (now (heights .exit)) (now (refs .exit)) (now (section .exit))

@@ -23,7 +23,7 @@ returns-2 c =
     let a = s .before .before .before .args in
     let told = c .before .before .enum-told3 .given .1 in
     c .counted-of2 .ensures ∙ ap countedOf (c .before .found-answer .ensures ∙ ap foundAnswer told)
-    ∙ sym (rw (sym (s .check-sizes .ensures) ∙ f .before .before .enum-told .given .1, sym (f .find-arrays .ensures ∙ ap (λ (r : Root). arraysFound r (length (a .system .now)) (length (a .graphics .now))) (f .before .root-of .ensures)) ∙ told))
+    ∙ sym (rw (sym (s .check-sizes .ensures) ∙ f .before .before .enum-told .given .1, sym (f .find-arrays .ensures ∙ ap (λ (r : Root). arraysFound r (length (a .system .now)) (length (a .graphics .now))) (f .before .read-root .ensures)) ∙ told))
 
 returns-3 : tie.Need-returns-3
 unfolding countOf
@@ -34,7 +34,7 @@ returns-3 c =
     let told = f .before .before .enum-told .given .1 in
     c .check-arrays .ensures
     ∙ (λ i. arraysCheck (c .before .before .before .before .before .named-part .ensures i) (c .before .before .before .before .named-part2 .ensures i) (c .before .before .before .named-part3 .ensures i) (c .before .before .named-part4 .ensures i) (c .before .named-part5 .ensures i))
-    ∙ sym (rw (sym (s .check-sizes .ensures) ∙ told, sym (f .find-arrays .ensures ∙ ap (λ (r : Root). arraysFound r (length (a .system .now)) (length (a .graphics .now))) (f .before .root-of .ensures)) ∙ c .before .before .before .before .before .before .before .before .before .before .before .before .b .given .1))
+    ∙ sym (rw (sym (s .check-sizes .ensures) ∙ told, sym (f .find-arrays .ensures ∙ ap (λ (r : Root). arraysFound r (length (a .system .now)) (length (a .graphics .now))) (f .before .read-root .ensures)) ∙ c .before .before .before .before .before .before .before .before .before .before .before .before .b .given .1))
 
 pub count-spec : {M : Type 1} → statement M
 count-spec =

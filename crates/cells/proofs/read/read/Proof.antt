@@ -2,9 +2,8 @@
 use Prim.Native.Nat.{ℕ, _≤_}
 use mathlib.Core.Path.{_≡_, sym, ap, _∙_}
 use lib.ListN.{length}
-use Rattle.records.specs.Root.{rootOf}
 use Rattle.records.specs.declared.root.Root.{Root}
-use Rattle.cells.specs.Checks.{foundAnswer, sizesCheck, arraysFound}
+use Rattle.cells.specs.Checks.{rootRead, foundAnswer, sizesCheck, arraysFound}
 use Rattle.cells.specs.Memory.{Memory, memory}
 use Rattle.cells.specs.Read.{readArrays, readOf}
 use Rattle.cells.specs.declared.arrays.Arrays.{Arrays as Five}
@@ -42,10 +41,10 @@ arrays s r = arraysFound r (length (s .args .system .now)) (length (s .args .gra
 sizes-fine : (c : tie.After-find-arrays) → sizes (at-find c) ≡ Done
 sizes-fine c = sym (c .before .before .before .before .check-sizes .ensures) ∙ c .before .before .enum-told .given .1
 
-arrays-are : (c : tie.After-find-arrays) → arrays (at-find c) (rootOf (at-find c .args .system .now)) ≡ c .find-arrays .result
-arrays-are c = sym (c .find-arrays .ensures ∙ ap (arrays (at-find c)) (c .before .root-of .ensures))
+arrays-are : (c : tie.After-find-arrays) → arrays (at-find c) (rootRead (at-find c .args .system .now)) ≡ c .find-arrays .result
+arrays-are c = sym (c .find-arrays .ensures ∙ ap (arrays (at-find c)) (c .before .read-root .ensures))
 
-arrays-found : (c : tie.After-named-part5) → arrays (at-find (at-parts c)) (rootOf (at-find (at-parts c) .args .system .now)) ≡ Arrays (five c)
+arrays-found : (c : tie.After-named-part5) → arrays (at-find (at-parts c)) (rootRead (at-find (at-parts c) .args .system .now)) ≡ Arrays (five c)
 arrays-found c = arrays-are (at-parts c) ∙ c .before .before .before .before .before .before .before .before .before .before .before .b .given .1
 
 -- ---- the needs
@@ -79,7 +78,7 @@ returns-3 c =
     let p = r .before .before .before .before .before .before in
     let f = at-parts p in
     r .read-arrays .ensures
-    ∙ (λ i. readArrays (f .before .root-of .ensures i)
+    ∙ (λ i. readArrays (f .before .read-root .ensures i)
     (p .before .before .before .before .named-part .ensures i)
     (p .before .before .before .named-part2 .ensures i)
     (p .before .before .named-part3 .ensures i)
