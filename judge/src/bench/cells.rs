@@ -1,5 +1,5 @@
 //! ns a node: reading, renumbering, writing, write-then-read, `node`.
-use super::{both, timed, Goal, Row, SIZES};
+use super::{both, timed, Goal, Row, Wanted, SIZES};
 use crate::blocks::{Pod, Writer};
 use crate::inputs::rng::Rng;
 use crate::model::cell::{Cell, Junction, Link, Node, Ref};
@@ -11,7 +11,7 @@ use crate::ynd::{parse_node_dictionary, Ynd};
 use std::hint::black_box;
 use std::time::Duration;
 
-pub fn rows() -> Vec<Row> {
+pub fn rows(wanted: &Wanted) -> Vec<Row> {
     let mut out = Vec::new();
     for size in SIZES {
         let cell = cell(size);
@@ -21,6 +21,7 @@ pub fn rows() -> Vec<Row> {
         let (mut lent, mut section) = (memory.clone(), bytes.clone());
         let (mut scratch, mut places) = (vec![0; 65_536], vec![0; size]);
         let mut row = |call, goal, rust: &dyn Fn() -> Duration, port: &mut dyn FnMut() -> Duration| {
+            if !wanted.has(call) { return; }
             let (rust, port) = both(size, rust, port);
             out.push(Row { call, size, rust: Some(rust), port, goal });
         };
@@ -38,8 +39,9 @@ pub fn rows() -> Vec<Row> {
         lent = memory.clone();
         lent.renumber(&mut scratch, &mut places).expect("room for all");
         row("node, numbers by place", Goal::Ratio(2.0), &|| timed(|| nodes(&by_place)), &mut || timed(|| port_nodes(&lent)));
-        out.push(walking(&cell, "a walk's link, to a near node", true));
-        out.push(walking(&cell, "a walk's link, in random order", false));
+        for (call, near) in [("a walk's link, to a near node", true), ("a walk's link, in random order", false)] {
+            if wanted.has(call) { out.push(walking(&cell, call, near)); }
+        }
     }
     out.sort_by_key(|r| r.call);
     out

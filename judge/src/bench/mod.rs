@@ -34,10 +34,18 @@ impl Row {
     }
 }
 
-pub fn bench() {
+/// The rows whose call has these words; all where there are none.
+pub struct Wanted(Option<String>);
+
+impl Wanted {
+    pub fn has(&self, call: &str) -> bool { self.0.as_ref().is_none_or(|words| call.contains(words.as_str())) }
+}
+
+pub fn bench(only: Option<String>) {
+    let wanted = Wanted(only);
     println!("| Call | Nodes | Rust, ns | Port, ns | Ratio | Goal |");
     println!("|---|---|---|---|---|---|");
-    for row in numbers::rows().into_iter().chain(cells::rows()) { println!("{}", row.line()); }
+    for row in numbers::rows(&wanted).into_iter().chain(cells::rows(&wanted)) { println!("{}", row.line()); }
     println!();
     println!("Nanoseconds a node, or a call for steps, grid and lengths; the fastest of {TURNS} turns, each side in turn. Inputs are made once.");
     println!("Steps, grid and lengths are called on both sides through a function pointer, one call an input, so that neither is inlined.");
