@@ -6,7 +6,7 @@ use Rattle.records.proofs.link.link_in.Tie as tie
 
 returns : tie.Need-returns
 unfolding linkAt
-returns c = 
+returns c =
     λ i. record {
       «area_id» = c .before .before .before .before .before .u16-in .ensures i;
       «node_id» = c .before .before .before .before .u16-in2 .ensures i;

@@ -9,7 +9,7 @@ use Rattle.records.proofs.node.node_in.Tie as tie
 
 returns : tie.Need-returns
 unfolding nodeAt
-returns c = 
+returns c =
     λ i. record {
       unused0 = c .before .before .before .before .before .before .before .before .before .before .before .before .before .before .before .before .before .u32-in .ensures i;
       unused1 = c .before .before .before .before .before .before .before .before .before .before .before .before .before .before .before .before .u32-in2 .ensures i;
