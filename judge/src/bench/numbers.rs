@@ -43,19 +43,19 @@ fn steps(points: &[[f32; 3]], call: &'static str) -> Row {
     let (f, g) = (black_box(rust_steps as fn(_) -> _), black_box(port_steps as fn(_) -> _));
     let run = |f: fn([f32; 3]) -> [f32; 3]| for p in points { black_box(f(*p)); };
     let (rust, port) = both(points.len(), || timed(|| run(f)), || timed(|| run(g)));
-    Row { call, size: points.len(), rust: Some(rust), port, goal: Goal::Ratio(2.0) }
+    Row { call, size: points.len(), rust: Some(rust), port: Some(port), goal: Goal::Ratio(2.0) }
 }
 
 fn grid(points: &[[f32; 3]], call: &'static str) -> Row {
     let (f, g) = (black_box(rust_grid as fn(_, _) -> _), black_box(port::numbers::cell_for_position as fn(_, _) -> _));
     let run = |f: fn(f32, f32) -> [u32; 2]| for p in points { black_box(f(p[0], p[1])); };
     let (rust, port) = both(points.len(), || timed(|| run(f)), || timed(|| run(g)));
-    Row { call, size: points.len(), rust: Some(rust), port, goal: Goal::Ratio(2.0) }
+    Row { call, size: points.len(), rust: Some(rust), port: Some(port), goal: Goal::Ratio(2.0) }
 }
 
 fn lengths(points: &[[f32; 3]], call: &'static str) -> Row {
     let (f, g) = (black_box(rust_length as fn(_, _) -> _), black_box(port::numbers::length_between as fn(_, _) -> _));
     let run = |f: fn([f32; 3], [f32; 3]) -> u8| for p in points.windows(2) { black_box(f(p[0], p[1])); };
     let (rust, port) = both(points.len() - 1, || timed(|| run(f)), || timed(|| run(g)));
-    Row { call, size: points.len(), rust: Some(rust), port, goal: Goal::Ratio(2.0) }
+    Row { call, size: points.len(), rust: Some(rust), port: Some(port), goal: Goal::Ratio(2.0) }
 }
