@@ -37,5 +37,9 @@ pub fn dequantise(q: Quantised) -> Vec3
 pub fn stored_position(p: Vec3) -> Vec3
     ensures { λ r. ⌜ r ≡ dequantised (quantised p) ⌝ }
 {
-    dequantise(quantise(p))
+    Vec3 {
+        x: metres_xy(steps_xy(p.x)),
+        y: metres_xy(steps_xy(p.y)),
+        z: metres_z(steps_z(p.z)),
+    }
 }

@@ -1,6 +1,6 @@
 // Stored steps (document 01, section 3): x and y count quarters of a metre, z counts thirty-seconds.
 ghost use mathlib.Core.Path.{_≡_};
-ghost use Prim.Native.Nat.{_≤_};
+ghost use Prim.Native.Nat.{_%_, _≤_};
 ghost use lib.Ieee.{binary32, ofBits};
 ghost use Rattle.numbers.specs.Steps.{limited, stepOf, unstep};
 
@@ -13,9 +13,9 @@ fn signed(negative: bool, n: u32) -> i16
     if negative { 0 - v } else { v }
 }
 
-// The steps of the value that a pattern stands for, by cases on the exponent's field.
-fn steps_of_bits(b: u32, k: u32) -> i16
-    requires { ⌜ k ≤ 5 ⌝ }
+// The steps of the value that a pattern stands for, which is that of no NaN, by cases on the exponent's field.
+fn steps_of_number(b: u32, k: u32) -> i16
+    requires { ⌜ (k ≤ 5) × (b % 0x8000_0000 ≤ 0x7f80_0000) ⌝ }
     ensures { λ r. ⌜ r ≡ stepOf k (ofBits binary32 b) ⌝ }
 {
     let negative = b >= 0x8000_0000;
@@ -29,14 +29,19 @@ fn steps_of_bits(b: u32, k: u32) -> i16
     if field + k < 142 {
         return signed(negative, (0x80_0000 + fraction) >> (150 - k - field));
     }
-    // NaN
-    if field == 255 {
-        if fraction != 0 {
-            return 0;
-        }
-    }
     // beyond it, or infinite
     if negative { -32768 } else { 32767 }
+}
+
+// The same for any pattern: NaN gives 0.
+fn steps_of_bits(b: u32, k: u32) -> i16
+    requires { ⌜ k ≤ 5 ⌝ }
+    ensures { λ r. ⌜ r ≡ stepOf k (ofBits binary32 b) ⌝ }
+{
+    if 0x7f80_0000 < b % 0x8000_0000 {
+        return 0;
+    }
+    steps_of_number(b, k)
 }
 
 fn steps(x: f32, k: u32) -> i16
@@ -46,7 +51,7 @@ fn steps(x: f32, k: u32) -> i16
     if x != x {
         return 0;
     }
-    steps_of_bits(f32::to_bits(x), k)
+    steps_of_number(f32::to_bits(x), k)
 }
 
 // What n steps stand for, along x and y.

@@ -32,34 +32,6 @@ fn join64(low: u32, high: u32) -> u64
     low as u64 + high as u64 * 4294967296
 }
 
-// Two bytes that stand inside: one test for both.
-fn pair_at(s: &[u8], at: usize) -> u16
-    requires { ⌜ at + 1 < length (now s) ⌝ }
-    ensures { λ r. ⌜ r ≡ le16 (now (s .entry)) at ⌝ }
-{
-    join16(s[at], s[at + 1])
-}
-
-pub(crate) fn u16_from(s: &[u8], at: usize) -> u16
-    requires { ⌜ at < 0x8000_0000_0000_0000 ⌝ }
-    ensures { λ r. ⌜ r ≡ le16 (now (s .entry)) at ⌝ }
-{
-    if at + 1 < s.len() {
-        return pair_at(s, at);
-    }
-    join16(byte_at(s, at), byte_at(s, at + 1))
-}
-
-pub(crate) fn u32_from(s: &[u8], at: usize) -> u32
-    requires { ⌜ at < 0x4000_0000_0000_0000 ⌝ }
-    ensures { λ r. ⌜ r ≡ le32 (now (s .entry)) at ⌝ }
-{
-    if at + 3 < s.len() {
-        return join32(pair_at(s, at), pair_at(s, at + 2));
-    }
-    join32(u16_from(s, at), u16_from(s, at + 2))
-}
-
 // A number of 16 bits with its sign.
 fn signed(n: u16) -> i16
     ensures { λ r. ⌜ r ≡ signed16 n ⌝ }
@@ -69,6 +41,58 @@ fn signed(n: u16) -> i16
     }
     let m = (65535 - n) as i16;
     -1 - m
+}
+
+// ---- numbers that stand inside: whoever calls these has tested the end, once for a whole number or a whole record
+
+pub(crate) fn byte_in(s: &[u8], at: usize) -> u8
+    requires { ⌜ at < length (now s) ⌝ }
+    ensures { λ r. ⌜ r ≡ byteAt (now (s .entry)) at ⌝ }
+{
+    s[at]
+}
+
+pub(crate) fn u16_in(s: &[u8], at: usize) -> u16
+    requires { ⌜ at + 1 < length (now s) ⌝ }
+    ensures { λ r. ⌜ r ≡ le16 (now (s .entry)) at ⌝ }
+{
+    join16(s[at], s[at + 1])
+}
+
+pub(crate) fn u32_in(s: &[u8], at: usize) -> u32
+    requires { ⌜ at + 3 < length (now s) ⌝ }
+    ensures { λ r. ⌜ r ≡ le32 (now (s .entry)) at ⌝ }
+{
+    join32(u16_in(s, at), u16_in(s, at + 2))
+}
+
+pub(crate) fn i16_in(s: &[u8], at: usize) -> i16
+    requires { ⌜ at + 1 < length (now s) ⌝ }
+    ensures { λ r. ⌜ r ≡ signed16 (le16 (now (s .entry)) at) ⌝ }
+{
+    signed(u16_in(s, at))
+}
+
+// ---- numbers that may stand past the end
+
+pub(crate) fn u16_from(s: &[u8], at: usize) -> u16
+    requires { ⌜ at < 0x8000_0000_0000_0000 ⌝ }
+    ensures { λ r. ⌜ r ≡ le16 (now (s .entry)) at ⌝ }
+{
+    if at + 1 < s.len() {
+        return u16_in(s, at);
+    }
+    join16(byte_at(s, at), byte_at(s, at + 1))
+}
+
+pub(crate) fn u32_from(s: &[u8], at: usize) -> u32
+    requires { ⌜ at < 0x4000_0000_0000_0000 ⌝ }
+    ensures { λ r. ⌜ r ≡ le32 (now (s .entry)) at ⌝ }
+{
+    if at + 3 < s.len() {
+        return u32_in(s, at);
+    }
+    join32(u16_from(s, at), u16_from(s, at + 2))
 }
 
 pub(crate) fn i16_from(s: &[u8], at: usize) -> i16

@@ -1,9 +1,13 @@
 // A link record, 8 bytes.
 ghost use mathlib.Core.Path.{_≡_};
+ghost use Prim.Native.Nat.{_+_, _<_};
+ghost use lib.ListN.{length};
 ghost use Rattle.records.specs.Records.{linkAt, linkBytes};
 use crate::bytes::byte_at;
+use crate::bytes::byte_in;
 use crate::bytes::bytes2;
 use crate::bytes::u16_from;
+use crate::bytes::u16_in;
 
 pub struct NodeLink {
     pub area_id: u16,
@@ -14,11 +18,26 @@ pub struct NodeLink {
     pub link_length: u8,
 }
 
-// The link at a place of a section.
-pub fn link_at(s: &[u8], at: u32) -> NodeLink
-    ensures { λ r. ⌜ r ≡ linkAt (now (s .entry)) at ⌝ }
+// A link that stands inside.
+fn link_in(s: &[u8], i: usize) -> NodeLink
+    requires { ⌜ i + 7 < length (now s) ⌝ }
+    ensures { λ r. ⌜ r ≡ linkAt (now (s .entry)) i ⌝ }
 {
-    let i = at as usize;
+    NodeLink {
+        area_id: u16_in(s, i),
+        node_id: u16_in(s, i + 2),
+        flags0: byte_in(s, i + 4),
+        flags1: byte_in(s, i + 5),
+        flags2: byte_in(s, i + 6),
+        link_length: byte_in(s, i + 7),
+    }
+}
+
+// A link that the section may cut short.
+fn link_from(s: &[u8], i: usize) -> NodeLink
+    requires { ⌜ i < 4294967296 ⌝ }
+    ensures { λ r. ⌜ r ≡ linkAt (now (s .entry)) i ⌝ }
+{
     NodeLink {
         area_id: u16_from(s, i),
         node_id: u16_from(s, i + 2),
@@ -27,6 +46,17 @@ pub fn link_at(s: &[u8], at: u32) -> NodeLink
         flags2: byte_at(s, i + 6),
         link_length: byte_at(s, i + 7),
     }
+}
+
+// The link at a place of a section.
+pub fn link_at(s: &[u8], at: u32) -> NodeLink
+    ensures { λ r. ⌜ r ≡ linkAt (now (s .entry)) at ⌝ }
+{
+    let i = at as usize;
+    if i + 7 < s.len() {
+        return link_in(s, i);
+    }
+    link_from(s, i)
 }
 
 // A link as written.

@@ -1,14 +1,19 @@
 // A node record, 40 bytes.
 ghost use mathlib.Core.Path.{_≡_};
-ghost use lib.ListN.{take, drop};
+ghost use Prim.Native.Nat.{_+_, _<_};
+ghost use lib.ListN.{length, take, drop};
 ghost use Rattle.records.specs.Records.{nodeAt, nodeBytes};
 use crate::bytes::bits;
 use crate::bytes::byte_at;
+use crate::bytes::byte_in;
 use crate::bytes::bytes2;
 use crate::bytes::bytes4;
 use crate::bytes::i16_from;
+use crate::bytes::i16_in;
 use crate::bytes::u16_from;
+use crate::bytes::u16_in;
 use crate::bytes::u32_from;
+use crate::bytes::u32_in;
 use crate::put::copy_bytes;
 
 pub struct Node {
@@ -32,11 +37,38 @@ pub struct Node {
     pub flags4: u8,
 }
 
-// The node at a place of a section.
-pub fn node_at(s: &[u8], at: u32) -> Node
-    ensures { λ r. ⌜ r ≡ nodeAt (now (s .entry)) at ⌝ }
+// A node that stands inside.
+fn node_in(s: &[u8], i: usize) -> Node
+    requires { ⌜ i + 39 < length (now s) ⌝ }
+    ensures { λ r. ⌜ r ≡ nodeAt (now (s .entry)) i ⌝ }
 {
-    let i = at as usize;
+    Node {
+        unused0: u32_in(s, i),
+        unused1: u32_in(s, i + 4),
+        unused2: u32_in(s, i + 8),
+        unused3: u32_in(s, i + 12),
+        area_id: u16_in(s, i + 16),
+        node_id: u16_in(s, i + 18),
+        street_name: u32_in(s, i + 20),
+        unused4: u16_in(s, i + 24),
+        link_id: u16_in(s, i + 26),
+        position_x: i16_in(s, i + 28),
+        position_y: i16_in(s, i + 30),
+        flags0: byte_in(s, i + 32),
+        flags1: byte_in(s, i + 33),
+        position_z: i16_in(s, i + 34),
+        flags2: byte_in(s, i + 36),
+        link_count_flags: byte_in(s, i + 37),
+        flags3: byte_in(s, i + 38),
+        flags4: byte_in(s, i + 39),
+    }
+}
+
+// A node that the section may cut short.
+fn node_from(s: &[u8], i: usize) -> Node
+    requires { ⌜ i < 4294967296 ⌝ }
+    ensures { λ r. ⌜ r ≡ nodeAt (now (s .entry)) i ⌝ }
+{
     Node {
         unused0: u32_from(s, i),
         unused1: u32_from(s, i + 4),
@@ -57,6 +89,17 @@ pub fn node_at(s: &[u8], at: u32) -> Node
         flags3: byte_at(s, i + 38),
         flags4: byte_at(s, i + 39),
     }
+}
+
+// The node at a place of a section.
+pub fn node_at(s: &[u8], at: u32) -> Node
+    ensures { λ r. ⌜ r ≡ nodeAt (now (s .entry)) at ⌝ }
+{
+    let i = at as usize;
+    if i + 39 < s.len() {
+        return node_in(s, i);
+    }
+    node_from(s, i)
 }
 
 // The first 24 bytes of a node: the unused words, where it belongs, its street.

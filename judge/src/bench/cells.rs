@@ -1,5 +1,5 @@
 //! ns a node: reading, renumbering, writing, write-then-read, `node`.
-use super::{both, timed, Goal, Row, SIZES};
+use super::{both, timed, Goal, Row, Wanted, SIZES};
 use crate::blocks::{Pod, Writer};
 use crate::inputs::rng::Rng;
 use crate::model::cell::{Cell, Junction, Link, Node, Ref};
@@ -7,11 +7,11 @@ use crate::model::{renumber, write};
 use crate::port::memory::Memory;
 use crate::resource::lend_sections;
 use crate::rust;
-use crate::ynd::{parse_node_dictionary, Ynd};
+use crate::ynd::{parse_node_dictionary, PathNode, Ynd};
 use std::hint::black_box;
 use std::time::Duration;
 
-pub fn rows() -> Vec<Row> {
+pub fn rows(wanted: &Wanted) -> Vec<Row> {
     let mut out = Vec::new();
     for size in SIZES {
         let cell = cell(size);
@@ -21,8 +21,9 @@ pub fn rows() -> Vec<Row> {
         let (mut lent, mut section) = (memory.clone(), bytes.clone());
         let (mut scratch, mut places) = (vec![0; 65_536], vec![0; size]);
         let mut row = |call, goal, rust: &dyn Fn() -> Duration, port: &mut dyn FnMut() -> Duration| {
+            if !wanted.has(call) { return; }
             let (rust, port) = both(size, rust, port);
-            out.push(Row { call, size, rust: Some(rust), port, goal });
+            out.push(Row { call, size, rust: Some(rust), port: Some(port), goal });
         };
         row("reading", Goal::Ratio(0.55), &|| { lend_sections(bytes.clone(), Vec::new()); timed(read) }, &mut || timed(|| lent.read(&bytes, &[])));
         row("renumbering", Goal::Ratio(0.35), &|| { let mut y = ynd.clone(); timed(|| y.recalculate_node_indices()) }, &mut || {
@@ -37,17 +38,19 @@ pub fn rows() -> Vec<Row> {
         by_place.recalculate_node_indices();
         lent = memory.clone();
         lent.renumber(&mut scratch, &mut places).expect("room for all");
-        row("node, numbers by place", Goal::Ratio(2.0), &|| timed(|| nodes(&by_place)), &mut || timed(|| port_nodes(&lent)));
-        out.push(walking(&cell, "a walk's link, to a near node", true));
-        out.push(walking(&cell, "a walk's link, in random order", false));
+        row("node, the Rust's in line", Goal::Ratio(2.0), &|| timed(|| nodes_in_line(&by_place)), &mut || timed(|| port_nodes(&lent)));
+        row("node, by a call", Goal::Ratio(2.0), &|| timed(|| nodes(&by_place)), &mut || timed(|| port_nodes(&lent)));
+        for (call, near) in [("a walk's link, to a near node", true), ("a walk's link, in random order", false)] {
+            if wanted.has(call) { out.extend(walking(&cell, call, near)); }
+        }
     }
     out.sort_by_key(|r| r.call);
     out
 }
 
 /// A walk over a renumbered cell whose first links lead from node to node, through all of them: each to one that is near, or in
-/// random order.
-fn walking(cell: &Cell, call: &'static str, near: bool) -> Row {
+/// random order. Beside it a plain loop over the same memory, which is what the machine needs for it at the least.
+fn walking(cell: &Cell, call: &'static str, near: bool) -> [Row; 2] {
     let (mut cell, size) = (cell.clone(), cell.nodes.len());
     renumber::renumber(&mut cell, 65_536, size).expect("room for all");
     let mut r = Rng::new(7);
@@ -60,9 +63,22 @@ fn walking(cell: &Cell, call: &'static str, near: bool) -> Row {
     }
     let memory = Memory::of(&mut r, &cell, cell.counts());
     let (choices, mut visited) = (vec![0; size], vec![0; size + 1]);
-    let (_, port) = both(size, || Duration::ZERO, || timed(|| memory.walk(0, &choices, &mut visited)));
+    let mut trodden = visited.clone();
+    let (plain, port) = both(size, || timed(|| tread(&memory, &mut trodden)), || timed(|| memory.walk(0, &choices, &mut visited)));
     assert_eq!(visited[size], 0, "a walk over all nodes");
-    Row { call, size, rust: None, port, goal: if size == 60_000 { Goal::Nanoseconds(25.0) } else { Goal::None } }
+    assert_eq!(visited, trodden, "the same places");
+    let goal = if size == 60_000 { Goal::Nanoseconds(25.0) } else { Goal::None };
+    let floor = if near { "a plain loop's link, to a near node" } else { "a plain loop's link, in random order" };
+    [Row { call, size, rust: None, port: Some(port), goal }, Row { call: floor, size, rust: Some(plain), port: None, goal: Goal::None }]
+}
+
+/// From link to link, always the first, with no test but that of the index.
+fn tread(memory: &Memory, visited: &mut [u32]) {
+    let mut p = 0;
+    for v in visited {
+        *v = p as u32;
+        p = memory.links[memory.nodes[p][7] as usize][1] as usize;
+    }
 }
 
 /// A cell as drawn: up to three links a node, a ped node in five, a junction and a ref in every two hundred, numbers that differ.
@@ -106,11 +122,17 @@ fn block<T: Pod>(w: &mut Writer, items: &[T]) {
     for i in items { i.write(w); }
 }
 
-/// Every number once.
-fn nodes(ynd: &Ynd) {
+/// Every number once. The port's call goes into an archive and is never put in line; here the Rust's is.
+fn nodes_in_line(ynd: &Ynd) {
     for i in 0..ynd.nodes.len() { black_box(ynd.node(i as u16)); }
 }
 
+/// Every number once, by a call as the port's is.
+fn nodes(ynd: &Ynd) {
+    let find = black_box(Ynd::node as fn(&Ynd, u16) -> Option<&PathNode>);
+    for i in 0..ynd.nodes.len() { black_box(find(ynd, i as u16)); }
+}
+
 fn port_nodes(memory: &Memory) {
-    for i in 0..memory.nodes.len() { let _ = black_box(memory.node(i as u16)); }
+    for i in 0..memory.nodes.len() { black_box(memory.place_of(i as u16)); }
 }

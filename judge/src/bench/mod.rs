@@ -11,37 +11,47 @@ pub const SIZES: [usize; 4] = [100, 1_000, 10_000, 60_000];
 #[derive(Clone, Copy)]
 pub enum Goal { Ratio(f64), Nanoseconds(f64), None }
 
-/// One line of the table. The Rust's time is none where the Rust has no such call.
+/// One line of the table. A time is none where that side has no such call.
 pub struct Row {
     pub call: &'static str,
     pub size: usize,
     pub rust: Option<f64>,
-    pub port: f64,
+    pub port: Option<f64>,
     pub goal: Goal,
 }
 
 impl Row {
     fn line(&self) -> String {
-        let ratio = self.rust.map(|r| self.port / r);
+        let ratio = self.rust.zip(self.port).map(|(r, p)| p / r);
         let (goal, met) = match self.goal {
             Goal::Ratio(g) => (format!("{g:.2}"), ratio.is_some_and(|r| r <= g)),
-            Goal::Nanoseconds(g) => (format!("{g:.0} ns"), self.port <= g),
+            Goal::Nanoseconds(g) => (format!("{g:.0} ns"), self.port.is_some_and(|p| p <= g)),
             Goal::None => ("-".into(), true),
         };
         let shown = |n: Option<f64>, digits: usize| n.map_or("-".into(), |n| format!("{n:.digits$}"));
         let missed = if met { "" } else { " (missed)" };
-        format!("| {} | {} | {} | {:.1} | {}{missed} | {goal} |", self.call, self.size, shown(self.rust, 1), self.port, shown(ratio, 2))
+        format!("| {} | {} | {} | {} | {}{missed} | {goal} |", self.call, self.size, shown(self.rust, 1), shown(self.port, 1), shown(ratio, 2))
     }
 }
 
-pub fn bench() {
+/// The rows whose call has these words; all where there are none.
+pub struct Wanted(Option<String>);
+
+impl Wanted {
+    pub fn has(&self, call: &str) -> bool { self.0.as_ref().is_none_or(|words| call.contains(words.as_str())) }
+}
+
+pub fn bench(only: Option<String>) {
+    let wanted = Wanted(only);
     println!("| Call | Nodes | Rust, ns | Port, ns | Ratio | Goal |");
     println!("|---|---|---|---|---|---|");
-    for row in numbers::rows().into_iter().chain(cells::rows()) { println!("{}", row.line()); }
+    for row in numbers::rows(&wanted).into_iter().chain(cells::rows(&wanted)) { println!("{}", row.line()); }
     println!();
     println!("Nanoseconds a node, or a call for steps, grid and lengths; the fastest of {TURNS} turns, each side in turn. Inputs are made once.");
     println!("Steps, grid and lengths are called on both sides through a function pointer, one call an input, so that neither is inlined.");
-    println!("A walk's link: a walk through all nodes of a renumbered cell; near is within 16 places. The Rust has no walks.");
+    println!("A walk's link: a walk through all nodes of a renumbered cell; near is within 16 places. The Rust has no walks; the plain loop is Rust");
+    println!("that goes the same way over the same memory by `links[nodes[p][7]][1]`, with no test of its own, and stores the places.");
+    println!("node: by a call on both sides, or with the Rust's put in line in the loop that asks, as a caller in Rust has it.");
     println!("The Rust's memory is its own, allocated in the call as it does; the port's is lent, not cleared first, and has been used before.");
 }
 

@@ -1,21 +1,18 @@
 //! ns a call: a position stored, its cell, a length.
-use super::{both, timed, Goal, Row, SIZES};
+use super::{both, timed, Goal, Row, Wanted, SIZES};
 use crate::inputs::rng::Rng;
 use crate::math::Vec3;
 use crate::port;
 use crate::ynd::{self, PathLink, PathNode};
 use std::hint::black_box;
 
-pub fn rows() -> Vec<Row> {
-    let mut out = Vec::new();
-    for size in SIZES {
-        let points = points(size);
-        out.push(steps(&points));
-        out.push(grid(&points));
-        out.push(lengths(&points));
-    }
-    out.sort_by_key(|r| r.call);
-    out
+type Measured = fn(&[[f32; 3]], &'static str) -> Row;
+
+const CALLS: [(&str, Measured); 3] = [("cell_for_position", grid), ("length_between", lengths), ("set_position's steps", steps)];
+
+pub fn rows(wanted: &Wanted) -> Vec<Row> {
+    let calls = CALLS.into_iter().filter(|(call, _)| wanted.has(call));
+    calls.flat_map(|(call, row)| SIZES.map(|size| row(&points(size), call))).collect()
 }
 
 /// Positions of a cell: within its 512 m, a few metres apart.
@@ -42,23 +39,23 @@ fn rust_length(a: [f32; 3], b: [f32; 3]) -> u8 {
     PathLink::length_between(Vec3::new(a[0], a[1], a[2]), Vec3::new(b[0], b[1], b[2]))
 }
 
-fn steps(points: &[[f32; 3]]) -> Row {
+fn steps(points: &[[f32; 3]], call: &'static str) -> Row {
     let (f, g) = (black_box(rust_steps as fn(_) -> _), black_box(port_steps as fn(_) -> _));
     let run = |f: fn([f32; 3]) -> [f32; 3]| for p in points { black_box(f(*p)); };
     let (rust, port) = both(points.len(), || timed(|| run(f)), || timed(|| run(g)));
-    Row { call: "set_position's steps", size: points.len(), rust: Some(rust), port, goal: Goal::Ratio(2.0) }
+    Row { call, size: points.len(), rust: Some(rust), port: Some(port), goal: Goal::Ratio(2.0) }
 }
 
-fn grid(points: &[[f32; 3]]) -> Row {
+fn grid(points: &[[f32; 3]], call: &'static str) -> Row {
     let (f, g) = (black_box(rust_grid as fn(_, _) -> _), black_box(port::numbers::cell_for_position as fn(_, _) -> _));
     let run = |f: fn(f32, f32) -> [u32; 2]| for p in points { black_box(f(p[0], p[1])); };
     let (rust, port) = both(points.len(), || timed(|| run(f)), || timed(|| run(g)));
-    Row { call: "cell_for_position", size: points.len(), rust: Some(rust), port, goal: Goal::Ratio(2.0) }
+    Row { call, size: points.len(), rust: Some(rust), port: Some(port), goal: Goal::Ratio(2.0) }
 }
 
-fn lengths(points: &[[f32; 3]]) -> Row {
+fn lengths(points: &[[f32; 3]], call: &'static str) -> Row {
     let (f, g) = (black_box(rust_length as fn(_, _) -> _), black_box(port::numbers::length_between as fn(_, _) -> _));
     let run = |f: fn([f32; 3], [f32; 3]) -> u8| for p in points.windows(2) { black_box(f(p[0], p[1])); };
     let (rust, port) = both(points.len() - 1, || timed(|| run(f)), || timed(|| run(g)));
-    Row { call: "length_between", size: points.len(), rust: Some(rust), port, goal: Goal::Ratio(2.0) }
+    Row { call, size: points.len(), rust: Some(rust), port: Some(port), goal: Goal::Ratio(2.0) }
 }

@@ -117,6 +117,13 @@ impl Memory {
         found(number, place, is, at, KEPT_PLACE)
     }
 
+    /// The same as a program would ask it: the place, if there is one. What was lent is not looked at.
+    pub fn place_of(&self, node_id: u16) -> Option<usize> {
+        let (mut is, mut at, mut place) = (false, 0, 0);
+        unsafe { ynd_node(&self.ynd, self.nodes.as_ptr(), self.nodes.len(), node_id, &mut is, &mut at, &mut place) };
+        is.then_some(at)
+    }
+
     pub fn junction_of(&self, area_id: u16, node_id: u16) -> Found<usize> {
         let (mut is, mut at, mut place) = (false, KEPT_PLACE, KEPT_PLACE);
         let number = unsafe {

@@ -5,9 +5,6 @@ use borrow.Author.Needs.{needs}
 use Rattle.records.proofs.bytes.u32_from.Statement.{statement}
 use Rattle.records.proofs.bytes.u32_from.Tie as tie
 
-returns : tie.Need-returns
-returns c = (cc) ∙ sym (number-split 2 2 (c .before .before .before .before .before .args .s .now) (c .before .before .before .before .before .args .at))
-
 returns-2 : tie.Need-returns-2
 returns-2 c = (cc) ∙ sym (number-split 2 2 (c .before .before .before .before .before .args .s .now) (c .before .before .before .before .before .args .at))
 
@@ -18,9 +15,6 @@ u32-from-spec =
     (λ c. search needs)
     (λ c κs. search needs)
     (λ c. search needs)
-    (λ c κs. search needs)
-    (λ c κs. search needs)
-    returns
     (λ c κs. search needs)
     (λ c. search needs)
     (λ c κs. search needs)

@@ -1,15 +1,15 @@
--- `records::node::node_at` meets its contract: field by field.
+-- `records::node::node_from` meets its contract: field by field.
 use mathlib.Core.Path.{_∙_}
 use mir.Syntax.{w16}
 use mir.ValLaws.{toZ-ofZ}
 use native.Mathlib.Omega.{arith}
 use Rattle.records.specs.Records.{nodeAt}
 use borrow.Author.Needs.{needs}
-use Rattle.records.proofs.node.node_at.Statement.{statement}
-use Rattle.records.proofs.node.node_at.Tie as tie
+use Rattle.records.proofs.node.node_from.Statement.{statement}
+use Rattle.records.proofs.node.node_from.Tie as tie
 
 add-byte-at-6 : tie.Need-add-byte-at-6
-add-byte-at-6 c = record { fits = omega (arith, c .before .before .before .before .before .before .before .before .before .before .before .before .before .before .before .before .before .before .fits .at) }
+add-byte-at-6 c = omega (arith, c .before .before .before .before .before .before .before .before .before .before .before .before .before .before .before .before .before .before .pre)
 
 returns : tie.Need-returns
 unfolding nodeAt
@@ -35,8 +35,8 @@ returns c =
       flags4 = c .byte-at6 .ensures i;
     }
 
-pub node-at-spec : {M : Type 1} → statement M
-node-at-spec =
+pub node-from-spec : {M : Type 1} → statement M
+node-from-spec =
     tie.close
     (tie.spec
     (λ c κs. search needs)

@@ -1,8 +1,8 @@
--- `records::link::link_at` meets its contract: field by field.
+-- `records::link::link_from` meets its contract: field by field.
 use Rattle.records.specs.Records.{linkAt}
 use borrow.Author.Needs.{needs}
-use Rattle.records.proofs.link.link_at.Statement.{statement}
-use Rattle.records.proofs.link.link_at.Tie as tie
+use Rattle.records.proofs.link.link_from.Statement.{statement}
+use Rattle.records.proofs.link.link_from.Tie as tie
 
 returns : tie.Need-returns
 unfolding linkAt
@@ -16,8 +16,8 @@ returns c =
       «link_length» = c .byte-at4 .ensures i;
     }
 
-pub link-at-spec : {M : Type 1} → statement M
-link-at-spec =
+pub link-from-spec : {M : Type 1} → statement M
+link-from-spec =
     tie.close
     (tie.spec
     (λ c κs. search needs)
