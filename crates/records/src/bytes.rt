@@ -60,6 +60,13 @@ pub(crate) fn u32_from(s: &[u8], at: usize) -> u32
     join32(u16_from(s, at), u16_from(s, at + 2))
 }
 
+pub(crate) fn u64_from(s: &[u8], at: usize) -> u64
+    requires { ⌜ at < 0x2000_0000_0000_0000 ⌝ }
+    ensures { λ r. ⌜ r ≡ le64 (now (s .entry)) at ⌝ }
+{
+    join64(u32_from(s, at), u32_from(s, at + 4))
+}
+
 // A number of 16 bits with its sign.
 fn signed(n: u16) -> i16
     ensures { λ r. ⌜ r ≡ signed16 n ⌝ }
@@ -88,13 +95,6 @@ pub fn u32_at(s: &[u8], at: u32) -> u32
     ensures { λ r. ⌜ r ≡ le32 (now (s .entry)) at ⌝ }
 {
     u32_from(s, at as usize)
-}
-
-pub fn u64_at(s: &[u8], at: u32) -> u64
-    ensures { λ r. ⌜ r ≡ le64 (now (s .entry)) at ⌝ }
-{
-    let i = at as usize;
-    join64(u32_from(s, i), u32_from(s, i + 4))
 }
 
 pub fn i16_at(s: &[u8], at: u32) -> i16
