@@ -1,4 +1,5 @@
 pub mod Bytes
+pub mod Cursor
 pub mod Sections
 pub mod Root
 pub mod Records

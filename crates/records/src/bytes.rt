@@ -95,6 +95,13 @@ pub(crate) fn u32_from(s: &[u8], at: usize) -> u32
     join32(u16_from(s, at), u16_from(s, at + 2))
 }
 
+pub(crate) fn u64_from(s: &[u8], at: usize) -> u64
+    requires { ⌜ at < 0x2000_0000_0000_0000 ⌝ }
+    ensures { λ r. ⌜ r ≡ le64 (now (s .entry)) at ⌝ }
+{
+    join64(u32_from(s, at), u32_from(s, at + 4))
+}
+
 pub(crate) fn i16_from(s: &[u8], at: usize) -> i16
     requires { ⌜ at < 0x8000_0000_0000_0000 ⌝ }
     ensures { λ r. ⌜ r ≡ signed16 (le16 (now (s .entry)) at) ⌝ }
@@ -117,8 +124,7 @@ pub fn u32_at(s: &[u8], at: u32) -> u32
 pub fn u64_at(s: &[u8], at: u32) -> u64
     ensures { λ r. ⌜ r ≡ le64 (now (s .entry)) at ⌝ }
 {
-    let i = at as usize;
-    join64(u32_from(s, i), u32_from(s, i + 4))
+    u64_from(s, at as usize)
 }
 
 pub fn i16_at(s: &[u8], at: u32) -> i16

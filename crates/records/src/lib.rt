@@ -1,5 +1,6 @@
 // The file's sections, root and records, and where the blocks of a written file lie.
 pub mod bytes;
+mod cursor;
 pub mod junction;
 pub mod junction_ref;
 pub mod layout;

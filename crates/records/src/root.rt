@@ -3,10 +3,12 @@ ghost use mathlib.Core.Path.{_≡_};
 ghost use Prim.Native.Nat.{_*_, _/_, _%_};
 ghost use Rattle.records.specs.Bytes.{bytes32};
 ghost use Rattle.records.specs.Put.{joined};
-ghost use Rattle.records.specs.Root.{rootOf, unknownsOf, rootBytes};
-use crate::bytes::u16_at;
-use crate::bytes::u32_at;
-use crate::bytes::u64_at;
+ghost use Rattle.records.specs.Root.{rootOf, rootBytes};
+use crate::cursor::next_u16;
+use crate::cursor::next_u32;
+use crate::cursor::next_u64;
+use crate::cursor::skip;
+use crate::cursor::start;
 
 // The root's own words, and where each array lies.
 pub struct Root {
@@ -26,40 +28,48 @@ pub struct Root {
     pub unknowns: [u32; 7],
 }
 
-fn unknowns_of(s: &[u8]) -> [u32; 7]
-    ensures { λ r. ⌜ r ≡ unknownsOf (now (s .entry)) ⌝ }
-{
-    [
-        u32_at(s, 36),
-        u32_at(s, 52),
-        u32_at(s, 72),
-        u32_at(s, 76),
-        u32_at(s, 92),
-        u32_at(s, 104),
-        u32_at(s, 108),
-    ]
-}
-
-// The root at the section's start.
+// The root at the section's start, read in the order of the file. What is skipped: the word at 4 and the pages address,
+// and the first ref count.
 pub fn root_of(s: &[u8]) -> Root
     ensures { λ r. ⌜ r ≡ rootOf (now (s .entry)) ⌝ }
 {
-    let unknowns = unknowns_of(s);
+    let mut c = start(s);
+    let vft = next_u32(&mut c);
+    skip(&mut c, 12);
+    let nodes = next_u64(&mut c);
+    let node_count = next_u32(&mut c);
+    let vehicle_node_count = next_u32(&mut c);
+    let ped_node_count = next_u32(&mut c);
+    let unk24 = next_u32(&mut c);
+    let links = next_u64(&mut c);
+    let link_count = next_u32(&mut c);
+    let unk34 = next_u32(&mut c);
+    let junctions = next_u64(&mut c);
+    let heightmap = next_u64(&mut c);
+    let unk48 = next_u32(&mut c);
+    let unk4c = next_u32(&mut c);
+    let refs = next_u64(&mut c);
+    skip(&mut c, 2);
+    let ref_count = next_u16(&mut c);
+    let unk5c = next_u32(&mut c);
+    let junction_count = next_u32(&mut c);
+    let heightmap_count = next_u32(&mut c);
+    let unk68 = next_u32(&mut c);
     Root {
-        vft: u32_at(s, 0),
-        nodes: u64_at(s, 16),
-        node_count: u32_at(s, 24),
-        vehicle_node_count: u32_at(s, 28),
-        ped_node_count: u32_at(s, 32),
-        links: u64_at(s, 40),
-        link_count: u32_at(s, 48),
-        junctions: u64_at(s, 56),
-        heightmap: u64_at(s, 64),
-        refs: u64_at(s, 80),
-        ref_count: u16_at(s, 90),
-        junction_count: u32_at(s, 96),
-        heightmap_count: u32_at(s, 100),
-        unknowns,
+        vft,
+        nodes,
+        node_count,
+        vehicle_node_count,
+        ped_node_count,
+        links,
+        link_count,
+        junctions,
+        heightmap,
+        refs,
+        ref_count,
+        junction_count,
+        heightmap_count,
+        unknowns: [unk24, unk34, unk48, unk4c, unk5c, unk68, next_u32(&mut c)],
     }
 }
 
