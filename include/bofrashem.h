@@ -206,6 +206,12 @@ YND_ASSERT(sizeof(ynd_counts) == 5 * 8 && sizeof(ynd_walk_end) == 3 * 4 && sizeo
 
 /* ---- Reading ---- */
 
+/* How many entries of each kind a file holds: what ynd_read has to be lent. Stores nothing but `counts`. Refused,
+ * in this order: 2, 1, 3, 6, 4, 5. */
+uint32_t ynd_count(
+    const uint8_t *system, size_t system_len, const uint8_t *graphics, size_t graphics_len, ynd_counts *counts,
+    size_t *place);
+
 /* A cell that holds nothing. Fills `ynd`. Never refused. */
 void ynd_new(ynd_cell *ynd);
 
@@ -214,15 +220,9 @@ void ynd_new(ynd_cell *ynd);
  * call. Refused, in this order: 2, 1, 3, 6, 4, 5, then 7 at 0 to 4 where a list is shorter than ynd_count says. */
 uint32_t ynd_read(
     ynd_cell *ynd, const uint8_t *system, size_t system_len, const uint8_t *graphics, size_t graphics_len,
-    ynd_node_entry *nodes, size_t nodes_len, ynd_link_entry *links, size_t links_len, ynd_junction_entry
-    *junctions, size_t junctions_len, uint8_t *heights, size_t heights_len, ynd_ref_entry *refs, size_t
-    refs_len, size_t *place);
-
-/* How many entries of each kind a file holds: what ynd_read has to be lent. Stores nothing but `counts`. Refused,
- * in this order: 2, 1, 3, 6, 4, 5. */
-uint32_t ynd_count(
-    const uint8_t *system, size_t system_len, const uint8_t *graphics, size_t graphics_len, ynd_counts
-    *counts, size_t *place);
+    ynd_node_entry *nodes, size_t nodes_len, ynd_link_entry *links, size_t links_len,
+    ynd_junction_entry *junctions, size_t junctions_len, uint8_t *heights, size_t heights_len,
+    ynd_ref_entry *refs, size_t refs_len, size_t *place);
 
 /* ---- Renumbering ---- */
 
@@ -232,10 +232,10 @@ uint32_t ynd_count(
  * at 0 to 4 where a list is shorter than its count, 7 at 6 where the scratch has under YND_SCRATCH entries, 7 at 7
  * where `places` has fewer entries than there are nodes. */
 uint32_t ynd_renumber(
-    ynd_cell *ynd, ynd_node_entry *nodes, size_t nodes_len, ynd_link_entry *links, size_t links_len, const
-    ynd_junction_entry *junctions, size_t junctions_len, const uint8_t *heights, size_t heights_len,
-    ynd_ref_entry *refs, size_t refs_len, uint32_t *scratch, size_t scratch_len, uint32_t *places, size_t
-    places_len, size_t *place);
+    ynd_cell *ynd, ynd_node_entry *nodes, size_t nodes_len, ynd_link_entry *links, size_t links_len,
+    const ynd_junction_entry *junctions, size_t junctions_len, const uint8_t *heights, size_t heights_len,
+    ynd_ref_entry *refs, size_t refs_len, uint32_t *scratch, size_t scratch_len,
+    uint32_t *places, size_t places_len, size_t *place);
 
 /* ---- Writing ---- */
 
@@ -243,10 +243,10 @@ uint32_t ynd_renumber(
  * written. Refused, in this order: 8 and 9 node by node, 10, 11, 7 at 0 to 4 where a list is shorter than its
  * count, 7 at 5 where the section is too short. */
 uint32_t ynd_write(
-    const ynd_cell *ynd, const ynd_node_entry *nodes, size_t nodes_len, const ynd_link_entry *links, size_t
-    links_len, const ynd_junction_entry *junctions, size_t junctions_len, const uint8_t *heights, size_t
-    heights_len, const ynd_ref_entry *refs, size_t refs_len, uint8_t *section, size_t section_len, size_t
-    *length, size_t *place);
+    const ynd_cell *ynd, const ynd_node_entry *nodes, size_t nodes_len,
+    const ynd_link_entry *links, size_t links_len, const ynd_junction_entry *junctions, size_t junctions_len,
+    const uint8_t *heights, size_t heights_len, const ynd_ref_entry *refs, size_t refs_len,
+    uint8_t *section, size_t section_len, size_t *length, size_t *place);
 
 /* Writes the cell into `section` and reads just those bytes back into the cell's own lists. `length` gets how many
  * bytes were written. Refused as ynd_write is; a cell made by hand is also refused where reading back would be: 2,
@@ -254,8 +254,8 @@ uint32_t ynd_write(
  * and section as they were. */
 uint32_t ynd_write_then_read(
     ynd_cell *ynd, ynd_node_entry *nodes, size_t nodes_len, ynd_link_entry *links, size_t links_len,
-    ynd_junction_entry *junctions, size_t junctions_len, uint8_t *heights, size_t heights_len, ynd_ref_entry
-    *refs, size_t refs_len, uint8_t *section, size_t section_len, size_t *length, size_t *place);
+    ynd_junction_entry *junctions, size_t junctions_len, uint8_t *heights, size_t heights_len,
+    ynd_ref_entry *refs, size_t refs_len, uint8_t *section, size_t section_len, size_t *length, size_t *place);
 
 /* ---- Walks and soundness ---- */
 
@@ -264,27 +264,27 @@ uint32_t ynd_write_then_read(
  * many they are: one more than the links followed. Refused, in this order: 13 no such place; 7 at 0 and 1 where a
  * list is shorter than its count; 7 at 8 where `visited` is too short (choices_len + 1 entries always do). */
 uint32_t ynd_walk(
-    const ynd_cell *ynd, const ynd_node_entry *nodes, size_t nodes_len, const ynd_link_entry *links, size_t
-    links_len, size_t start, const uint8_t *choices, size_t choices_len, uint32_t *visited, size_t
-    visited_len, ynd_walk_end *end, size_t *count, size_t *place);
+    const ynd_cell *ynd, const ynd_node_entry *nodes, size_t nodes_len,
+    const ynd_link_entry *links, size_t links_len, size_t start, const uint8_t *choices, size_t choices_len,
+    uint32_t *visited, size_t visited_len, ynd_walk_end *end, size_t *count, size_t *place);
 
 /* Whether the cell is sound: all nodes have one area, their numbers differ, and each link and ref of the own area
  * names a node of the cell. The scratch then holds at each number the last place that has it. Refused, in this
  * order: 7 at 0, 1 and 4 where a list is shorter than its count; 7 at 6 where the scratch has under YND_SCRATCH
  * entries. */
 uint32_t ynd_sound(
-    const ynd_cell *ynd, const ynd_node_entry *nodes, size_t nodes_len, const ynd_link_entry *links, size_t
-    links_len, const ynd_ref_entry *refs, size_t refs_len, uint32_t *scratch, size_t scratch_len, bool *sound,
-    size_t *place);
+    const ynd_cell *ynd, const ynd_node_entry *nodes, size_t nodes_len,
+    const ynd_link_entry *links, size_t links_len, const ynd_ref_entry *refs, size_t refs_len,
+    uint32_t *scratch, size_t scratch_len, bool *sound, size_t *place);
 
 /* ---- What a walk shows ---- */
 
 /* What a walk shows of the node at place `at`. Fills `shown`. Refused, in this order: 13 no such place; 7 at 0, 1,
  * 2 and 4 where a list is shorter than its count. */
 uint32_t ynd_shown_node(
-    const ynd_cell *ynd, const ynd_node_entry *nodes, size_t nodes_len, const ynd_link_entry *links, size_t
-    links_len, const ynd_junction_entry *junctions, size_t junctions_len, const ynd_ref_entry *refs, size_t
-    refs_len, size_t at, ynd_seen_node *shown, size_t *place);
+    const ynd_cell *ynd, const ynd_node_entry *nodes, size_t nodes_len,
+    const ynd_link_entry *links, size_t links_len, const ynd_junction_entry *junctions, size_t junctions_len,
+    const ynd_ref_entry *refs, size_t refs_len, size_t at, ynd_seen_node *shown, size_t *place);
 
 /* What a walk shows of the junction at place `at`, its values aside (ynd_shown_values). Fills `shown`. Refused: 13
  * no such place; 7 at 2 where a list is shorter than its count. */
@@ -296,35 +296,38 @@ uint32_t ynd_shown_junction(
  * many they are into `count`: 65,025 entries always do. Refused, in this order: 13 no such place; 7 at 2 and 3
  * where a list is shorter than its count; 7 at 3 where `values` is too short. */
 uint32_t ynd_shown_values(
-    const ynd_cell *ynd, const ynd_junction_entry *junctions, size_t junctions_len, const uint8_t *heights,
-    size_t heights_len, size_t at, uint8_t *values, size_t values_len, size_t *count, size_t *place);
+    const ynd_cell *ynd, const ynd_junction_entry *junctions, size_t junctions_len,
+    const uint8_t *heights, size_t heights_len, size_t at, uint8_t *values, size_t values_len, size_t *count,
+    size_t *place);
 
 /* What a walk shows of the link that a byte chooses at place `at`: `shown` gets found = 1 and the link's flags and
  * length, or five zeros where there is no such link. Refused, in this order: 13 no such place; 7 at 0 and 1 where
  * a list is shorter than its count. */
 uint32_t ynd_shown_link(
-    const ynd_cell *ynd, const ynd_node_entry *nodes, size_t nodes_len, const ynd_link_entry *links, size_t
-    links_len, size_t at, uint8_t choice, ynd_seen_link *shown, size_t *place);
+    const ynd_cell *ynd, const ynd_node_entry *nodes, size_t nodes_len,
+    const ynd_link_entry *links, size_t links_len, size_t at, uint8_t choice, ynd_seen_link *shown,
+    size_t *place);
 
 /* ---- Lookups. Nothing found is no refusal ---- */
 
 /* The place of the node that has a number: `found` says whether there is one, `at` gets its place (else `at`
  * stays). Refused: 7 at 0 where a list is shorter than its count. */
 uint32_t ynd_node(
-    const ynd_cell *ynd, const ynd_node_entry *nodes, size_t nodes_len, uint16_t node_id, bool *found, size_t
-    *at, size_t *place);
+    const ynd_cell *ynd, const ynd_node_entry *nodes, size_t nodes_len, uint16_t node_id, bool *found,
+    size_t *at, size_t *place);
 
 /* The place of the junction that the refs give to a node, by area and number: `found`, and then `at` (else `at`
  * stays). Refused: 7 at 0 and 4 where a list is shorter than its count. */
 uint32_t ynd_junction_of(
-    const ynd_cell *ynd, const ynd_node_entry *nodes, size_t nodes_len, const ynd_ref_entry *refs, size_t
-    refs_len, uint16_t area_id, uint16_t node_id, bool *found, size_t *at, size_t *place);
+    const ynd_cell *ynd, const ynd_node_entry *nodes, size_t nodes_len,
+    const ynd_ref_entry *refs, size_t refs_len, uint16_t area_id, uint16_t node_id, bool *found, size_t *at,
+    size_t *place);
 
 /* The cell's own area, the first node's: `found` is false in a cell with no node, and `area` stays. Refused: 7 at
  * 0 where a list is shorter than its count. */
 uint32_t ynd_area_of_cell(
-    const ynd_cell *ynd, const ynd_node_entry *nodes, size_t nodes_len, bool *found, uint32_t *area, size_t
-    *place);
+    const ynd_cell *ynd, const ynd_node_entry *nodes, size_t nodes_len, bool *found, uint32_t *area,
+    size_t *place);
 
 /* ---- Entries added ---- */
 
@@ -338,8 +341,8 @@ uint32_t ynd_add_node(
  * there. Refused, in this order: 13 no such place; 14 at 255 links of the node; 7 at 0 where `nodes` is shorter
  * than its count, 7 at 1 where `links` has no free entry. */
 uint32_t ynd_add_link(
-    ynd_cell *ynd, ynd_node_entry *nodes, size_t nodes_len, ynd_link_entry *links, size_t links_len, size_t
-    at, const ynd_link_entry *link, size_t *place);
+    ynd_cell *ynd, ynd_node_entry *nodes, size_t nodes_len, ynd_link_entry *links, size_t links_len, size_t at,
+    const ynd_link_entry *link, size_t *place);
 
 /* Adds a ref behind all others. Refused: 14 where the count would pass 32 bits; 7 at 4 where `refs` has no free
  * entry. */
@@ -364,13 +367,13 @@ uint32_t ynd_get_node(
 /* Copies link k of the node at place `at`. Refused: 13 no such node or link; 7 at 0 and 1 where a list is shorter
  * than its count. */
 uint32_t ynd_get_link(
-    const ynd_cell *ynd, const ynd_node_entry *nodes, size_t nodes_len, const ynd_link_entry *links, size_t
-    links_len, size_t at, size_t k, ynd_link_entry *link, size_t *place);
+    const ynd_cell *ynd, const ynd_node_entry *nodes, size_t nodes_len,
+    const ynd_link_entry *links, size_t links_len, size_t at, size_t k, ynd_link_entry *link, size_t *place);
 
 /* Copies the ref at place `at`. Refused: 13 no such place; 7 at 4 where a list is shorter than its count. */
 uint32_t ynd_get_ref(
-    const ynd_cell *ynd, const ynd_ref_entry *refs, size_t refs_len, size_t at, ynd_ref_entry *taken, size_t
-    *place);
+    const ynd_cell *ynd, const ynd_ref_entry *refs, size_t refs_len, size_t at, ynd_ref_entry *taken,
+    size_t *place);
 
 /* Copies the junction at place `at`. Refused: 13 no such place; 7 at 2 where a list is shorter than its count. */
 uint32_t ynd_get_junction(
@@ -380,8 +383,8 @@ uint32_t ynd_get_junction(
 /* Copies heightmap value k of the junction at place `at`. Refused: 13 no such junction or value; 7 at 2 and 3
  * where a list is shorter than its count. */
 uint32_t ynd_get_height(
-    const ynd_cell *ynd, const ynd_junction_entry *junctions, size_t junctions_len, const uint8_t *heights,
-    size_t heights_len, size_t at, size_t k, uint8_t *value, size_t *place);
+    const ynd_cell *ynd, const ynd_junction_entry *junctions, size_t junctions_len,
+    const uint8_t *heights, size_t heights_len, size_t at, size_t k, uint8_t *value, size_t *place);
 
 /* Stores every field of the node at place `at` but where its links are (link_start, link_count); the position is
  * taken as it is. Refused: 13 no such place; 7 at 0 where a list is shorter than its count. */
@@ -392,31 +395,31 @@ uint32_t ynd_put_node(
 /* Stores a position, in whole steps, of the node at place `at`. Refused: 13 no such place; 7 at 0 where a list is
  * shorter than its count. */
 uint32_t ynd_set_position(
-    const ynd_cell *ynd, ynd_node_entry *nodes, size_t nodes_len, size_t at, float x, float y, float z, size_t
-    *place);
+    const ynd_cell *ynd, ynd_node_entry *nodes, size_t nodes_len, size_t at, float x, float y, float z,
+    size_t *place);
 
 /* Stores link k of the node at place `at`. Refused: 13 no such node or link; 7 at 0 and 1 where a list is shorter
  * than its count. */
 uint32_t ynd_put_link(
-    const ynd_cell *ynd, const ynd_node_entry *nodes, size_t nodes_len, ynd_link_entry *links, size_t
-    links_len, size_t at, size_t k, const ynd_link_entry *link, size_t *place);
+    const ynd_cell *ynd, const ynd_node_entry *nodes, size_t nodes_len, ynd_link_entry *links, size_t links_len,
+    size_t at, size_t k, const ynd_link_entry *link, size_t *place);
 
 /* Stores the ref at place `at`. Refused: 13 no such place; 7 at 4 where a list is shorter than its count. */
 uint32_t ynd_put_ref(
-    const ynd_cell *ynd, ynd_ref_entry *refs, size_t refs_len, size_t at, const ynd_ref_entry *put, size_t
-    *place);
+    const ynd_cell *ynd, ynd_ref_entry *refs, size_t refs_len, size_t at, const ynd_ref_entry *put,
+    size_t *place);
 
 /* Stores every field of the junction at place `at` but where its heightmap starts. Refused, in this order: 13 no
  * such place; 12 where width times height is not what it was; 7 at 2 where a list is shorter than its count. */
 uint32_t ynd_put_junction(
-    const ynd_cell *ynd, ynd_junction_entry *junctions, size_t junctions_len, size_t at, const
-    ynd_junction_entry *junction, size_t *place);
+    const ynd_cell *ynd, ynd_junction_entry *junctions, size_t junctions_len, size_t at,
+    const ynd_junction_entry *junction, size_t *place);
 
 /* Stores heightmap value k of the junction at place `at`. Refused: 13 no such junction or value; 7 at 2 and 3
  * where a list is shorter than its count. */
 uint32_t ynd_put_height(
-    const ynd_cell *ynd, const ynd_junction_entry *junctions, size_t junctions_len, uint8_t *heights, size_t
-    heights_len, size_t at, size_t k, uint8_t value, size_t *place);
+    const ynd_cell *ynd, const ynd_junction_entry *junctions, size_t junctions_len,
+    uint8_t *heights, size_t heights_len, size_t at, size_t k, uint8_t value, size_t *place);
 
 /* ---- The fields of a node ---- */
 
@@ -695,8 +698,8 @@ void ynd_ref_record(const uint8_t *section, size_t section_len, uint32_t at, uin
 /* Where the five blocks of a written section lie, by their counts: each address (0 for an empty one) into
  * `addresses`, the length of the whole into `total`. ynd_write needs that many bytes. Never refused. */
 void ynd_lay_out(
-    uint32_t refs, uint32_t heightmap, uint32_t junctions, uint32_t links, uint32_t nodes, ynd_addresses
-    *addresses, size_t *total);
+    uint32_t refs, uint32_t heightmap, uint32_t junctions, uint32_t links, uint32_t nodes,
+    ynd_addresses *addresses, size_t *total);
 
 #ifdef __cplusplus
 }
