@@ -35,6 +35,7 @@ target/handheld/handheld: examples/handheld.c include/bofrashem.h $(YND_ARCHIVE)
 
 example: target/handheld/handheld test-header
 	@for f in samples/*.section; do echo; $< $$f || exit 1; done
+	@echo; echo 'up the ramp, over place 2:'; $< samples/dock.section 6 0 1 1 1
 
 # Every symbol of the archive is in the header with its parameters, and the other way round; the checks call each one.
 test-header: $(YND_ARCHIVE)

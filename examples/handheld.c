@@ -99,27 +99,28 @@ static uint32_t walk(const yard *y, size_t start, const uint8_t *choices, size_t
     if (number)
         return number;
     static const char *const HOW[] = { "done", "no such link", "left the cell", "no such node" };
-    printf("  %s after %zu links", HOW[end.how], *count - 1);
+    printf("  %s after %zu link%s", HOW[end.how], *count - 1, *count == 2 ? "" : "s");
     if (end.how == YND_LEFT)
         printf(", to area %u, node %u", (unsigned)end.area_id, (unsigned)end.node_id);
     printf("\n");
     for (size_t i = 0; i < *count; i++) {
         const ynd_node_entry *v = &y->nodes[visited[i]];
-        printf("  place %u, number %u, at %g %g %g, %u links%s\n", (unsigned)visited[i], v->node_id, (double)v->x, (double)v->y, (double)v->z,
-            v->link_count, ynd_node_is_ped_node(v) ? ", ped node" : "");
+        printf("  place %u, number %u, at %g %g %g, %u link%s%s\n", (unsigned)visited[i], v->node_id, (double)v->x, (double)v->y, (double)v->z,
+            v->link_count, v->link_count == 1 ? "" : "s", ynd_node_is_ped_node(v) ? ", ped node" : "");
     }
     return 0;
 }
 
-/* The last link of each node on the way. */
+/* The last link of each node on the way, as long as it stays in the cell. */
 static size_t last_links(const yard *y, size_t at, uint8_t *choices)
 {
     size_t n = 0, place;
     while (n < STEPS && at < y->ynd.node_count && y->nodes[at].link_count > 0) {
         const ynd_node_entry *v = &y->nodes[at];
+        const ynd_link_entry *l = &y->links[v->link_start + v->link_count - 1u];
         bool found = false;
         choices[n++] = (uint8_t)(v->link_count - 1);
-        if (ynd_node(&y->ynd, y->nodes, y->room.nodes, y->links[v->link_start + v->link_count - 1u].node_id, &found, &at, &place) || !found)
+        if (l->area_id != y->nodes[0].area_id || ynd_node(&y->ynd, y->nodes, y->room.nodes, l->node_id, &found, &at, &place) || !found)
             break;
     }
     return n;
