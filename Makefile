@@ -28,3 +28,4 @@ samples:
 	python3 samples/make_yards.py
 
 -include judge/judge.mk
+include handheld.mk

@@ -1,0 +1,230 @@
+/* Reads a yard from a file, checks it, walks, renumbers, walks again, writes it, and says so in plain text.
+ *
+ *     handheld FILE [START [CHOICE ..]]
+ *
+ * FILE holds the system section of a cell (graphics empty). The walk starts at the place START (0) and takes at each node the
+ * link CHOICE by its place; with no choice it takes the last link of each node, eight times. */
+#include <stdio.h>
+#include <stdlib.h>
+
+#include "bofrashem.h"
+
+enum { CHOICES_MOST = 256, STEPS = 8 };
+
+/* A cell with the memory that is lent for it. All of it is ours: the library keeps nothing. */
+typedef struct {
+    ynd_cell ynd;
+    ynd_counts room;
+    ynd_node_entry *nodes;
+    ynd_link_entry *links;
+    ynd_junction_entry *junctions;
+    uint8_t *heights;
+    ynd_ref_entry *refs;
+} yard;
+
+static const char *const REFUSALS[] = {
+    "accepted",
+    "fewer than 112 system bytes",
+    "a section over 16,777,216 bytes",
+    "an array's address or extent is bad",
+    "a node's links leave the list of links",
+    "a junction's heightmap leaves the heightmap bytes",
+    "more than 65,536 nodes or 4,096 junctions",
+    "lent memory too short",
+    "over 31 links on writing",
+    "links before this node over 65,535 on writing",
+    "heightmap bytes before a junction over 65,535 on writing",
+    "refs over 65,535 on writing",
+    "heightmap values not width times height",
+    "no such place",
+    "the cell is at a limit"
+};
+
+static int refused(const char *what, uint32_t number, size_t place)
+{
+    printf("%s: refused %u %zu, %s\n", what, (unsigned)number, place, number < 15 ? REFUSALS[number] : "?");
+    return EXIT_FAILURE;
+}
+
+/* A list of n entries; one where n is 0, so that NULL means no memory. */
+static void *list(size_t n, size_t size)
+{
+    void *p = calloc(n ? n : 1, size);
+    if (!p) {
+        fputs("no memory\n", stderr);
+        exit(EXIT_FAILURE);
+    }
+    return p;
+}
+
+static yard lend(ynd_counts room)
+{
+    yard y = { .room = room };
+    ynd_new(&y.ynd);
+    y.nodes = list(room.nodes, sizeof *y.nodes);
+    y.links = list(room.links, sizeof *y.links);
+    y.junctions = list(room.junctions, sizeof *y.junctions);
+    y.heights = list(room.heights, sizeof *y.heights);
+    y.refs = list(room.refs, sizeof *y.refs);
+    return y;
+}
+
+static void give_back(yard *y)
+{
+    free(y->nodes);
+    free(y->links);
+    free(y->junctions);
+    free(y->heights);
+    free(y->refs);
+}
+
+/* The whole file, or NULL. */
+static uint8_t *whole_file(const char *name, size_t *length)
+{
+    FILE *f = fopen(name, "rb");
+    uint8_t *bytes = list((size_t)YND_SECTION_MOST + 1, 1);
+    if (!f) {
+        free(bytes);
+        return NULL;
+    }
+    *length = fread(bytes, 1, (size_t)YND_SECTION_MOST + 1, f);
+    fclose(f);
+    return bytes;
+}
+
+static uint32_t walk(const yard *y, size_t start, const uint8_t *choices, size_t n, uint32_t *visited, size_t *count, size_t *place)
+{
+    ynd_walk_end end;
+    uint32_t number = ynd_walk(&y->ynd, y->nodes, y->room.nodes, y->links, y->room.links, start, choices, n, visited, n + 1, &end, count, place);
+    if (number)
+        return number;
+    static const char *const HOW[] = { "done", "no such link", "left the cell", "no such node" };
+    printf("  %s after %zu link%s", HOW[end.how], *count - 1, *count == 2 ? "" : "s");
+    if (end.how == YND_LEFT)
+        printf(", to area %u, node %u", (unsigned)end.area_id, (unsigned)end.node_id);
+    printf("\n");
+    for (size_t i = 0; i < *count; i++) {
+        const ynd_node_entry *v = &y->nodes[visited[i]];
+        printf("  place %u, number %u, at %g %g %g, %u link%s%s\n", (unsigned)visited[i], v->node_id, (double)v->x, (double)v->y, (double)v->z,
+            v->link_count, v->link_count == 1 ? "" : "s", ynd_node_is_ped_node(v) ? ", ped node" : "");
+    }
+    return 0;
+}
+
+/* The last link of each node on the way, as long as it stays in the cell. */
+static size_t last_links(const yard *y, size_t at, uint8_t *choices)
+{
+    size_t n = 0, place;
+    while (n < STEPS && at < y->ynd.node_count && y->nodes[at].link_count > 0) {
+        const ynd_node_entry *v = &y->nodes[at];
+        const ynd_link_entry *l = &y->links[v->link_start + v->link_count - 1u];
+        bool found = false;
+        choices[n++] = (uint8_t)(v->link_count - 1);
+        if (l->area_id != y->nodes[0].area_id || ynd_node(&y->ynd, y->nodes, y->room.nodes, l->node_id, &found, &at, &place) || !found)
+            break;
+    }
+    return n;
+}
+
+static void heightmaps(const yard *y)
+{
+    size_t room = y->room.heights, count, place;
+    uint8_t *values = list(room, 1);
+    for (size_t j = 0; j < y->ynd.junction_count; j++) {
+        const ynd_junction_entry *at = &y->junctions[j];
+        if (ynd_shown_values(&y->ynd, y->junctions, y->room.junctions, y->heights, y->room.heights, j, values, room, &count, &place))
+            continue;
+        printf("junction %zu: corner %g %g, heights %g to %g, %u by %u values:", j, (double)at->x, (double)at->y, (double)at->min_z, (double)at->max_z, at->width, at->height);
+        for (size_t i = 0; i < count; i++)
+            printf(" %u", values[i]);
+        printf("\n");
+    }
+    free(values);
+}
+
+/* Renumbers and walks again: the same way, wherever its nodes now stand. */
+static int renumber_and_walk(yard *y, size_t start, const uint8_t *choices, size_t n, uint32_t *visited)
+{
+    size_t count, place;
+    uint32_t *scratch = list(YND_SCRATCH, sizeof *scratch), *places = list(y->room.nodes, sizeof *places);
+    uint32_t number = ynd_renumber(&y->ynd, y->nodes, y->room.nodes, y->links, y->room.links, y->junctions, y->room.junctions, y->heights, y->room.heights,
+        y->refs, y->room.refs, scratch, YND_SCRATCH, places, y->room.nodes, &place);
+    if (!number) {
+        printf("renumbered: %u nodes first, then %u ped nodes; place %zu is now place %u\n", (unsigned)y->ynd.vehicle_node_count,
+            (unsigned)y->ynd.ped_node_count, start, (unsigned)places[start]);
+        printf("the same walk from place %u:\n", (unsigned)places[start]);
+        number = walk(y, places[start], choices, n, visited, &count, &place);
+    }
+    free(scratch);
+    free(places);
+    return number ? refused("renumbering", number, place) : EXIT_SUCCESS;
+}
+
+static int write_back(yard *y)
+{
+    ynd_addresses at;
+    size_t total, length, place;
+    ynd_lay_out(y->ynd.ref_count, y->ynd.heightmap_count, y->ynd.junction_count, y->ynd.link_count, y->ynd.node_count, &at, &total);
+    uint8_t *section = list(total, 1);
+    uint32_t number = ynd_write_then_read(&y->ynd, y->nodes, y->room.nodes, y->links, y->room.links, y->junctions, y->room.junctions, y->heights, y->room.heights,
+        y->refs, y->room.refs, section, total, &length, &place);
+    if (!number)
+        printf("written and read back: %zu bytes, nodes at 0x%llx\n", length, (unsigned long long)at.nodes);
+    free(section);
+    return number ? refused("writing", number, place) : EXIT_SUCCESS;
+}
+
+static int use(yard *y, size_t start, const uint8_t *given, size_t n)
+{
+    size_t count, place;
+    bool sound = false;
+    uint32_t *scratch = list(YND_SCRATCH, sizeof *scratch), visited[CHOICES_MOST + 1];
+    uint8_t choices[CHOICES_MOST];
+    uint32_t number = ynd_sound(&y->ynd, y->nodes, y->room.nodes, y->links, y->room.links, y->refs, y->room.refs, scratch, YND_SCRATCH, &sound, &place);
+    free(scratch);
+    if (number)
+        return refused("soundness", number, place);
+    printf("sound: %s\n", sound ? "yes" : "no");
+    heightmaps(y);
+    for (size_t i = 0; i < n; i++)
+        choices[i] = given[i];
+    if (n == 0)
+        n = last_links(y, start, choices);
+    printf("walk from place %zu:\n", start);
+    number = walk(y, start, choices, n, visited, &count, &place);
+    if (number)
+        return refused("walk", number, place);
+    int status = renumber_and_walk(y, start, choices, n, visited);
+    return status ? status : write_back(y);
+}
+
+int main(int argc, char **argv)
+{
+    if (argc < 2 || argc > 3 + CHOICES_MOST) {
+        fputs("usage: handheld FILE [START [CHOICE ..]]\n", stderr);
+        return EXIT_FAILURE;
+    }
+    size_t length, place, start = argc > 2 ? strtoul(argv[2], NULL, 10) : 0, n = argc > 3 ? (size_t)argc - 3 : 0;
+    uint8_t choices[CHOICES_MOST];
+    for (size_t i = 0; i < n; i++)
+        choices[i] = (uint8_t)strtoul(argv[3 + i], NULL, 10);
+    uint8_t *section = whole_file(argv[1], &length);
+    if (!section) {
+        perror(argv[1]);
+        return EXIT_FAILURE;
+    }
+    ynd_counts counts;
+    int status = EXIT_FAILURE;
+    uint32_t number = ynd_count(section, length, NULL, 0, &counts, &place);
+    if (!number) {
+        yard y = lend(counts);
+        number = ynd_read(&y.ynd, section, length, NULL, 0, y.nodes, counts.nodes, y.links, counts.links, y.junctions, counts.junctions,
+            y.heights, counts.heights, y.refs, counts.refs, &place);
+        printf("%s: nodes %zu links %zu junctions %zu refs %zu\n", argv[1], counts.nodes, counts.links, counts.junctions, counts.refs);
+        if (!number)
+            status = use(&y, start, choices, n);
+        give_back(&y);
+    }
+    free(section);
+    return number ? refused(argv[1], number, place) : status;
+}

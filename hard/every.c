@@ -1,0 +1,171 @@
+/* The calls that the other checks leave out: the fields of nodes and links, records, and empty lists as NULL. */
+#include "drive.h"
+
+typedef bool node_bit(const ynd_node_entry *);
+typedef void set_node_bit(ynd_node_entry *, bool);
+typedef uint8_t node_number(const ynd_node_entry *);
+typedef void set_node_number(ynd_node_entry *, uint8_t);
+
+static const struct { node_bit *get; set_node_bit *set; size_t byte; unsigned bit; } NODE_BITS[] = {
+    { ynd_node_off_road, ynd_node_set_off_road, 0, 3 },
+    { ynd_node_no_big_vehicles, ynd_node_set_no_big_vehicles, 0, 5 },
+    { ynd_node_cannot_go_left, ynd_node_set_cannot_go_left, 0, 7 },
+    { ynd_node_slip_road, ynd_node_set_slip_road, 1, 0 },
+    { ynd_node_indicate_keep_left, ynd_node_set_indicate_keep_left, 1, 1 },
+    { ynd_node_indicate_keep_right, ynd_node_set_indicate_keep_right, 1, 2 },
+    { ynd_node_left_turns_only, ynd_node_set_left_turns_only, 1, 7 },
+    { ynd_node_no_gps, ynd_node_set_no_gps, 2, 0 },
+    { ynd_node_is_junction, ynd_node_set_is_junction, 2, 2 },
+    { ynd_node_highway, ynd_node_set_highway, 2, 6 },
+    { ynd_node_tunnel, ynd_node_set_tunnel, 3, 0 },
+};
+
+static const struct { node_number *get; set_node_number *set; size_t byte; unsigned shift, bits; } NODE_NUMBERS[] = {
+    { ynd_node_special, ynd_node_set_special, 1, 3, 5 },
+    { ynd_node_heuristic_value, ynd_node_set_heuristic_value, 3, 1, 7 },
+    { ynd_node_density, ynd_node_set_density, 4, 0, 4 },
+    { ynd_node_speed, ynd_node_set_speed, 5, 1, 2 },
+};
+
+static unsigned field(uint8_t byte, unsigned shift, unsigned bits)
+{
+    return byte >> shift & ((1u << bits) - 1);
+}
+
+static void node_fields(ynd_node_entry *v, uint8_t value)
+{
+    uint8_t *flags = &v->flags0;
+    for (size_t i = 0; i < sizeof NODE_BITS / sizeof *NODE_BITS; i++) {
+        memset(flags, value, 6);
+        NODE_BITS[i].set(v, value % 3 == 0);
+        CHECK(NODE_BITS[i].get(v) == (value % 3 == 0) && field(flags[NODE_BITS[i].byte], NODE_BITS[i].bit, 1) == (value % 3 == 0));
+        CHECK(((flags[NODE_BITS[i].byte] ^ value) & ~(1u << NODE_BITS[i].bit)) == 0);
+    }
+    for (size_t i = 0; i < sizeof NODE_NUMBERS / sizeof *NODE_NUMBERS; i++) {
+        memset(flags, (uint8_t)~value, 6);
+        NODE_NUMBERS[i].set(v, value);
+        unsigned want = i == 3 && value > 3 ? 3 : field(value, 0, NODE_NUMBERS[i].bits);
+        CHECK(NODE_NUMBERS[i].get(v) == want && field(flags[NODE_NUMBERS[i].byte], NODE_NUMBERS[i].shift, NODE_NUMBERS[i].bits) == want);
+    }
+    memset(flags, value, 6);
+    CHECK(ynd_node_dead_endness(v) == field(value, 4, 3) * 16);
+    CHECK(ynd_node_is_disabled_unk1(v) == field(value, 4, 1) && ynd_node_is_disabled_unk0(v) == field(value, 7, 1));
+    CHECK(ynd_node_is_disabled(v) == (field(value, 4, 1) || field(value, 7, 1)));
+    CHECK(ynd_node_is_ped_node(v) == ynd_special_is_ped(value >> 3));
+    CHECK(ynd_special_is_ped(value) == (value == 10 || value == 14 || value == 18));
+}
+
+static void link_fields(ynd_link_entry *l, uint8_t value)
+{
+    memset(&l->flags0, value, 3);
+    CHECK(ynd_link_gps_both_ways(l) == field(value, 0, 1) && ynd_link_narrow_road(l) == field(value, 1, 1));
+    CHECK(ynd_link_offset_value(l) == field(value, 4, 3) && ynd_link_negative_offset(l) == field(value, 7, 1));
+    CHECK(ynd_link_lane_offset(l) == ynd_lane_offset(ynd_link_offset_value(l), ynd_link_negative_offset(l)));
+    CHECK(ynd_link_dont_use_for_navigation(l) == field(value, 0, 1) && ynd_link_shortcut(l) == field(value, 1, 1));
+    CHECK(ynd_link_lane_count_backward(l) == field(value, 2, 3) && ynd_link_lane_count_forward(l) == field(value, 5, 3));
+    CHECK(ynd_link_is_two_way(l) == (field(value, 2, 3) > 0 && field(value, 5, 3) > 0));
+    ynd_link_set_shortcut(l, value % 3 == 0);
+    ynd_link_set_lane_count_backward(l, value);
+    ynd_link_set_lane_count_forward(l, (uint8_t)(value / 2));
+    CHECK(ynd_link_shortcut(l) == (value % 3 == 0) && ynd_link_lane_count_backward(l) == field(value, 0, 3));
+    CHECK(ynd_link_lane_count_forward(l) == field((uint8_t)(value / 2), 0, 3) && ynd_link_dont_use_for_navigation(l) == field(value, 0, 1));
+}
+
+static void new_entries(ynd_node_entry *v, ynd_link_entry *l)
+{
+    float *stored = block(3 * sizeof *stored);
+    ynd_node_new(489, 7, -0.3f, 8192, -1024, v);
+    CHECK(v->area_id == 489 && v->node_id == 7 && v->x == -0.25f && v->y == 8191.75f && v->z == -1024 && v->link_count == 0);
+    ynd_node_set_position(v, 1.1f, 2.2f, 3.3f);
+    ynd_stored_position(1.1f, 2.2f, 3.3f, stored);
+    CHECK(v->x == stored[0] && v->y == stored[1] && v->z == stored[2] && v->node_id == 7);
+    ynd_link_to(1, 2, l);
+    CHECK(l->area_id == 1 && l->node_id == 2 && l->flags0 == 0 && l->length == 0);
+    unblock(stored, 3 * sizeof *stored);
+}
+
+/* Records at every offset of a short section, past its end too: each is its bytes, with zeros behind them. */
+static void records(void)
+{
+    enum { N = 130 };
+    uint8_t *section = block(N), *node = block(40), *link = block(8), *junction = block(12), *ref = block(8);
+    uint32_t *words = block(YND_ROOT_WORDS * sizeof *words);
+    for (unsigned i = 0; i < N; i++)
+        section[i] = (uint8_t)(i * 37 + 11);
+    for (uint32_t at = 0; at < N + 50; at++) {
+        ynd_node_record(section, N, at, node);
+        ynd_link_record(section, N, at, link);
+        ynd_junction_record(section, N, at, junction);
+        ynd_ref_record(section, N, at, ref);
+        for (uint32_t k = 0; k < 40; k++)
+            CHECK(node[k] == ynd_byte_at(section, N, at + k) && (k >= 8 || (link[k] == node[k] && ref[k] == node[k])) && (k >= 12 || junction[k] == node[k]));
+        CHECK(ynd_u64_at(section, N, at) == (ynd_u32_at(section, N, at) | (uint64_t)ynd_u32_at(section, N, at + 4) << 32));
+        CHECK(ynd_i16_at(section, N, at) == (int16_t)ynd_u16_at(section, N, at));
+    }
+    ynd_root(section, N, words);
+    CHECK(words[0] == ynd_u32_at(section, N, 0) && words[1] == 1 && words[6] == ynd_u32_at(section, N, 24));
+    ynd_root(section + N, 0, words);
+    CHECK(words[0] == 0 && words[1] == 1);
+    unblock(words, YND_ROOT_WORDS * sizeof *words);
+    unblock(ref, 8);
+    unblock(junction, 12);
+    unblock(link, 8);
+    unblock(node, 40);
+    unblock(section, N);
+}
+
+/* An empty list may be NULL: a cell of 112 zero bytes, with nothing lent. */
+static void empty_lists(void)
+{
+    uint8_t *zeros = block(YND_ROOT_BYTES), *section = block(1152);
+    size_t *place = block(sizeof *place), *n = block(sizeof *n), *at = block(sizeof *at);
+    uint32_t *scratch = block(YND_SCRATCH * sizeof *scratch), *area = block(sizeof *area);
+    bool *yes = block(sizeof *yes);
+    ynd_cell *ynd = block(sizeof *ynd);
+    ynd_counts *counts = block(sizeof *counts);
+    ynd_walk_end *end = block(sizeof *end);
+    memset(zeros, 0, YND_ROOT_BYTES);
+    *yes = false;
+    CHECK(ynd_count(NULL, 0, NULL, 0, counts, place) == YND_FEW_SYSTEM_BYTES && *place == 0);
+    CHECK(ynd_count(zeros, YND_ROOT_BYTES, NULL, 0, counts, place) == 0 && counts->nodes == 0 && counts->refs == 0);
+    CHECK(ynd_read(ynd, zeros, YND_ROOT_BYTES, NULL, 0, NULL, 0, NULL, 0, NULL, 0, NULL, 0, NULL, 0, place) == 0 && ynd->node_count == 0);
+    CHECK(ynd_sound(ynd, NULL, 0, NULL, 0, NULL, 0, scratch, YND_SCRATCH, yes, place) == 0 && *yes);
+    CHECK(ynd_sound(ynd, NULL, 0, NULL, 0, NULL, 0, NULL, 0, yes, place) == YND_LENT_TOO_SHORT && *place == YND_SCRATCH_LIST);
+    CHECK(ynd_renumber(ynd, NULL, 0, NULL, 0, NULL, 0, NULL, 0, NULL, 0, scratch, YND_SCRATCH, NULL, 0, place) == 0);
+    CHECK(ynd_write(ynd, NULL, 0, NULL, 0, NULL, 0, NULL, 0, NULL, 0, section, 1152, n, place) == 0 && *n == 1152);
+    CHECK(ynd_write(ynd, NULL, 0, NULL, 0, NULL, 0, NULL, 0, NULL, 0, NULL, 0, n, place) == YND_LENT_TOO_SHORT && *place == YND_SECTION);
+    CHECK(ynd_write_then_read(ynd, NULL, 0, NULL, 0, NULL, 0, NULL, 0, NULL, 0, section, 1152, n, place) == 0 && *n == 1152);
+    CHECK(ynd_walk(ynd, NULL, 0, NULL, 0, 0, NULL, 0, NULL, 0, end, n, place) == YND_NO_SUCH_PLACE);
+    CHECK(ynd_node(ynd, NULL, 0, 3, yes, at, place) == 0 && !*yes && *at == KEPT_SIZE);
+    CHECK(ynd_junction_of(ynd, NULL, 0, NULL, 0, 1, 2, yes, at, place) == 0 && !*yes);
+    CHECK(ynd_area_of_cell(ynd, NULL, 0, yes, area, place) == 0 && !*yes);
+    CHECK(ynd_shown_values(ynd, NULL, 0, NULL, 0, 0, NULL, 0, n, place) == YND_NO_SUCH_PLACE);
+    CHECK(ynd_add_node(ynd, NULL, 0, 1, 0, 0, 0, place) == YND_LENT_TOO_SHORT && *place == YND_NODES);
+    CHECK(!ynd_area_id_from_file_name(NULL, 0, area) && ynd_byte_at(NULL, 0, 0) == 0 && ynd_u64_at(NULL, 0, 0) == 0);
+    unblock(end, sizeof *end);
+    unblock(counts, sizeof *counts);
+    unblock(ynd, sizeof *ynd);
+    unblock(yes, sizeof *yes);
+    unblock(area, sizeof *area);
+    unblock(scratch, YND_SCRATCH * sizeof *scratch);
+    unblock(at, sizeof *at);
+    unblock(n, sizeof *n);
+    unblock(place, sizeof *place);
+    unblock(section, 1152);
+    unblock(zeros, YND_ROOT_BYTES);
+}
+
+void every_call(void)
+{
+    ynd_node_entry *v = block(sizeof *v);
+    ynd_link_entry *l = block(sizeof *l);
+    for (unsigned value = 0; value < 256; value++) {
+        node_fields(v, (uint8_t)value);
+        link_fields(l, (uint8_t)value);
+    }
+    new_entries(v, l);
+    unblock(l, sizeof *l);
+    unblock(v, sizeof *v);
+    records();
+    empty_lists();
+}
