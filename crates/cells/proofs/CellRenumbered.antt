@@ -10,7 +10,8 @@ use lib.Seq.{take-at, length-take-le}
 use lib.ListN.{List·getD-append}
 use Rattle.cells.specs.Order.{keep, parted, renamed, Old, newPlace, newPlaces}
 use Rattle.cells.specs.NodeWords.{areaOf, numberOf, isPed, numbered, numberFrom, reordered, firstArea, oldOf, relinked}
-use Rattle.cells.specs.Renumber.{Lists, Renumbered, over, vehicles, peds, renumberLists, recounted, newLists, renumberMemory, answerOf, leftBy, renumber, Room}
+use Rattle.cells.specs.Renumber.{Lists, Renumbered, over, vehicles, peds, renumberLists, recounted, newLists, renumberMemory, answerOf, leftBy, renumber}
+use Rattle.cells.specs.RenumberParts.{Room}
 use Rattle.numbers.specs.declared.answer.Answer.{Answer}
 use Rattle.numbers.specs.declared.answer.Answer.the-variants.{Done, Refused}
 use lib.Dec.{ltb}

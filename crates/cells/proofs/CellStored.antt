@@ -14,7 +14,7 @@ use Rattle.numbers.specs.declared.answer.Answer.the-variants.{Done}
 use Rattle.records.specs.declared.junction_ref.NodeJunctionRef.{NodeJunctionRef}
 use Rattle.cells.specs.declared.node.PathNode.{PathNode}
 use Rattle.cells.specs.declared.junction.PathJunction.{PathJunction}
-use Rattle.cells.specs.Fits.{NodeFits}
+use Rattle.cells.proofs.EntryFits.{NodeFits}
 use Rattle.cells.specs.NodeWords.{areaOf, numberOf, linkStart, linkCount, valueStart}
 use Rattle.cells.specs.NodeAccess.{changed, withPosition}
 use Rattle.cells.specs.Words.{toNode, nodeWords, junctionWords, refWords}

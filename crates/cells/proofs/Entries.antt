@@ -12,7 +12,7 @@ use Rattle.cells.specs.declared.node.PathNode.{PathNode}
 use Rattle.cells.specs.declared.link.PathLink.{PathLink}
 use Rattle.cells.specs.declared.junction.PathJunction.{PathJunction}
 use Rattle.cells.specs.Words.{toNode, nodeWords, toLink, linkWords, toJunction, junctionWords, toRef, refWords}
-use Rattle.cells.specs.Fits.{NodeFits, LinkFits, JunctionFits, RefFits}
+use Rattle.cells.proofs.EntryFits.{NodeFits, LinkFits, JunctionFits, RefFits}
 
 -- ---- a word holds its bytes
 

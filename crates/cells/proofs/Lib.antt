@@ -1,5 +1,6 @@
 pub mod Tests
 pub mod Fits
+pub mod EntryFits
 pub mod Ranks
 pub mod Parted
 pub mod PartedTwice

@@ -10,7 +10,7 @@ use lib.ListN.{length, getD, take, length-map, List·getD-map}
 use lib.Seq.{length-take-le, getD-take}
 use Rattle.cells.specs.Order.{newNumber, placeOr, renamed, belongs}
 use Rattle.cells.specs.NodeWords.{areaOf, numberOf, isPed, firstArea, oldOf}
-use Rattle.cells.specs.Renumber.{Ready}
+use Rattle.cells.specs.RenumberParts.{Ready}
 use Rattle.cells.proofs.Placed.{new-at}
 use Rattle.cells.proofs.Named.{named, unnamed}
 

@@ -13,7 +13,7 @@ use lib.Seq.{take-suc, length-take-le, getD-set-same, getD-set-other}
 use borrow.Author.Tests.{eqb-true, eqb-false, eq-eqb}
 use Rattle.cells.specs.Order.{lastWith, orElse}
 use Rattle.cells.specs.NodeWords.{numberOf}
-use Rattle.cells.specs.Renumber.{Indexed}
+use Rattle.cells.specs.RenumberParts.{Indexed}
 use Rattle.cells.proofs.Tests.{by-test}
 
 some-none : {P : Type 0} {i : ℕ} → _≡_ {A = Option ℕ} none (some i) → P

@@ -1,4 +1,4 @@
--- When reading back what is written would be refused, by counts alone: what write-then-read has to test before it writes.
+-- When reading back what is written would be refused, by counts alone: what write-then-read has to test before it writes. No public function's contract cites this.
 use Prim.Native.Nat.{ℕ, _+_, _*_, _/_, _%_}
 use mathlib.Core.Bool.{Bool}
 use mathlib.Core.List.{List, []}

@@ -1,6 +1,5 @@
 pub mod Lists
 pub mod Words
-pub mod Fits
 pub mod Access
 pub mod LinkAccess
 pub mod Special
@@ -13,6 +12,7 @@ pub mod Order
 pub mod NodeWords
 pub mod Moves
 pub mod Renumber
+pub mod RenumberParts
 pub mod Cell
 pub mod CellOf
 pub mod FileCell

@@ -1,4 +1,4 @@
--- What the steps of moving nodes in place require of each other.
+-- What the steps of moving nodes in place require of each other. No public function's contract cites this.
 use Prim.Native.Nat.{ℕ, _<_}
 use mathlib.Core.Path.{_≡_}
 use mathlib.Core.List.{List}

@@ -1,14 +1,12 @@
 -- Section 4, renumbering: what the call answers, and what it leaves of the cell and of the lists lent to it.
 -- The scratch is not part of the state: its content afterwards is free. Junctions and heightmaps are lent to be counted and stay.
-use Prim.Native.Nat.{ℕ, _≤_, _<_}
-use mathlib.Core.Path.{_≡_}
+use Prim.Native.Nat.{ℕ}
 use mathlib.Core.Bool.{cond}
 use mathlib.Core.List.{List, _++_, map}
-use mathlib.Core.Option.{some}
 use lib.Dec.{ltb}
-use lib.ListN.{length, take, drop, getD}
-use Rattle.cells.specs.Order.{keep, newPlace, newPlaces, lastWith}
-use Rattle.cells.specs.NodeWords.{isPed, isVehicle, numberOf, reordered, oldOf, relinked}
+use lib.ListN.{length, take, drop}
+use Rattle.cells.specs.Order.{keep, newPlaces}
+use Rattle.cells.specs.NodeWords.{isPed, isVehicle, reordered, oldOf, relinked}
 use Rattle.cells.specs.Memory.{Memory, memory, short}
 use Rattle.cells.specs.declared.ynd.Ynd.{Ynd}
 use Rattle.cells.specs.declared.ynd.Outcome.{Outcome}
@@ -95,27 +93,3 @@ leftBy (Refused cause place) m places = record { answer = Refused cause place; m
 -- the whole call, with a scratch of this many entries and a list for the new places
 unfoldable pub renumber : Memory → ℕ → List ℕ → Renumbered
 renumber m scratch places = leftBy (answerOf (m .ynd .«node_count») (short m) scratch (length places)) m places
-
--- ---- what the parts of the call require of each other
-
--- the scratch leads from each number that a node has to the last node that has it
-pub record Indexed (numbers : List ℕ) (scratch : List ℕ) : Type 0 where
-  pub at : (k p : ℕ) → lastWith numbers k ≡ some p → getD scratch k 0 ≡ p
-
--- what the numbers of links and refs are looked up in
-pub record Ready (n : ℕ) (nodes : List (List ℕ)) (scratch places : List ℕ) : Type 0 where
-  pub few : n ≤ 65536
-  pub nodes-fit : n ≤ length nodes
-  pub scratch-fits : 65536 ≤ length scratch
-  pub places-fit : n ≤ length places
-  pub indexed : Indexed (map numberOf (take n nodes)) scratch
-  pub placed : (p : ℕ) → p < n → getD places p 0 ≡ newPlace (map isPed (take n nodes)) p
-
--- the room that an accepted call has
-pub record Room (m : Memory) (scratch places : ℕ) : Type 0 where
-  pub few : m .ynd .«node_count» ≤ 65536
-  pub nodes-fit : m .ynd .«node_count» ≤ length (m .nodes)
-  pub links-fit : m .ynd .«link_count» ≤ length (m .links)
-  pub refs-fit : m .ynd .«ref_count» ≤ length (m .refs)
-  pub scratch-fits : 65536 ≤ scratch
-  pub places-fit : m .ynd .«node_count» ≤ places

@@ -1,4 +1,4 @@
--- What checks 8 to 11 give together: a refusal, or how much there is to write.
+-- What checks 8 to 11 give together: a refusal, or how much there is to write. No public function's contract cites this.
 use Prim.Native.Nat.{ℕ}
 use mathlib.Core.List.{List}
 use lib.Dec.{ltb}

@@ -3,19 +3,24 @@
 use Prim.Native.Nat.{ℕ}
 use mathlib.Core.List.{List, []}
 use lib.ListN.{take}
-use Rattle.cells.specs.Memory.{Memory}
+use Rattle.cells.specs.Memory.{Memory, memory}
 use Rattle.cells.specs.Read.{readOf}
 use Rattle.cells.specs.Write.{writeCall}
 use Rattle.numbers.specs.declared.answer.Answer.{Answer}
 use Rattle.numbers.specs.declared.answer.Answer.the-variants.{Done, Refused}
 use Rattle.cells.specs.declared.write.Written.{Written}
 use Rattle.cells.specs.declared.write.Written.the-variants as written
+use Rattle.cells.specs.declared.write_read.WroteRead.{WroteRead}
 
 -- what the call answers, and the memory and the section after it
 pub record Both : Type 0 where
   pub answer : Written
   pub memory : Memory
   pub section : List ℕ
+
+-- what the call answers and leaves
+abbrev pub both : WroteRead → List (List ℕ) → List (List ℕ) → List (List ℕ) → List ℕ → List (List ℕ) → List ℕ → Both
+both r nodes links junctions heights refs section = record { answer = r .answer; memory = memory (r .ynd) nodes links junctions heights refs; section = section }
 
 -- n bytes were written to the section t; what reading them answers and leaves
 abbrev pub ifRead : ℕ → List ℕ → Answer → Memory → Memory → List ℕ → Both

@@ -5,7 +5,7 @@ ghost use Prim.Native.Nat.{_≤_};
 ghost use lib.ListN.{length, take};
 ghost use Rattle.cells.specs.Order.{newNumber};
 ghost use Rattle.cells.specs.NodeWords.{numberOf, oldOf};
-ghost use Rattle.cells.specs.Renumber.{Indexed, Ready};
+ghost use Rattle.cells.specs.RenumberParts.{Indexed, Ready};
 use crate::node::NodeWords;
 use crate::node_words::number_of;
 

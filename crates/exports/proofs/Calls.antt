@@ -5,7 +5,7 @@ use mathlib.Core.List.{List}
 use Rattle.numbers.specs.declared.answer.Answer.{Answer}
 use Rattle.cells.specs.declared.ynd.Outcome.{Outcome}
 use Rattle.cells.specs.declared.write_read.WroteRead.{WroteRead}
-use Rattle.cells.specs.BackAnswer.{both}
+use Rattle.cells.specs.WriteRead.{both}
 use Rattle.cells.specs.Edit.{Stored, stored}
 use Rattle.cells.specs.Memory.{Left, left}
 use Rattle.cells.specs.WriteRead.{Both}

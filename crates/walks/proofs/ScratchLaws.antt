@@ -13,7 +13,7 @@ use Rattle.cells.specs.NodeWords.{numberOf}
 use Rattle.cells.specs.Order.{lastWith}
 use Rattle.cells.specs.Lookup.{firstWith, isSome}
 use Rattle.cells.specs.LookupCall.{numbersIn}
-use Rattle.cells.specs.Renumber.{Indexed}
+use Rattle.cells.specs.RenumberParts.{Indexed}
 use Rattle.cells.proofs.Named as cells
 use Rattle.cells.proofs.Tests.{by-test}
 use Rattle.walks.specs.Sound.{differing}

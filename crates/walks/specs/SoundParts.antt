@@ -9,7 +9,7 @@ use Rattle.cells.specs.Order.{belongs}
 use Rattle.cells.specs.NodeWords.{areaOf, linkStart, linkCount}
 use Rattle.cells.specs.Lookup.{firstWith, isSome}
 use Rattle.cells.specs.LookupCall.{numbersIn}
-use Rattle.cells.specs.Renumber.{Indexed}
+use Rattle.cells.specs.RenumberParts.{Indexed}
 use Rattle.walks.specs.Sound.{differing}
 
 -- the first n nodes, and a scratch that leads from each number that one has to the last that has it

@@ -8,7 +8,7 @@ ghost use Rattle.cells.specs.Lists.{every};
 ghost use Rattle.cells.specs.Lookup.{firstWith, isSome};
 ghost use Rattle.cells.specs.LookupCall.{numbersIn};
 ghost use Rattle.cells.specs.Memory.{memory};
-ghost use Rattle.cells.specs.Renumber.{Indexed};
+ghost use Rattle.cells.specs.RenumberParts.{Indexed};
 ghost use Rattle.walks.specs.Sound.{differing};
 ghost use Rattle.walks.specs.SoundCall.{verdict, indexed, soundLeft, soundCall};
 ghost use Rattle.walks.specs.SoundParts.{Ready, wordNamed, wordSound, wordsSound, noneOr};

@@ -4,7 +4,7 @@ use mathlib.Core.List.{map}
 use native.Mathlib.Omega.{arith}
 use lib.ListN.{length, take, length-set}
 use Rattle.cells.specs.NodeWords.{numberOf}
-use Rattle.cells.specs.Renumber.{Indexed}
+use Rattle.cells.specs.RenumberParts.{Indexed}
 use Rattle.cells.proofs.Named.{index-starts, index-turn}
 use borrow.Author.Needs.{needs}
 use Rattle.cells.proofs.number_index.index_numbers.Statement.{statement}

@@ -5,7 +5,8 @@ use lib.ListN.{length}
 use Rattle.numbers.specs.declared.answer.Answer.{Answer}
 use Rattle.numbers.specs.declared.answer.Answer.the-variants.{Done}
 use Rattle.cells.specs.Memory.{Memory, memory, short}
-use Rattle.cells.specs.Renumber.{peds, recounted, answerOf, newLists, leftBy, renumberMemory, renumber, Room}
+use Rattle.cells.specs.Renumber.{peds, recounted, answerOf, newLists, leftBy, renumberMemory, renumber}
+use Rattle.cells.specs.RenumberParts.{Room}
 use Rattle.cells.proofs.Placed.{vehicles-few, peds-are}
 use Rattle.cells.proofs.CellRenumbered.{accepted}
 use borrow.Author.Needs.{needs}

@@ -4,7 +4,7 @@ use native.Mathlib.Omega.{arith}
 use lib.ListN.{length, length-set}
 use Rattle.cells.specs.LookupCall.{numbersIn}
 use Rattle.walks.specs.SoundCall.{indexed}
-use Rattle.cells.specs.Renumber.{Indexed}
+use Rattle.cells.specs.RenumberParts.{Indexed}
 use Rattle.walks.proofs.ScratchLaws.{index-starts, index-turn, indexed-start, indexed-turn}
 use borrow.Author.Needs.{needs}
 use Rattle.walks.proofs.sound.index_numbers.Statement.{statement}
