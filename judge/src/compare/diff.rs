@@ -5,6 +5,8 @@ use super::{access, cells, files, programs, records, scripts, soak};
 use crate::inputs::{self, floats, limits, memories, names, rng::Rng, shrink};
 use crate::model::length;
 
+/// The bits of 2^-24.
+const SMALL: u64 = 0x3380_0000;
 /// Lists of calls in a short run and in a full one.
 const LISTS: [u64; 2] = [20_000, 1_000_000];
 
@@ -37,10 +39,11 @@ fn numbers(run: &Run, seconds: f64) {
     let thresholds = &length::thresholds();
     run.sweep("steps", 1 << 32, [61, 1], |i| steps_of(i as u32));
     run.sweep("grid", 1 << 32, [61, 1], |i| cell_for_position(i as u32, (i as u32).wrapping_mul(0x9E37_79B1)));
-    run.sweep("lengths along an axis", 1 << 32, [401, 1], |i| length_between(thresholds, [[0; 3], [0, i as u32, 0]]));
+    // All f32 from 2^-24 up, the infinite ones and those that are no number too; below, squares that are subnormal cost most of the time.
+    run.sweep("lengths along an axis", 0x8000_0000 - SMALL, [401, 1], |i| length_between(thresholds, [[0; 3], [0, (SMALL + i) as u32, 0]]));
     run.sweep("metres", 1 << 16, [1, 1], |i| metres(i as u16 as i16));
     run.sweep("lane offsets", 1 << 8, [1, 1], |i| lane_offset(i as u8));
-    run.sweep("areas", 1 << 32, [65_537, 1], |i| area(i as u32));
+    run.sweep("areas", 1 << 32, [65_537, 17], |i| area(i as u32));
     run.sweep("areas of 16 bits", 1 << 16, [1, 1], |i| area(i as u32));
     run.sweep("accessors", 1 << 16, [1, 1], |i| access::check(i as u8, (i >> 8) as u8));
     run.sweep("new ones", 1 << 16, [257, 1], |i| access::new_ones(i as u16, !i as u16));
