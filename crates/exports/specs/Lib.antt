@@ -3,3 +3,4 @@ pub mod Answers
 pub mod Cells
 pub mod Found
 pub mod Parts
+pub mod Values

@@ -1,15 +1,18 @@
 // The fields of a node's flags. A node is lent as its words.
+use cells::node::PathNode;
 use cells::node::node_of;
 use cells::node::node_words;
 use cells::special::NodeSpecial;
 use cells::special::NodeSpeed;
+use numbers::math::Vec3;
 ghost use mathlib.Core.Path.{_≡_};
 ghost use Prim.Native.Nat.{_*_, _/_};
 ghost use Rattle.cells.specs.Access.{fieldOf, withField, hasBit, withBit};
-ghost use Rattle.cells.specs.NodeAccess.{withFlags0, withFlags1, withFlags2, withFlags3, withFlags4, withFlags5, disabled};
+ghost use Rattle.cells.specs.NodeAccess.{newNode, withPosition, withFlags0, withFlags1, withFlags2, withFlags3, withFlags4, withFlags5, disabled};
 ghost use Rattle.cells.specs.NodeWords.{pedKind};
-ghost use Rattle.cells.specs.Special.{specialOf, specialValue, speedOf, speedValue};
+ghost use Rattle.cells.specs.Special.{specialOf, specialValue, isPedSpecial, speedOf, speedValue};
 ghost use Rattle.cells.specs.Words.{toNode, nodeWords};
+ghost use Rattle.numbers.specs.Positions.{quantised, dequantised};
 
 #[no_mangle]
 pub extern "C" fn ynd_node_off_road(node: &[u32; 8]) -> bool
@@ -322,5 +325,41 @@ pub extern "C" fn ynd_node_set_speed(node: &mut [u32; 8], v: u8)
     let n = node_of(*node);
     let s = speed_of(v);
     let w = node_words(n.set_speed(s));
+    *node = w;
+}
+
+// Whether a kind is one of the three kinds of ped node.
+#[no_mangle]
+pub extern "C" fn ynd_special_is_ped(v: u8) -> bool
+    ensures { λ r. ⌜ r ≡ isPedSpecial (specialOf v) ⌝ }
+{
+    let s = NodeSpecial::from_value(v);
+    s.is_ped()
+}
+
+// A node at a position in whole steps, with no flags and no links.
+#[no_mangle]
+pub extern "C" fn ynd_node_new(
+    area_id: u16,
+    node_id: u16,
+    x: f32,
+    y: f32,
+    z: f32,
+    node: &mut [u32; 8],
+)
+    ensures { λ _. ⌜ now (node .exit) ≡ nodeWords (newNode «area_id» «node_id» (dequantised (quantised (record { x = x; y = y; z = z })))) ⌝ }
+{
+    let n = PathNode::new(area_id, node_id, Vec3 { x, y, z });
+    let w = node_words(n);
+    *node = w;
+}
+
+// The position is stored in whole steps.
+#[no_mangle]
+pub extern "C" fn ynd_node_set_position(node: &mut [u32; 8], x: f32, y: f32, z: f32)
+    ensures { λ _. ⌜ now (node .exit) ≡ nodeWords (withPosition (toNode (now (node .entry))) (dequantised (quantised (record { x = x; y = y; z = z })))) ⌝ }
+{
+    let n = node_of(*node);
+    let w = node_words(n.set_position(Vec3 { x, y, z }));
     *node = w;
 }

@@ -5,7 +5,7 @@ ghost use mathlib.Core.Path.{_≡_};
 ghost use mathlib.Core.List.{[], _∷_};
 ghost use lib.ListN.{length, replicate};
 ghost use Rattle.records.specs.Put.{joined, putIn};
-ghost use Rattle.records.specs.Bytes.{bytes32};
+ghost use Rattle.records.specs.Bytes.{byteAt, le16, le32, le64, signed16, bytes32};
 ghost use Rattle.records.specs.Root.{rootOf, rootBytes};
 ghost use Rattle.records.specs.Records.{nodeAt, nodeBytes, linkAt, linkBytes, junctionAt, junctionBytes, refAt, refBytes};
 ghost use Rattle.records.specs.Sections.{located};
@@ -43,6 +43,42 @@ pub extern "C" fn ynd_locate(
         }
         Located::Bad => false,
     }
+}
+
+// Numbers at an offset of a section, little-endian. A byte past the end is 0.
+#[no_mangle]
+pub extern "C" fn ynd_byte_at(section: &[u8], at: usize) -> u8
+    ensures { λ r. ⌜ r ≡ byteAt (now (section .entry)) at ⌝ }
+{
+    records::bytes::byte_at(section, at)
+}
+
+#[no_mangle]
+pub extern "C" fn ynd_u16_at(section: &[u8], at: u32) -> u16
+    ensures { λ r. ⌜ r ≡ le16 (now (section .entry)) at ⌝ }
+{
+    records::bytes::u16_at(section, at)
+}
+
+#[no_mangle]
+pub extern "C" fn ynd_i16_at(section: &[u8], at: u32) -> i16
+    ensures { λ r. ⌜ r ≡ signed16 (le16 (now (section .entry)) at) ⌝ }
+{
+    records::bytes::i16_at(section, at)
+}
+
+#[no_mangle]
+pub extern "C" fn ynd_u32_at(section: &[u8], at: u32) -> u32
+    ensures { λ r. ⌜ r ≡ le32 (now (section .entry)) at ⌝ }
+{
+    records::bytes::u32_at(section, at)
+}
+
+#[no_mangle]
+pub extern "C" fn ynd_u64_at(section: &[u8], at: u32) -> u64
+    ensures { λ r. ⌜ r ≡ le64 (now (section .entry)) at ⌝ }
+{
+    records::bytes::u64_at(section, at)
 }
 
 // The root at the section's start, as it is written: 28 words.

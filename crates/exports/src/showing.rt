@@ -10,6 +10,7 @@ ghost use mathlib.Core.List.{List};
 ghost use Prim.Native.Nat.{ℕ};
 ghost use Rattle.walks.specs.Shown.{shownNode, shownJunction, shownLink};
 ghost use Rattle.exports.specs.Cells.{lent};
+ghost use Rattle.exports.specs.Values.{copied, valuesTold};
 ghost use Rattle.exports.specs.Found.{told, isPlace, placeOrZero, seenWords, shownNodeTold, shownJunctionTold, shownLinkTold};
 
 fn is_place(p: Place) -> usize
@@ -117,6 +118,45 @@ pub extern "C" fn ynd_shown_junction(
             number
         }
     }
+}
+
+// The heightmap values of the junction at a place, copied to the front of the lent list; `count` gets how many they are.
+// A lent list that is too short for them is 7 at 3, as the heights are.
+#[no_mangle]
+pub extern "C" fn ynd_shown_values(
+    ynd: &[u32; 15],
+    junctions: &[[u32; 6]],
+    heights: &[u8],
+    at: usize,
+    values: &mut [u8],
+    count: &mut usize,
+    place: &mut usize,
+) -> u32
+    ensures { λ r. ⌜ ((nodes links : List (List ℕ)) (refs : List (List ℕ)) → told r (now (place .exit)) (copied (now (values .exit)) (now (count .exit)))
+        ≡ valuesTold (lent (now (ynd .entry)) nodes links (now (junctions .entry)) (now (heights .entry)) refs) at (now (values .entry)) (now (count .entry))) ⌝ }
+{
+    let y = ynd_of(*ynd);
+    if y.junction_count as usize <= at {
+        *place = 0;
+        return 13;
+    }
+    if junctions.len() < y.junction_count as usize {
+        *place = 2;
+        return 7;
+    }
+    if heights.len() < y.heightmap_count as usize {
+        *place = 3;
+        return 7;
+    }
+    let v = walks::shown::shown_values(y, junctions, heights, at);
+    if values.len() < v.len() {
+        *place = 3;
+        return 7;
+    }
+    records::put::put_bytes(values, 0, v);
+    *count = v.len();
+    *place = 0;
+    0
 }
 
 // Of the link that a byte chooses at a place: 1, its three flags and its length; five zeros where there is no such link.

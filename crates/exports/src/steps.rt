@@ -1,5 +1,6 @@
 // Stored steps, positions and lengths.
 use numbers::math::Vec3;
+use numbers::position::Quantised;
 ghost use mathlib.Core.Path.{_≡_};
 ghost use mathlib.Core.List.{[], _∷_};
 ghost use lib.Ieee.{binary32, toBits, ofBits};
@@ -76,6 +77,24 @@ pub extern "C" fn ynd_stored_position(x: f32, y: f32, z: f32, stored: &mut [f32;
 {
     let p = numbers::position::stored_position(Vec3 { x, y, z });
     *stored = [p.x, p.y, p.z];
+}
+
+// The stored steps of the position x, y, z.
+#[no_mangle]
+pub extern "C" fn ynd_quantise(x: f32, y: f32, z: f32, steps: &mut [i16; 3])
+    ensures { λ _. ⌜ now (steps .exit) ≡ stepOf 2 x ∷ stepOf 2 y ∷ stepOf 5 z ∷ [] ⌝ }
+{
+    let q = numbers::position::quantise(Vec3 { x, y, z });
+    *steps = [q.x, q.y, q.z];
+}
+
+// The position that stored steps stand for.
+#[no_mangle]
+pub extern "C" fn ynd_dequantise(x: i16, y: i16, z: i16, position: &mut [f32; 3])
+    ensures { λ _. ⌜ now (position .exit) ≡ unstep 2 x ∷ unstep 2 y ∷ unstep 5 z ∷ [] ⌝ }
+{
+    let p = numbers::position::dequantise(Quantised { x, y, z });
+    *position = [p.x, p.y, p.z];
 }
 
 // The length of a link from a to b.
