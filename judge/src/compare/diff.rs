@@ -23,14 +23,14 @@ pub fn diff(seed: u64, seconds: f64, full: bool, only: Option<String>) {
     run.random("any memory", seconds * 0.1, memories::any, |(m, aux)| cells::on_port(m, &mut Rng::new(*aux)), |_| Vec::new());
     lists(&run, LISTS[full as usize]);
     run.random("scripts", seconds * 0.25, inputs::scripts::script, scripts::check, inputs::scripts::smaller);
-    println!("{} inputs compared, all agree", run.compared());
+    println!("seed {seed}: {} inputs compared, all agree", run.compared());
 }
 
 /// Lists of calls alone, so many.
 pub fn soak(seed: u64, count: u64) {
     let run = Run::new(seed, true, None);
     lists(&run, count);
-    println!("{} inputs compared, all agree", run.compared());
+    println!("seed {seed}: {} inputs compared, all agree", run.compared());
 }
 
 fn lists(run: &Run, count: u64) { run.counted("lists of calls on sound cells", count, inputs::files::sound, soak::check, shrink::smaller_file) }

@@ -158,7 +158,7 @@ fn see(m: &Memory, place: usize) -> Seen {
 
 fn see_junction(m: &Memory, place: usize) -> Junction {
     let [x, y, min_z, max_z, width, height] = m.shown_junction(place).0.expect("a junction");
-    let values = (0..(width * height) as usize).map(|k| m.get_height(place, k).0.expect("a value")).collect();
+    let values = m.shown_values(place, (width * height) as usize).0.expect("a junction");
     Junction { position: [x, y], min_z, max_z, width: width as u8, height: height as u8, values }
 }
 
