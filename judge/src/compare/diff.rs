@@ -12,7 +12,6 @@ const LISTS: [u64; 2] = [20_000, 1_000_000];
 
 pub fn diff(seed: u64, seconds: f64, full: bool, only: Option<String>) {
     let run = Run::new(seed, full, only);
-    programs::programs(&run);
     numbers(&run, seconds);
     let r = &mut Rng::new(seed);
     run.list("files around limits", &limits::files(r), files::check);
@@ -23,6 +22,7 @@ pub fn diff(seed: u64, seconds: f64, full: bool, only: Option<String>) {
     run.random("any memory", seconds * 0.1, memories::any, |(m, aux)| cells::on_port(m, &mut Rng::new(*aux)), |_| Vec::new());
     lists(&run, LISTS[full as usize]);
     run.random("scripts", seconds * 0.25, inputs::scripts::script, scripts::check, inputs::scripts::smaller);
+    programs::programs(&run);
     println!("seed {seed}: {} inputs compared, all agree", run.compared());
 }
 

@@ -17,7 +17,7 @@ use std::process::{Command, Stdio};
 /// What `cellsum` takes at most.
 const MOST: usize = 65_536;
 /// Random files in a short run and in a full one.
-const FILES: [u64; 2] = [2_000, 20_000];
+const FILES: [u64; 2] = [2_000, 4_000];
 
 /// Paths start at the repository's root, where the judge is run.
 pub fn programs(run: &Run) {
