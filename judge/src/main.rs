@@ -17,8 +17,9 @@ fn main() {
     let full = args.iter().any(|a| a == "--full");
     match args.first().map(String::as_str) {
         Some("diff") => compare::diff::diff(seed, option("--seconds").unwrap_or(120.0), full, word("--only")),
+        Some("soak") => compare::diff::soak(seed, option("--lists").unwrap_or(1e6) as u64),
         Some("bench") => bench::bench(word("--only")),
         Some("vectors") if args.len() == 2 => vectors::write(&args[1]),
-        _ => { eprintln!("judge diff [--seed N] [--seconds S] [--full] [--only FAMILY] | judge bench [--only WORDS OF A CALL] | judge vectors FILE"); std::process::exit(2); }
+        _ => { eprintln!("judge diff [--seed N] [--seconds S] [--full] [--only FAMILY] | judge soak [--seed N] [--lists N] | judge bench [--only WORDS OF A CALL] | judge vectors FILE"); std::process::exit(2); }
     }
 }

@@ -2,12 +2,19 @@
 use numbers::answer::Answer;
 use records::bytes::byte_at;
 use records::bytes::u16_at;
+use records::bytes::u32_at;
 ghost use Prim.Native.Nat.{_≤_, _<_};
 
 pub fn length_at(b: &[u8], at: u32) -> usize
     ensures { λ r. ⌜ r < 65536 ⌝ }
 {
     u16_at(b, at) as usize
+}
+
+pub fn number_at(b: &[u8], at: u32) -> usize
+    ensures { λ r. ⌜ r < 4294967296 ⌝ }
+{
+    u32_at(b, at) as usize
 }
 
 // The first n bytes, none if there are fewer.

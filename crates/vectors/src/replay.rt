@@ -22,6 +22,9 @@ fn agrees(kind: u8, body: &[u8]) -> bool {
         9 => crate::files::file(body),
         10 => crate::edits::links(body),
         11 => crate::edits::junction(body),
+        12 => crate::large::large(body),
+        13 => crate::cell::walk(body),
+        14 => crate::cell::sound(body),
         _ => false,
     }
 }

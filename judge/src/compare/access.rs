@@ -1,6 +1,6 @@
 //! Every accessor over all values of each byte, against the Rust.
 use super::{same, Verdict, PORT, RUST};
-use crate::port::access::{link_to, LINK_GETTERS, LINK_SETTERS, NODE_GETTERS, NODE_SETTERS};
+use crate::port::access::{link_to, special_is_ped, LINK_GETTERS, LINK_SETTERS, NODE_GETTERS, NODE_SETTERS};
 use crate::port::cells::new;
 use crate::port::memory::{self, Memory};
 use crate::rust;
@@ -87,6 +87,7 @@ pub fn check(b: u8, v: u8) -> Verdict {
         judged(&mut m, v);
         same(name, PORT, &after, RUST, &range(memory::node_words(&rust::node_of(&m), 5)))?;
     }
+    same("a kind of ped node", PORT, &special_is_ped(v), RUST, &NodeSpecial::from_value(v).is_ped())?;
     let l = PathLink { area_id: 489, node_id: 7, flags0, flags1, flags2, length: flags3 };
     let words = memory::link_words(&rust::link_of(&l));
     for ((name, get), judged) in LINK_GETTERS.iter().zip(RUST_LINK_GETTERS) { same(name, PORT, &get(&words), RUST, &judged(&l))?; }

@@ -185,6 +185,11 @@ pub fn showing(memory: &Memory, cell: &Cell, at: usize, choice: u8) -> Verdict {
         [w[0], w[1], w[2], w[3], j.width as u32, j.height as u32]
     });
     same("what a walk shows of a junction", PORT, &memory.shown_junction(at), MODEL, &(junction, true))?;
+    let values = there(2).and_then(|_| needed(2)).and_then(|_| needed(3)).map(|_| cell.junctions[at].values.clone());
+    let held = values.as_ref().map_or(0, Vec::len);
+    let room = [held, held + 2, held.saturating_sub(1)][choice as usize % 3];
+    let values = values.and_then(|v| refuse_if(room < v.len(), 7, 3).map(|_| v));
+    same("what a walk shows of a heightmap", PORT, &memory.shown_values(at, room), MODEL, &(values, true))?;
     let link = there(0).and_then(|_| needed(0)).and_then(|_| needed(1)).map(|_| match cell.nodes[at].links.get(choice as usize) {
         Some(l) => [1, l.flags[0], l.flags[1], l.flags[2], l.length],
         None => [0; 5],

@@ -5,10 +5,12 @@ pub mod diff;
 pub mod files;
 pub mod memory;
 pub mod numbers;
+pub mod programs;
 pub mod records;
 pub mod run;
 pub mod scripts;
 pub mod seen;
+pub mod soak;
 pub mod walks;
 
 use std::fmt::Debug;

@@ -2,6 +2,7 @@
 use super::{same, Verdict, MODEL, PORT, RUST};
 use crate::model::cell::one_nan;
 use crate::model::{grid, length, names, steps};
+use crate::port::memory::node_words;
 use crate::ynd::{self, PathLink, PathNode};
 use crate::{port, rust};
 
@@ -20,20 +21,30 @@ pub fn steps_of(bits: u32) -> Verdict {
     same("float_of", PORT, &one_nan(port::numbers::float_of(bits).to_bits()), MODEL, &one_nan(bits))
 }
 
-/// A position stored and read.
+/// A position stored and read, its steps, and nodes at it.
 pub fn position(p: [u32; 3]) -> Verdict {
-    let mut n = PathNode::default();
+    let mut n = PathNode { flags0: p[0] as u8, flags5: p[1] as u8, street_name: p[2], ..PathNode::default() };
+    let mut words = node_words(&rust::node_of(&n), 5);
     n.set_position(rust::vec3(p));
     let judged = rust::bits3(n.position);
+    let floats = p.map(f32::from_bits);
     same("set_position", MODEL, &steps::stored(p), RUST, &judged)?;
-    same("set_position", PORT, &port::numbers::stored_position(p.map(f32::from_bits)), RUST, &judged)
+    same("set_position", PORT, &port::numbers::stored_position(floats), RUST, &judged)?;
+    let stored = [n.position.x * 4.0, n.position.y * 4.0, n.position.z * 32.0].map(|x| x as i32 as i16);
+    same("quantise", PORT, &port::numbers::quantise(floats), RUST, &stored)?;
+    same("dequantise", PORT, &port::numbers::dequantise(stored), RUST, &judged)?;
+    port::access::node_set_position(&mut words, floats);
+    same("a node's set_position", PORT, &words, RUST, &node_words(&rust::node_of(&n), 5))?;
+    let new = PathNode::new(p[0] as u16, p[1] as u16, rust::vec3(p));
+    same("a new node", PORT, &port::access::node_new(p[0] as u16, p[1] as u16, floats), RUST, &node_words(&rust::node_of(&new), 0))
 }
 
 /// All i16, read.
 pub fn metres(n: i16) -> Verdict {
     let judged = [n as f32 / 4.0, n as f32 / 32.0].map(f32::to_bits);
     same("metres", MODEL, &[steps::metres(n, steps::XY), steps::metres(n, steps::Z)], RUST, &judged)?;
-    same("metres", PORT, &port::numbers::metres(n), RUST, &judged)
+    same("metres", PORT, &port::numbers::metres(n), RUST, &judged)?;
+    same("dequantise", PORT, &port::numbers::dequantise([n; 3]), RUST, &[judged[0], judged[0], judged[1]])
 }
 
 pub fn cell_for_position(x: u32, y: u32) -> Verdict {

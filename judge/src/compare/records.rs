@@ -22,6 +22,7 @@ pub fn check(f: &File) -> Verdict {
         located(f, &reader, address, count, WIDTHS[r.below(5)])?;
     }
     root(&f.system)?;
+    numbers(&f.system, r.below(f.system.len() + 12))?;
     for array in [0, 1, 2, 4] { record(array, &f.system, r.below(f.system.len() + 50))?; }
     layout([0; 5].map(|_| if r.once_in(3) { 0 } else { r.below(70_000) as u32 }))
 }
@@ -47,6 +48,14 @@ fn root(system: &[u8]) -> Verdict {
     put_le(&mut bytes, 88, 2, refs);
     let model: Vec<u32> = (0..28).map(|i| le(&bytes, 4 * i, 4) as u32).collect();
     same("the root", MODEL, &model, PORT, &port::sections::root(system).to_vec())
+}
+
+/// Little-endian numbers at an offset; a byte past the end is 0.
+fn numbers(section: &[u8], at: usize) -> Verdict {
+    let mut bytes = [0; 8];
+    for (i, b) in section.iter().skip(at).take(8).enumerate() { bytes[i] = *b; }
+    let model = [1, 2, 4, 8].map(|width| le(&bytes, 0, width));
+    same("numbers of a section", PORT, &port::sections::numbers(section, at as u32), MODEL, &(model, model[1] as u16 as i16))
 }
 
 /// A record read and written is its own bytes; a byte past the end is 0.

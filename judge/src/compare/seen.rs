@@ -1,4 +1,5 @@
 //! How often each answer came up: a run that never meets a refusal says nothing of it.
+use crate::model::walk::End;
 use crate::model::Answer;
 use std::sync::atomic::{AtomicU64, Ordering::Relaxed};
 
@@ -13,10 +14,21 @@ pub fn note<T>(answer: &Answer<T>) {
     SEEN[number.min(NUMBERS - 1)][place.min(PLACES - 1)].fetch_add(1, Relaxed);
 }
 
-/// Sound cells that demand 3 was tried on.
-static SOUND: AtomicU64 = AtomicU64::new(0);
+/// What demand 3 was tried on: sound cells, lists that moved a node, and walks by their ends.
+#[derive(Clone, Copy)]
+pub enum Met { Sound, Moved, Done, NoLink, Left, NoNode }
 
-pub fn note_sound() { SOUND.fetch_add(1, Relaxed); }
+const NAMES: [&str; 6] = ["sound cells", "lists that moved a node", "walks done", "no-link", "left", "no-node"];
+static MET: [AtomicU64; 6] = [const { AtomicU64::new(0) }; 6];
+
+pub fn met(what: Met) { MET[what as usize].fetch_add(1, Relaxed); }
+
+pub fn note_end(end: &End) { met(match end { End::Done => Met::Done, End::NoLink => Met::NoLink, End::Left(..) => Met::Left, End::NoNode => Met::NoNode }); }
+
+/// Links that walks followed.
+static FOLLOWED: AtomicU64 = AtomicU64::new(0);
+
+pub fn note_followed(links: usize) { FOLLOWED.fetch_add(links as u64, Relaxed); }
 
 /// What was seen since the last time, as one line.
 pub fn account() -> String {
@@ -29,7 +41,9 @@ pub fn account() -> String {
         let by_place: Vec<String> = counts.iter().enumerate().filter(|(_, &c)| c > 0).map(|(p, c)| format!("{p}: {c}")).collect();
         parts.push(format!("refused {number} at {}", by_place.join(" ")));
     }
-    let sound = SOUND.swap(0, Relaxed);
-    if sound > 0 { parts.push(format!("sound cells {sound}")); }
+    for (name, count) in NAMES.iter().zip(&MET).chain([(&"links followed", &FOLLOWED)]) {
+        let count = count.swap(0, Relaxed);
+        if count > 0 { parts.push(format!("{name} {count}")); }
+    }
     parts.join("; ")
 }

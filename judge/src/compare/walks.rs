@@ -11,7 +11,7 @@ const NOW: &str = "after calls";
 
 pub fn check(cell: &Cell, memory: &Memory, r: &mut Rng) -> Verdict {
     if cell.nodes.is_empty() || cell.nodes.len() > 2_000 || !is_sound(cell) { return Ok(()); }
-    super::seen::note_sound();
+    super::seen::met(super::seen::Met::Sound);
     unnoticed(cell, r)?;
     unnoticed_by_the_port(memory, r)
 }

@@ -51,11 +51,25 @@ pub fn valid(r: &mut Rng) -> File {
     lay(r, arrays)
 }
 
+/// A file whose cell is sound, mostly of a few nodes.
+pub fn sound(r: &mut Rng) -> File {
+    let size = if r.once_in(50) { r.within(20, 60) } else { r.within(1, 9) };
+    let nodes = if r.once_in(200) { 0 } else { r.within(size / 2 + 1, size) };
+    let shape = Shape([nodes, r.below(3 * size + 1), r.below(4), r.below(2 * size + 9), r.below(size + 2)]);
+    let arrays = arrays_of(r, shape, true);
+    lay(r, arrays)
+}
+
 /// The five arrays' bytes. Numbers repeat, areas differ, links and refs name nodes that are there and nodes that aren't.
-pub fn arrays(r: &mut Rng, Shape([nodes, links, junctions, values, refs]): Shape) -> [Vec<u8>; 5] {
+pub fn arrays(r: &mut Rng, shape: Shape) -> [Vec<u8>; 5] {
+    let sound = r.once_in(3);
+    arrays_of(r, shape, sound)
+}
+
+/// The same; of a sound cell, if it is to be one.
+fn arrays_of(r: &mut Rng, Shape([nodes, links, junctions, values, refs]): Shape, sound: bool) -> [Vec<u8>; 5] {
     let any = r.u16();
     let own = r.pick(&[0u16, 489, 1177, 0xFFFF, any]);
-    let sound = r.once_in(3);
     let numbers = numbers(r, nodes, sound);
     let named = |r: &mut Rng| {
         let any = r.u16();

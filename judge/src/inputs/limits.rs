@@ -49,6 +49,14 @@ fn of_array(r: &mut Rng, array: usize, n: usize) -> File {
     File { system, graphics, aux: r.next() }
 }
 
+/// One array of `n` records from system offset 0 on, over the root itself.
+pub fn from_start(array: usize, n: usize) -> File {
+    let mut system = vec![0; ROOT.max(n * [40, 8, 12, 1, 8][array])];
+    put_le(&mut system, ADDRESS_AT[array], 8, SYSTEM);
+    put_le(&mut system, COUNT_AT[array], COUNT_WIDTH[array], n as u64);
+    File { system, graphics: Vec::new(), aux: 5 }
+}
+
 fn nowhere(array: usize, n: u64) -> File {
     let mut system = vec![0; ROOT];
     put_le(&mut system, COUNT_AT[array], COUNT_WIDTH[array], n);

@@ -45,6 +45,9 @@ extern "C" {
     fn ynd_node_set_density(node: &mut Node, v: u8);
     fn ynd_node_set_special(node: &mut Node, v: u8);
     fn ynd_node_set_speed(node: &mut Node, v: u8);
+    fn ynd_node_new(area_id: u16, node_id: u16, x: f32, y: f32, z: f32, node: &mut Node);
+    fn ynd_node_set_position(node: &mut Node, x: f32, y: f32, z: f32);
+    fn ynd_special_is_ped(v: u8) -> bool;
     fn ynd_link_gps_both_ways(link: &Link) -> bool;
     fn ynd_link_narrow_road(link: &Link) -> bool;
     fn ynd_link_offset_value(link: &Link) -> u8;
@@ -66,6 +69,16 @@ pub fn link_to(area_id: u16, node_id: u16) -> Link {
     unsafe { ynd_link_to(area_id, node_id, &mut link) };
     link
 }
+
+pub fn node_new(area_id: u16, node_id: u16, [x, y, z]: [f32; 3]) -> Node {
+    let mut node = [KEPT; 8];
+    unsafe { ynd_node_new(area_id, node_id, x, y, z, &mut node) };
+    node
+}
+
+pub fn node_set_position(node: &mut Node, [x, y, z]: [f32; 3]) { unsafe { ynd_node_set_position(node, x, y, z) } }
+
+pub fn special_is_ped(v: u8) -> bool { unsafe { ynd_special_is_ped(v) } }
 
 pub const NODE_GETTERS: [Getter<Node>; 20] = [
     ("off_road", |w| unsafe { ynd_node_off_road(w) as u32 }),

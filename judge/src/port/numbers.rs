@@ -12,6 +12,8 @@ extern "C" {
     fn ynd_bits_of(x: f32) -> u32;
     fn ynd_float_of(bits: u32) -> f32;
     fn ynd_stored_position(x: f32, y: f32, z: f32, stored: &mut [f32; 3]);
+    fn ynd_quantise(x: f32, y: f32, z: f32, steps: &mut [i16; 3]);
+    fn ynd_dequantise(x: i16, y: i16, z: i16, position: &mut [f32; 3]);
     fn ynd_length_between(ax: f32, ay: f32, az: f32, bx: f32, by: f32, bz: f32) -> u8;
     fn ynd_lane_offset(offset_value: u8, negative: bool) -> f32;
     fn ynd_cell_for_position(x: f32, y: f32, cell: &mut [u32; 2]);
@@ -40,6 +42,18 @@ pub fn stored_position([x, y, z]: [f32; 3]) -> [u32; 3] {
     let mut stored = [0.0; 3];
     unsafe { ynd_stored_position(x, y, z, &mut stored) };
     stored.map(f32::to_bits)
+}
+
+pub fn quantise([x, y, z]: [f32; 3]) -> [i16; 3] {
+    let mut steps = [KEPT as i16; 3];
+    unsafe { ynd_quantise(x, y, z, &mut steps) };
+    steps
+}
+
+pub fn dequantise([x, y, z]: [i16; 3]) -> [u32; 3] {
+    let mut position = [f32::from_bits(KEPT); 3];
+    unsafe { ynd_dequantise(x, y, z, &mut position) };
+    position.map(f32::to_bits)
 }
 
 pub fn length_between([ax, ay, az]: [f32; 3], [bx, by, bz]: [f32; 3]) -> u8 {

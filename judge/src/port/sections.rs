@@ -3,6 +3,11 @@ use super::KEPT_PLACE;
 
 extern "C" {
     fn ynd_locate(address: u64, count: u32, width: u8, system: usize, graphics: usize, part: &mut [usize; 3]) -> bool;
+    fn ynd_byte_at(section: *const u8, length: usize, at: usize) -> u8;
+    fn ynd_u16_at(section: *const u8, length: usize, at: u32) -> u16;
+    fn ynd_i16_at(section: *const u8, length: usize, at: u32) -> i16;
+    fn ynd_u32_at(section: *const u8, length: usize, at: u32) -> u32;
+    fn ynd_u64_at(section: *const u8, length: usize, at: u32) -> u64;
     fn ynd_root(section: *const u8, length: usize, words: &mut [u32; 28]);
     fn ynd_node_record(section: *const u8, length: usize, at: u32, bytes: &mut [u8; 40]);
     fn ynd_link_record(section: *const u8, length: usize, at: u32, bytes: &mut [u8; 8]);
@@ -16,6 +21,15 @@ pub fn locate(address: u64, count: u32, width: u8, system: usize, graphics: usiz
     let mut part = [KEPT_PLACE; 3];
     let good = unsafe { ynd_locate(address, count, width, system, graphics, &mut part) };
     (good.then_some(part), good || part == [KEPT_PLACE; 3])
+}
+
+/// The numbers of 8, 16, 32 and 64 bits at an offset, and that of 16 bits with its sign.
+pub fn numbers(section: &[u8], at: u32) -> ([u64; 4], i16) {
+    let (s, n) = (section.as_ptr(), section.len());
+    unsafe {
+        let wide = [ynd_byte_at(s, n, at as usize) as u64, ynd_u16_at(s, n, at) as u64, ynd_u32_at(s, n, at) as u64, ynd_u64_at(s, n, at)];
+        (wide, ynd_i16_at(s, n, at))
+    }
 }
 
 pub fn root(section: &[u8]) -> [u32; 28] {

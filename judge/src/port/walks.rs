@@ -16,6 +16,10 @@ extern "C" {
         refs: *const [u16; 4], ref_count: usize, at: usize, shown: &mut [usize; 14], place: &mut usize,
     ) -> u32;
     fn ynd_shown_junction(ynd: &Words, junctions: *const [u32; 6], junction_count: usize, at: usize, shown: &mut [u32; 6], place: &mut usize) -> u32;
+    fn ynd_shown_values(
+        ynd: &Words, junctions: *const [u32; 6], junction_count: usize, heights: *const u8, height_count: usize, at: usize, values: *mut u8,
+        value_count: usize, count: &mut usize, place: &mut usize,
+    ) -> u32;
     fn ynd_shown_link(
         ynd: &Words, nodes: *const [u32; 8], node_count: usize, links: *const [u16; 4], link_count: usize, at: usize, choice: u8, shown: &mut [u8; 5],
         place: &mut usize,
@@ -44,6 +48,21 @@ impl Memory {
         let (mut shown, mut place) = ([KEPT; 6], KEPT_PLACE);
         let number = unsafe { ynd_shown_junction(&self.ynd, self.junctions.as_ptr(), self.junctions.len(), at, &mut shown, &mut place) };
         (answer(number, place, shown), number == 0 || shown == [KEPT; 6])
+    }
+
+    /// The heightmap values, in a lent list of so many entries; the second part says that what lies behind them stayed, or all where it was refused.
+    pub fn shown_values(&self, at: usize, room: usize) -> (Answer<Vec<u8>>, bool) {
+        let (mut values, mut count, mut place) = (vec![KEPT as u8; room], KEPT_PLACE, KEPT_PLACE);
+        let number = unsafe {
+            ynd_shown_values(
+                &self.ynd, self.junctions.as_ptr(), self.junctions.len(), self.heights.as_ptr(), self.heights.len(), at, values.as_mut_ptr(), room, &mut count,
+                &mut place,
+            )
+        };
+        let filled = if number == 0 { count.min(room) } else { 0 };
+        let kept = values[filled..].iter().all(|&v| v == KEPT as u8) && (count == filled || (number != 0 && count == KEPT_PLACE));
+        values.truncate(filled);
+        (answer(number, place, values), kept)
     }
 
     /// 1, three flags and length, or five zeros.

@@ -4,8 +4,9 @@ use super::Records;
 use crate::compare::files::generate;
 use crate::inputs::files::{self, File, Shape};
 use crate::inputs::rng::Rng;
-use crate::model::cell::{Cell, Junction, Link, Node};
-use crate::model::records::ROOT;
+use crate::model::cell::{Cell, Junction, Link, Node, Ref};
+use crate::model::records::{ADDRESS_AT, ROOT, WIDTHS};
+use crate::model::sections::{put_le, SYSTEM};
 use crate::model::{edit, read, renumber, write, Answer, Refused};
 use crate::rust;
 
@@ -18,7 +19,7 @@ const MOST: [usize; 5] = [64, 256, 16, 512, 64];
 const MOST_SECTION: usize = 8_192;
 /// No record is longer, and no more are added once the file has so many bytes.
 const MOST_RECORD: usize = 1_600;
-const ENOUGH: usize = 54_000;
+const ENOUGH: usize = 63_000;
 
 /// What is lent: lists, section, new places, and whether the scratch has 65,536 entries or one less.
 #[derive(Clone, Copy)]
@@ -30,8 +31,11 @@ pub fn add(to: &mut Records) {
     let r = &mut Rng::new(2);
     file(to, &zeros(112), ALL);
     file(to, &zeros(111), ALL);
-    let pair = three(r);
+    file(to, &zeros(0), ALL);
+    let pair = alone(&three());
     file(to, &pair, ALL);
+    file(to, &alone(&Cell { nodes: vec![Node { area_id: 1, ..Node::default() }], ..Cell::default() }), ALL);
+    slips(to);
     for lists in 0..5 { let f = full(r, lists); file(to, &f, Lent { lists: less(&f, lists), ..ALL }); }
     file(to, &pair, Lent { section: length(&pair) - 1, ..ALL });
     file(to, &pair, Lent { section: length(&pair), ..ALL });
@@ -49,11 +53,49 @@ pub fn add(to: &mut Records) {
 
 fn zeros(n: usize) -> File { File { system: vec![0; n], graphics: Vec::new(), aux: 0 } }
 
-/// Document 01's numbers 7, 3 (ped), 9, and a bare cell.
-fn three(r: &mut Rng) -> File {
+/// Document 01's numbers 7, 3 (ped), 9, each with a link to 3.
+fn three() -> Cell {
     let node = |node_id, flags1| Node { area_id: 489, node_id, flags: [0, flags1, 0, 0, 0, 0], links: vec![Link { area_id: 489, node_id: 3, ..Link::default() }], ..Node::default() };
-    let cell = Cell { nodes: vec![node(7, 0), node(3, 80), node(9, 0)], ..Cell::default() };
-    File { system: write::written(&cell).expect("three nodes are written")[..].to_vec(), graphics: Vec::new(), aux: r.next() }
+    Cell { nodes: vec![node(7, 0), node(3, 80), node(9, 0)], ..Cell::default() }
+}
+
+/// What document 01 calls believable slips, of reading and renumbering.
+fn slips(to: &mut Records) {
+    // 0x70000000 names no section, nor does an address with a bit above its low 32.
+    let mut f = alone(&three());
+    f.graphics = f.system.clone();
+    for (at, value) in [(19, 0x70), (19, 0x60), (20, 1)] {
+        let mut g = f.clone();
+        g.system[at] = value;
+        file(to, &g, ALL);
+    }
+    // A link start over the list's length, of a node with no links.
+    let mut bare = three();
+    for n in &mut bare.nodes { n.links.clear(); }
+    let mut f = alone(&bare);
+    f.system[ROOT + 2 * 40 + 26] = 1;
+    file(to, &f, ALL);
+    // Two nodes with the same number, and links and a ref to it: they go to the last.
+    let mut equal = three();
+    equal.nodes[2].node_id = 3;
+    equal.refs = vec![Ref { area_id: 489, node_id: 3, ..Ref::default() }];
+    file(to, &alone(&equal), ALL);
+}
+
+fn alone(cell: &Cell) -> File { File { system: packed(cell), graphics: Vec::new(), aux: 0 } }
+
+/// The root and the arrays, one straight behind the other, with no page block.
+pub fn packed(cell: &Cell) -> Vec<u8> {
+    let whole = write::written(cell).expect("a cell that is written");
+    let (counts, mut out) = (cell.counts(), whole[..ROOT].to_vec());
+    let (at, _) = write::layout(counts);
+    for i in 0..5 {
+        if counts[i] == 0 { continue; }
+        let here = out.len() as u64;
+        put_le(&mut out, ADDRESS_AT[i], 8, SYSTEM + here);
+        out.extend(&whole[at[i]..at[i] + counts[i] * WIDTHS[i] as usize]);
+    }
+    out
 }
 
 /// A small file that has entries in a list.
@@ -93,7 +135,7 @@ fn fits(f: &File) -> bool {
 }
 
 /// Number and place of a refusal, 0 and 0 if there was none.
-fn told<T>(a: &Answer<T>) -> [super::Field<'static>; 2] {
+pub fn told<T>(a: &Answer<T>) -> [super::Field<'static>; 2] {
     let e = a.as_ref().err().copied().unwrap_or(Refused(0, 0));
     [U8(e.0 as u8), U16(e.1 as u16)]
 }

@@ -2,7 +2,9 @@
 //! A record is a kind (one byte), the length of what follows (two bytes), then the input and the answer. Numbers are
 //! little-endian. The file is the same each time it is made.
 mod cells;
+mod large;
 mod numbers;
+mod walks;
 
 use std::fs;
 
@@ -44,6 +46,8 @@ impl Field<'_> {
 pub fn write(path: &str) {
     let mut records = Records::default();
     numbers::add(&mut records);
+    large::add(&mut records);
+    walks::add(&mut records);
     cells::add(&mut records);
     assert!(records.bytes.len() <= MOST, "{} bytes of vectors", records.bytes.len());
     fs::write(path, &records.bytes).expect("the vectors file");

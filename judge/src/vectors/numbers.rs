@@ -24,6 +24,8 @@ pub fn add(to: &mut Records) {
     for _ in 0..80 { metres(to, r.u16() as i16); }
     for x in [-1.0f32 / 8192.0, -1.0 / 2048.0, f32::NAN] { cell_for_position(to, [x.to_bits(); 2]); }
     for _ in 0..250 { cell_for_position(to, [floats::bits(r), floats::bits(r)]); }
+    // s = 25; s = 32761 - 1/512, the rounded square of 181 - 1/65536 and 1/256.
+    for b in [[3.0f32, 4.0, 0.0], [180.999_984_741_210_937_5, 0.0625, 0.0]] { length(to, [[0; 3], b.map(f32::to_bits)]); }
     for _ in 0..100 { length(to, floats::pair(r)); length(to, floats::at_threshold(r)); }
     for name in ["nodes489.ynd", "a/NODES1177.YND", "nodes.ynd", "nodes+.ynd", "nodes++1.ynd", "nodes-1.ynd", "nodes4294967296.ynd", "x\\nodes0007.ynd", ""] {
         file_name(to, name);
