@@ -1,4 +1,5 @@
 pub mod LittleEndian
+pub mod Windows
 pub mod Shape
 pub mod RecordBack
 pub mod RootBack

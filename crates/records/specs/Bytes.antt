@@ -1,5 +1,6 @@
 -- Numbers as bytes, the low byte first.
-use Prim.Native.Nat.{ℕ, zero, suc, _+_, _-_, _*_, _/_, _%_}
+use Prim.Native.Nat.{ℕ, zero, suc, _+_, _-_, _*_, _/_, _%_, _<_}
+use mathlib.Core.Path.{_≡_}
 use mathlib.Core.Bool.{cond}
 use mathlib.Core.List.{List, [], _∷_}
 use lib.IntN.{ℤ, pos, negsuc}
@@ -9,6 +10,10 @@ use lib.ListN.{getD}
 -- The byte at a place, 0 past the end. By the remainder any list of numbers is a list of bytes.
 abbrev pub byteAt : List ℕ → ℕ → ℕ
 byteAt s at = getD s at 0 % 256
+
+-- b has the 40 bytes of s from a place on.
+abbrev pub Window : List ℕ → ℕ → List ℕ → Type 0
+Window s at b = (k : ℕ) → k < 40 → byteAt b k ≡ byteAt s (at + k)
 
 -- Stored numbers are little-endian: the number in so many bytes from a place on.
 unfoldable pub numberAt : ℕ → List ℕ → ℕ → ℕ

@@ -2,7 +2,7 @@
 ghost use mathlib.Core.Path.{_≡_};
 ghost use Prim.Native.Nat.{_+_, _*_, _<_};
 ghost use lib.ListN.{length};
-ghost use Rattle.records.specs.Bytes.{byteAt, le16, le32, le64, bytes16, bytes32, signed16, bits16};
+ghost use Rattle.records.specs.Bytes.{byteAt, le16, le32, le64, bytes16, bytes32, signed16, bits16, Window};
 
 // The byte at a place, 0 past the end.
 pub fn byte_at(s: &[u8], at: usize) -> u8
@@ -74,6 +74,20 @@ pub(crate) fn i16_in(s: &[u8], at: usize) -> i16
 }
 
 // ---- numbers that may stand past the end
+
+// The 40 bytes from a place on, 0 past the end: as many as the longest record has.
+pub(crate) fn padded(s: &[u8], at: usize) -> [u8; 40]
+    requires { ⌜ at < 0x8000_0000_0000_0000 ⌝ }
+    ensures { λ r. ⌜ Window (now (s .entry)) at r ⌝ }
+{
+    let mut r = [0u8; 40];
+    let mut k = 0;
+    while k < 40 {
+        r[k] = byte_at(s, at + k);
+        k += 1;
+    }
+    r
+}
 
 pub(crate) fn u16_from(s: &[u8], at: usize) -> u16
     requires { ⌜ at < 0x8000_0000_0000_0000 ⌝ }

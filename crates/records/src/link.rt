@@ -3,10 +3,9 @@ ghost use mathlib.Core.Path.{_≡_};
 ghost use Prim.Native.Nat.{_+_, _<_};
 ghost use lib.ListN.{length};
 ghost use Rattle.records.specs.Records.{linkAt, linkBytes};
-use crate::bytes::byte_at;
 use crate::bytes::byte_in;
 use crate::bytes::bytes2;
-use crate::bytes::u16_from;
+use crate::bytes::padded;
 use crate::bytes::u16_in;
 
 pub struct NodeLink {
@@ -33,21 +32,6 @@ fn link_in(s: &[u8], i: usize) -> NodeLink
     }
 }
 
-// A link that the section may cut short.
-fn link_from(s: &[u8], i: usize) -> NodeLink
-    requires { ⌜ i < 4294967296 ⌝ }
-    ensures { λ r. ⌜ r ≡ linkAt (now (s .entry)) i ⌝ }
-{
-    NodeLink {
-        area_id: u16_from(s, i),
-        node_id: u16_from(s, i + 2),
-        flags0: byte_at(s, i + 4),
-        flags1: byte_at(s, i + 5),
-        flags2: byte_at(s, i + 6),
-        link_length: byte_at(s, i + 7),
-    }
-}
-
 // The link at a place of a section.
 pub fn link_at(s: &[u8], at: u32) -> NodeLink
     ensures { λ r. ⌜ r ≡ linkAt (now (s .entry)) at ⌝ }
@@ -56,7 +40,8 @@ pub fn link_at(s: &[u8], at: u32) -> NodeLink
     if i + 7 < s.len() {
         return link_in(s, i);
     }
-    link_from(s, i)
+    let b = padded(s, i);
+    link_in(&b, 0)
 }
 
 // A link as written.

@@ -4,15 +4,12 @@ ghost use Prim.Native.Nat.{_+_, _<_};
 ghost use lib.ListN.{length, take, drop};
 ghost use Rattle.records.specs.Records.{nodeAt, nodeBytes};
 use crate::bytes::bits;
-use crate::bytes::byte_at;
 use crate::bytes::byte_in;
 use crate::bytes::bytes2;
 use crate::bytes::bytes4;
-use crate::bytes::i16_from;
 use crate::bytes::i16_in;
-use crate::bytes::u16_from;
+use crate::bytes::padded;
 use crate::bytes::u16_in;
-use crate::bytes::u32_from;
 use crate::bytes::u32_in;
 use crate::put::copy_bytes;
 
@@ -64,33 +61,6 @@ fn node_in(s: &[u8], i: usize) -> Node
     }
 }
 
-// A node that the section may cut short.
-fn node_from(s: &[u8], i: usize) -> Node
-    requires { ⌜ i < 4294967296 ⌝ }
-    ensures { λ r. ⌜ r ≡ nodeAt (now (s .entry)) i ⌝ }
-{
-    Node {
-        unused0: u32_from(s, i),
-        unused1: u32_from(s, i + 4),
-        unused2: u32_from(s, i + 8),
-        unused3: u32_from(s, i + 12),
-        area_id: u16_from(s, i + 16),
-        node_id: u16_from(s, i + 18),
-        street_name: u32_from(s, i + 20),
-        unused4: u16_from(s, i + 24),
-        link_id: u16_from(s, i + 26),
-        position_x: i16_from(s, i + 28),
-        position_y: i16_from(s, i + 30),
-        flags0: byte_at(s, i + 32),
-        flags1: byte_at(s, i + 33),
-        position_z: i16_from(s, i + 34),
-        flags2: byte_at(s, i + 36),
-        link_count_flags: byte_at(s, i + 37),
-        flags3: byte_at(s, i + 38),
-        flags4: byte_at(s, i + 39),
-    }
-}
-
 // The node at a place of a section.
 pub fn node_at(s: &[u8], at: u32) -> Node
     ensures { λ r. ⌜ r ≡ nodeAt (now (s .entry)) at ⌝ }
@@ -99,7 +69,8 @@ pub fn node_at(s: &[u8], at: u32) -> Node
     if i + 39 < s.len() {
         return node_in(s, i);
     }
-    node_from(s, i)
+    let b = padded(s, i);
+    node_in(&b, 0)
 }
 
 // The first 24 bytes of a node: the unused words, where it belongs, its street.

@@ -50,7 +50,7 @@ pub fn bench(only: Option<String>) {
     println!("Nanoseconds a node, or a call for steps, grid and lengths; the fastest of {TURNS} turns, each side in turn. Inputs are made once.");
     println!("Steps, grid and lengths are called on both sides through a function pointer, one call an input, so that neither is inlined.");
     println!("A walk's link: a walk through all nodes of a renumbered cell; near is within 16 places. The Rust has no walks; the plain loop is Rust");
-    println!("that goes the same way over the same memory by `links[nodes[p][7]][1]`, with no test of its own, and stores the places.");
+    println!("that goes the same way over the same memory by `links[nodes[p][7]][1]`, with no test but that of the index, and stores the places.");
     println!("node: by a call on both sides, or with the Rust's put in line in the loop that asks, as a caller in Rust has it.");
     println!("The Rust's memory is its own, allocated in the call as it does; the port's is lent, not cleared first, and has been used before.");
 }
