@@ -1,3 +1,5 @@
+pub mod Slips
+pub mod Pairs
 pub mod Tests
 pub mod Fits
 pub mod Ranks
@@ -12,7 +14,6 @@ pub mod Moved
 pub mod Reordered
 pub mod NewCell
 pub mod RenumberedTwice
-pub mod Pairs
 pub mod CellRenumbered
 pub mod ReadLaws
 pub mod FileRead
