@@ -1,5 +1,3 @@
-pub mod Slips
-pub mod Pairs
 pub mod Tests
 pub mod Fits
 pub mod Ranks
@@ -44,3 +42,5 @@ pub mod CellStored
 pub mod PoolStored
 pub mod BackAnswer
 pub mod WritePairs
+pub mod Pairs
+pub mod Answers

@@ -1,2 +1,2 @@
-pub mod Slips
+pub mod AgainAnswers
 pub mod AgainLaws

@@ -1,4 +1,4 @@
--- An input at which a believable slip would answer something else.
+-- The answer at a named input, where a believable slip would give another one.
 -- Assumes nothing.
 use mathlib.Core.Path.{_≡_, refl}
 use mathlib.Core.List.{[], _∷_}

@@ -1,13 +1,15 @@
--- Inputs at which a believable slip would answer something else, over the definitions that the contracts cite.
+-- Answers at named inputs, where a believable slip would give another one, over the definitions that the contracts cite.
 -- Assumes nothing.
 use Prim.Native.Nat.{ℕ}
-use mathlib.Core.Path.{_≡_, refl}
+use mathlib.Core.Path.{_≡_, refl, ap}
 use mathlib.Core.List.{List, [], _∷_, _++_}
 use lib.ListN.{replicate}
 use Rattle.records.specs.Bytes.{numberAt}
 use Rattle.records.specs.Records.{nodeAt, junctionAt}
 use Rattle.cells.specs.Checks.{scan, arraysCheck}
 use Rattle.cells.specs.WriteChecks.{checkNodes}
+use Rattle.cells.specs.Renumber.{Renumbered, renumber}
+use Rattle.cells.proofs.Pairs.{three, renumber-pair}
 use Rattle.cells.specs.declared.count.Counted.the-variants as counted
 use Rattle.cells.specs.declared.count.Total.the-variants as total
 
@@ -32,3 +34,7 @@ nodes-first = refl
 pub nine-with-no-links : checkNodes (λ _. 0) 0 65536 ([] ∷ []) ≡ total.Refused 9 0
 unfolding checkNodes
 nine-with-no-links = refl
+
+-- renumbering moves: each node's new place
+pub new-places : renumber three 65536 (50 ∷ 51 ∷ 52 ∷ 53 ∷ []) .places ≡ 0 ∷ 2 ∷ 1 ∷ 53 ∷ []
+new-places = ap (λ (r : Renumbered). r .places) renumber-pair
