@@ -13,7 +13,6 @@ pub mod Moved
 pub mod Reordered
 pub mod NewCell
 pub mod RenumberedTwice
-pub mod Pairs
 pub mod CellRenumbered
 pub mod ReadLaws
 pub mod FileRead
@@ -44,3 +43,5 @@ pub mod CellStored
 pub mod PoolStored
 pub mod BackAnswer
 pub mod WritePairs
+pub mod Pairs
+pub mod Answers

@@ -5,7 +5,7 @@ use mathlib.Core.Path.{_≡_, refl}
 use mathlib.Core.List.{List, [], _∷_}
 use Rattle.cells.specs.Order.{keep, rank, parted, newPlace, newPlaces, listed, lastWith, newNumber, renamed, belongs}
 use Rattle.cells.specs.NodeWords.{areaOf, numberOf, isPed, numbered, numberFrom, reordered, firstArea, oldOf, relinked}
-use Rattle.cells.specs.Memory.{memory, shortOf}
+use Rattle.cells.specs.Memory.{Memory, memory, shortOf}
 use Rattle.cells.specs.Renumber.{vehicles, peds, renumberLists, recounted, answerOf, newLists, renumberMemory, renumber}
 use Rattle.cells.specs.declared.ynd.Ynd.{Ynd}
 use Rattle.numbers.specs.declared.answer.Answer.the-variants.{Done}
@@ -33,12 +33,12 @@ cell v p = record {
   «ref_count» = 1;
 }
 
+abbrev pub three : Memory
+three = memory (cell 0 0) (node 7 0 ∷ node 3 80 ∷ node 9 0 ∷ node 5 0 ∷ []) (link 1177 3 ∷ link 1177 9 ∷ link 1178 9 ∷ link 1177 5 ∷ link 1177 7 ∷ []) [] [] (link 1177 7 ∷ link 1177 3 ∷ [])
+
 -- numbers 7, 3 (ped), 9 become 0, 2, 1; each list has one entry more than is counted, which stays;
 -- a link of another area, and one whose number no node had, stay too
-pub renumber-pair : renumber
-    (memory (cell 0 0) (node 7 0 ∷ node 3 80 ∷ node 9 0 ∷ node 5 0 ∷ []) (link 1177 3 ∷ link 1177 9 ∷ link 1178 9 ∷ link 1177 5 ∷ link 1177 7 ∷ []) [] [] (link 1177 7 ∷ link 1177 3 ∷ []))
-    65536
-    (50 ∷ 51 ∷ 52 ∷ 53 ∷ [])
+pub renumber-pair : renumber three 65536 (50 ∷ 51 ∷ 52 ∷ 53 ∷ [])
     ≡ record {
       answer = Done;
       memory = memory (cell 2 1) (node 0 0 ∷ node 1 0 ∷ node 2 80 ∷ node 5 0 ∷ []) (link 1177 2 ∷ link 1177 1 ∷ link 1178 9 ∷ link 1177 5 ∷ link 1177 7 ∷ []) [] [] (link 1177 0 ∷ link 1177 3 ∷ []);

@@ -1,1 +1,2 @@
+pub mod AgainAnswers
 pub mod AgainLaws
