@@ -212,18 +212,120 @@ static void junction(record *r)
     unblock(place, sizeof *place);
 }
 
+/* A large section made from a few numbers: zeros but for some bytes, each at places a stride apart. */
+static uint8_t *made_section(record *r, size_t n)
+{
+    uint8_t *section = block(n);
+    memset(section, 0, n);
+    while (r->left) {
+        size_t at = number(r, 4), stride = number(r, 4), times = number(r, 4);
+        uint8_t value = (uint8_t)number(r, 1);
+        for (size_t i = 0; i < times; i++)
+            section[at + i * stride] = value;
+    }
+    return section;
+}
+
+static void large(record *r)
+{
+    enum { ROOM = 2621600 };
+    size_t n = number(r, 4), added = number(r, 4), *place = block(sizeof *place), *length = block(sizeof *length);
+    record answers = { bytes_of(r, 9), 9 }, counted = { bytes_of(r, 20), 20 };
+    size_t written = number(r, 4);
+    uint8_t *section = made_section(r, n), *to = block(ROOM);
+    ynd_counts *counts = block(sizeof *counts);
+    ynd_ref_entry *none = block(sizeof *none);
+    lent m = lend(3900, 65600, 300, 66100, 65537);
+    memset(none, 0, sizeof *none);
+    uint32_t got = ynd_count(section, n, NULL, 0, counts, place);
+    told(&answers, got, *place);
+    if (got == 0)
+        CHECK(counts->nodes == number(&counted, 4) && counts->links == number(&counted, 4) && counts->junctions == number(&counted, 4));
+    got = ynd_read(m.ynd, section, n, NULL, 0, LISTS(&m), place);
+    told(&answers, got, *place);
+    if (got == 0) {
+        for (size_t i = 0; i < added; i++)
+            CHECK(ynd_add_ref(m.ynd, REFS(&m), none, place) == 0);
+        got = ynd_write(m.ynd, LISTS(&m), to, ROOM, length, place);
+        told(&answers, got, *place);
+        CHECK(got || *length == written);
+    }
+    unlend(&m);
+    unblock(none, sizeof *none);
+    unblock(counts, sizeof *counts);
+    unblock(to, ROOM);
+    unblock(section, n);
+    unblock(length, sizeof *length);
+    unblock(place, sizeof *place);
+}
+
+/* The cell of a small section, in lists that hold it. */
+static lent cell_of(const uint8_t *section, size_t n)
+{
+    lent m = lend(64, 256, 16, 512, 64);
+    size_t place;
+    CHECK(ynd_read(m.ynd, section, n, NULL, 0, LISTS(&m), &place) == 0);
+    return m;
+}
+
+static void walk(record *r)
+{
+    size_t n = number(r, 2), start = number(r, 2), nc = number(r, 2), room = number(r, 2), *place = block(sizeof *place), *got_count = block(sizeof *got_count);
+    record answers = { bytes_of(r, 3), 3 };
+    uint32_t how = number(r, 1), at = number(r, 2), to = number(r, 2), *visited = block(room * sizeof *visited);
+    size_t visits = number(r, 2);
+    lent m = cell_of(bytes_of(r, n), n);
+    uint8_t *choices = block_of(bytes_of(r, nc), nc);
+    ynd_walk_end *end = block(sizeof *end);
+    for (size_t i = 0; i < room; i++)
+        visited[i] = 65535;
+    uint32_t got = ynd_walk(m.ynd, NODES(&m), LINKS(&m), start, choices, nc, visited, room, end, got_count, place);
+    told(&answers, got, *place);
+    CHECK(got || (end->how == how && end->area_id == at && end->node_id == to && *got_count == visits));
+    for (size_t i = 0; i < room; i++)
+        CHECK(visited[i] == number(r, 2));
+    unblock(end, sizeof *end);
+    unblock(choices, nc);
+    unlend(&m);
+    unblock(visited, room * sizeof *visited);
+    unblock(got_count, sizeof *got_count);
+    unblock(place, sizeof *place);
+}
+
+static void sound(record *r)
+{
+    size_t n = number(r, 2), nodes = number(r, 2), links = number(r, 2), refs = number(r, 2), room = YND_SCRATCH - 1 + number(r, 1), *place = block(sizeof *place);
+    record answers = { bytes_of(r, 3), 3 };
+    bool verdict = number(r, 1), *said = block(sizeof *said);
+    lent whole = cell_of(bytes_of(r, n), n), m = lend_more(&whole, nodes, links, whole.j, whole.h, refs);
+    uint32_t *scratch = block(room * sizeof *scratch);
+    uint32_t got = ynd_sound(m.ynd, NODES(&m), LINKS(&m), REFS(&m), scratch, room, said, place);
+    told(&answers, got, *place);
+    CHECK(got || *said == verdict);
+    unblock(scratch, room * sizeof *scratch);
+    unlend(&m);
+    unlend(&whole);
+    unblock(said, sizeof *said);
+    unblock(place, sizeof *place);
+}
+
 size_t replay(const uint8_t *bytes, size_t n)
 {
-    static void (*const KINDS[])(record *) = { NULL, steps, metres, grid, length, name, grid_cell, area, lane_offset, file, links, junction };
+    static void (*const KINDS[])(record *) = { NULL, steps, metres, grid, length, name, grid_cell, area, lane_offset, file, links, junction, large, walk, sound };
     record all = { bytes, n };
-    size_t count = 0;
+    size_t count = 0, other = 0;
     while (all.left) {
         uint32_t kind = number(&all, 1);
         size_t size = number(&all, 2);
         record one = { bytes_of(&all, size), size };
-        CHECK(kind > 0 && kind < sizeof KINDS / sizeof *KINDS);
+        if (kind == 0 || kind >= sizeof KINDS / sizeof *KINDS) {
+            other++;
+            continue;
+        }
         KINDS[kind](&one);
         count++;
     }
+    if (other)
+        printf("%zu vectors of other kinds left out\n", other);
     return count;
 }
