@@ -15,8 +15,7 @@ export YND_RUST_SRC
 
 .PHONY: judge diff soak bench vectors
 
-judge:
-	rt staticlib exports
+judge: archive
 	cd judge && cargo build --offline --release
 
 diff: judge
