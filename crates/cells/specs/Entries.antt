@@ -19,6 +19,10 @@ linksIn links n = take (linkCount n) (drop (linkStart n) links)
 unfoldable pub valuesIn : List ℕ → List ℕ → List ℕ
 valuesIn heights j = take (valueCount j) (drop (valueStart j) heights)
 
+-- Section 4: where the file says that a node's links start, with so many links before its own, and so many of its own.
+abbrev pub storedStart : ℕ → ℕ → ℕ
+storedStart before count = before
+
 -- Section 4: unused words are written as zero, and of flags5 the low three bits are stored. Section 3: coordinates are stored as steps.
 unfoldable pub fileNode : ℕ → ℕ → PathNode → raw-node.Node
 fileNode start count n = record {
@@ -30,7 +34,7 @@ fileNode start count n = record {
   «node_id» = n .«node_id»;
   «street_name» = n .«street_name»;
   unused4 = 0;
-  «link_id» = start;
+  «link_id» = storedStart start count;
   «position_x» = stepOf 2 (n .position .x);
   «position_y» = stepOf 2 (n .position .y);
   flags0 = n .flags0;

@@ -22,12 +22,16 @@ linksWithin pool n = min (linkCount n) (pool - linkStart n)
 unfoldable pub valuesWithin : ℕ → List ℕ → ℕ
 valuesWithin pool j = min (valueCount j) (pool - valueStart j)
 
--- 8: over 31 links. 9: links before this node over 65,535, even if it has none. Else how many links there are in all.
+-- 9: links before this node over 65,535, even if it has none.
+abbrev pub startOver : ℕ → ℕ → Bool
+startOver before count = ltb 65535 before
+
+-- 8 and 9, node by node, 8 first. Else how many links there are in all.
 unfoldable pub checkNodes : (List ℕ → ℕ) → ℕ → ℕ → List (List ℕ) → Total
 checkNodes count place before [] = Sum before
 checkNodes count place before (n ∷ ns) =
     unless (ltb 31 (count n)) (Refused 8 place)
-    (unless (ltb 65535 before) (Refused 9 place)
+    (unless (startOver before (count n)) (Refused 9 place)
     (checkNodes count (place + 1) (before + count n) ns))
 
 -- 10: heightmap bytes before this junction over 65,535. Else how many bytes there are in all.
