@@ -45,17 +45,17 @@ use Rattle.cells.proofs.WrittenBack.{Told, write-told}
 
 -- ---- scans and sums
 
-scan-same : (cause : ℕ) (f g : ℕ → Bool) (i k : ℕ) → ((j : ℕ) → j < i + k → f j ≡ g j) → scan cause f i k ≡ scan cause g i k
+pub scan-same : (cause : ℕ) (f g : ℕ → Bool) (i k : ℕ) → ((j : ℕ) → j < i + k → f j ≡ g j) → scan cause f i k ≡ scan cause g i k
 unfolding scan
 scan-same cause f g i zero e = refl
 scan-same cause f g i (suc k) e = λ q. refuseIf (e i (omega arith) q) cause i (scan-same cause f g (suc i) k (λ j h. e j (omega arith)) q)
 
-scan-none : (cause i k : ℕ) → scan cause (λ j. false) i k ≡ Done
+pub scan-none : (cause i k : ℕ) → scan cause (λ j. false) i k ≡ Done
 unfolding scan
 scan-none cause i zero = refl
 scan-none cause i (suc k) = scan-none cause (suc i) k
 
-sum-same : (f g : ℕ → ℕ) (n : ℕ) → ((j : ℕ) → j < n → f j ≡ g j) → sumTo f n ≡ sumTo g n
+pub sum-same : (f g : ℕ → ℕ) (n : ℕ) → ((j : ℕ) → j < n → f j ≡ g j) → sumTo f n ≡ sumTo g n
 unfolding sumTo
 sum-same f g zero e = refl
 sum-same f g (suc n) e = λ q. sum-same f g n (λ j h. e j (omega arith)) q + e n (omega arith) q
@@ -65,12 +65,12 @@ unfolding sumTo
 sum-first g zero = omega arith
 sum-first g (suc n) = omega (arith, sum-first g n)
 
-sum-joined : {A B : Type 0} (f : A → List B) (xs : List A) (z : A) → sumTo (λ i. length (f (getD xs i z))) (length xs) ≡ length (joined f xs)
+pub sum-joined : {A B : Type 0} (f : A → List B) (xs : List A) (z : A) → sumTo (λ i. length (f (getD xs i z))) (length xs) ≡ length (joined f xs)
 unfolding sumTo joined
 sum-joined f [] z = refl
 sum-joined f (x ∷ xs) z = omega (arith, sum-first (λ i. length (f (getD (x ∷ xs) i z))) (length xs), sum-joined f xs z, length-append (f x) (joined f xs))
 
-part-ends : {A B : Type 0} (f : A → List B) (xs : List A) (i : ℕ) (z : A) → i < length xs → length (joined f (take i xs)) + length (f (getD xs i z)) ≤ length (joined f xs)
+pub part-ends : {A B : Type 0} (f : A → List B) (xs : List A) (i : ℕ) (z : A) → i < length xs → length (joined f (take i xs)) + length (f (getD xs i z)) ≤ length (joined f xs)
 unfolding joined
 part-ends f [] i z lt = absurd (omega arith)
 part-ends f (x ∷ xs) zero z lt = omega (arith, length-append (f x) (joined f xs))

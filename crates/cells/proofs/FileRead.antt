@@ -33,7 +33,7 @@ use Rattle.cells.specs.declared.count.Counted.{Counted}
 use Rattle.cells.specs.declared.count.Counted.the-variants as counted
 use Rattle.records.specs.declared.node.Node as raw-node
 use Rattle.cells.proofs.Tests.{map-take, map-drop, map-append}
-use Rattle.cells.proofs.ReadLaws.{length-upTo, length-joinTo, own-part, length-links, length-values, holds}
+use Rattle.cells.proofs.ReadLaws.{length-upTo, length-joinTo, own-part, length-links, length-values, Holds, holds}
 
 -- ---- lists by place
 
@@ -302,8 +302,8 @@ read-cell s g m e = sizes (sizesCheck (length s) (length g)) e
         (located (root .junctions) (root .«junction_count») 12 (length s) (length g)) (located (root .heightmap) (root .«heightmap_count») 1 (length s) (length g))
         (located (root .refs) (root .«ref_count») 8 (length s) (length g)) t
 
--- what holds of whatever five arrays fill the memory with holds after an accepted reading
-module _ (P : Memory → Type 0) (s g : List ℕ) (m : Memory) (each : (n l j h r : List ℕ) → P (filled (rootOf s) (countsOf n j r) n l j h r m)) where
+-- what holds of whatever five arrays, within the limits of 6, fill the memory with holds after an accepted reading
+module _ (P : Memory → Type 0) (s g : List ℕ) (m : Memory) (each : (n l j h r : List ℕ) → Holds n j r (countsOf n j r) → P (filled (rootOf s) (countsOf n j r) n l j h r m)) where
   arrays-all : (n l j h r : List ℕ) → readArrays (rootOf s) n l j h r m .answer ≡ Done → P (readArrays (rootOf s) n l j h r m .memory)
   unfolding readArrays
   arrays-all n l j h r e = go (arraysCheck n l j h r) refl e
@@ -314,13 +314,13 @@ module _ (P : Memory → Type 0) (s g : List ℕ) (m : Memory) (each : (n l j h 
       fill : Counts → Left
       fill k = record { answer = Done; memory = filled (rootOf s) k n l j h r m }
 
-      inner : (k : Counts) (c : Answer) → k ≡ countsOf n j r → unless c m (fill k) .answer ≡ Done → P (unless c m (fill k) .memory)
+      inner : (k : Counts) (c : Answer) → Holds n j r k → unless c m (fill k) .answer ≡ Done → P (unless c m (fill k) .memory)
       inner k (Refused a b) q t = refused t
-      inner k Done q t = subst (λ (x : Counts). P (filled (rootOf s) x n l j h r m)) (sym q) (each n l j h r)
+      inner k Done q t = subst (λ (x : Counts). P (filled (rootOf s) x n l j h r m)) (sym (q .counts)) (each n l j h r (record { few-nodes = q .few-nodes; few-junctions = q .few-junctions; counts = refl }))
 
       go : (c : Counted) → arraysCheck n l j h r ≡ c → ifHeld c m (λ k. unless (short k) m (fill k)) .answer ≡ Done → P (ifHeld c m (λ k. unless (short k) m (fill k)) .memory)
       go (counted.Refused a b) d t = refused t
-      go (counted.Held k) d t = inner k (short k) (holds n l j h r k d .counts) t
+      go (counted.Held k) d t = inner k (short k) (holds n l j h r k d) t
 
   pub read-all : readOf s g m .answer ≡ Done → P (readOf s g m .memory)
   unfolding readOf arraysFound

@@ -42,6 +42,9 @@ pub mod CellAdded
 pub mod CellStored
 pub mod PoolStored
 pub mod BackAnswer
+pub mod JoinedCounts
+pub mod AsRead
+pub mod BackAccepted
 pub mod WritePairs
 pub mod Pairs
 pub mod Answers

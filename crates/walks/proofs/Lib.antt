@@ -15,5 +15,6 @@ pub mod CallLists
 pub mod Routes
 pub mod WalksAlike
 pub mod Demand
+pub mod WritesAlike
 pub mod Example
 pub mod StarredPairs

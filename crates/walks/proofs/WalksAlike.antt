@@ -94,7 +94,7 @@ module _ (m d : Memory) (f : ℕ → ℕ) (hm : Lies m) (hd : Lies d) (a : Alike
 
 pub read-lies : (s g : List ℕ) (m : Memory) → readOf s g m .answer ≡ Done → Lies (readOf s g m .memory)
 unfolding filled cellRead
-read-lies s g m e = read-all Lies s g m (λ n l j h r.
+read-lies s g m e = read-all Lies s g m (λ n l j h r held.
     let k = countsOf n j r in
     record {
       nodes-lie = omega (arith, length-append (upTo (nodeIn n) (k .nodes)) (drop (k .nodes) (m .nodes)), length-upTo (nodeIn n) (k .nodes));

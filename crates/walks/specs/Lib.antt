@@ -8,3 +8,4 @@ pub mod Shown
 pub mod ShownParts
 pub mod Calls
 pub mod Claim
+pub mod Writing
