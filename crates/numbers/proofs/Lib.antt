@@ -5,6 +5,9 @@ pub mod StepLaws
 pub mod AsCast
 pub mod PositionLaws
 pub mod Cuts
+pub mod Orders
+pub mod Guesses
+pub mod Scaled
 pub mod GridLaws
 pub mod BoundLaws
 pub mod NameLaws

@@ -15,7 +15,8 @@ use lib.Ieee.Nearest.{div-same}
 use Rattle.numbers.specs.Lengths.{rootOf, root, reaches, capped, lengthOf}
 use Rattle.numbers.specs.Table.{thresholds, Least}
 use Rattle.numbers.proofs.Every.{at}
-use Rattle.numbers.proofs.Patterns.{sign, field, val, finite-value, val-mono, unsigned}
+use Rattle.numbers.proofs.Patterns.{val, val-mono, unsigned}
+use Rattle.numbers.proofs.Orders.{plain}
 use Rattle.numbers.proofs.Roots.{rootOf-mono, no-sign}
 use Rattle.numbers.proofs.Units.{lt-or-ge}
 use Rattle.numbers.proofs.Cuts.{lt-or-eq}
@@ -41,25 +42,8 @@ root-of-value (fin true m e) v h = absurd (subst T (h .0) tt)
 root-of-value (fin false m e) v h =
     ap rootOf (div-same (m * up e * 2 ^ 298) (down e) (v * 2 ^ 149) 1 (down-pos e) (zero-lt-suc 0) (mul-one (m * up e * 2 ^ 298) ∙ sym (mul-assoc (m * up e) (2 ^ 149) (2 ^ 149)) ∙ ap (λ (n : ℕ). n * 2 ^ 149) (h .1) ∙ mul-right-comm v (down e) (2 ^ 149)) ∙ div-one (v * 2 ^ 149))
 
-plus : (b : ℕ) → b < 2139095040 → sign b ≡ false
-plus b h = no (leb 2147483648 b) (leb→le 2147483648 b)
-  where
-    off : 2147483648 ≤ b → ⊥
-    off l = omega arith
-
-    no : (t : Bool) → (T t → 2147483648 ≤ b) → t ≡ false
-    no true f = absurd (off (f tt))
-    no false f = refl
-
 pub root-at : (b : ℕ) → b < 2139095040 → root (ofBits binary32 b) ≡ rootOf (val b * 2 ^ 149)
-root-at b h = root-of-value (ofBits binary32 b) (val b) (subst (λ (s : Bool). HasValue (ofBits binary32 b) s (val b) (2 ^ 149)) (plus b h) (finite-value b (under b h)))
-  where
-    under : (b : ℕ) → b < 2139095040 → field b < 255
-    under b h = omega arith
-
-infinity : ofBits binary32 2139095040 ≡ inf false
-unfolding ofBits
-infinity = refl
+root-at b h = root-of-value (ofBits binary32 b) (val b) (plain b h)
 
 -- ---- what is at least as large reaches what was reached
 carry : (k : ℕ) (x y : Float) → T (unsigned y) → T (le x y) → T (reaches k x) → T (reaches k y)

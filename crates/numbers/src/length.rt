@@ -1,5 +1,5 @@
-// The length of a link (document 01, section 6). Away from whole squares an estimate that two squares
-// confirm is the answer; next to a square the table of thresholds decides.
+// The length of a link (document 01, section 6). Away from whole squares an estimate that its square confirms,
+// in sixty-fourths, is the answer; nearer to one whole squares decide, and next to one the table of thresholds.
 use crate::bits::bits_of;
 use crate::math::Vec3;
 use crate::thresholds::THRESHOLDS;
@@ -48,22 +48,14 @@ fn is_between(b: u32, k: u32) -> bool
     false
 }
 
-// A number near the root of s, whose pattern is b: half the exponent, one step of Heron's rule, and
-// the whole part of that. It is only a guess: `length_near` confirms it.
+// The whole part of a number near the root of s, whose pattern is b: half the exponent, and one step of
+// Heron's rule. Twice the root is added to 2^24, where an f32 has no digit below 2. It is only a guess.
 fn estimate(s: f32, b: u32) -> u32
-    requires { ⌜ b ≤ 0x7f80_0000 ⌝ }
+    requires { ⌜ (b < 0x477e_0100) × (s ≡ ofBits binary32 b) ⌝ }
     ensures { λ r. ⌜ r ≤ 255 ⌝ }
 {
     let start = f32::from_bits(0x1fbd_1df5 + b / 2);
-    let root = bits_of((start + s / start) * 0.5);
-    let field = root / 0x80_0000;
-    if field < 127 {
-        return 0;
-    }
-    if 134 < field {
-        return 255;
-    }
-    (0x80_0000 + root % 0x80_0000) >> (150 - field)
+    f32::to_bits(start + s / start + 16777215.0) % 256
 }
 
 // The same as `length_of_bits`, for a k that may be the answer, or one more.
@@ -71,8 +63,8 @@ fn length_near(k: u32, b: u32) -> u8
     requires { ⌜ (k ≤ 255) × (b ≤ 0x7f80_0000) ⌝ }
     ensures { λ r. ⌜ r ≡ lengthOf (ofBits binary32 b) ⌝ }
 {
-    if 0x477e_0100 <= b {
-        return 255;
+    if b < 0x3f80_0000 {
+        return 0;
     }
     if is_between(b, k) {
         return k as u8;
@@ -85,6 +77,22 @@ fn length_near(k: u32, b: u32) -> u8
     length_of_bits(b)
 }
 
+// The length whose square is s, with the pattern b. The last digit of an f32 from 2^17 on counts sixty-fourths;
+// 2^17 less half of one makes the sum cut. Where it is at least k * k, and more than one of them below the next
+// square, k is the length. A smaller s than k * k wraps, and is then above every bound.
+fn length_under(s: f32, b: u32) -> u8
+    requires { ⌜ (b < 0x477e_0100) × (s ≡ ofBits binary32 b) ⌝ }
+    ensures { λ r. ⌜ r ≡ lengthOf (ofBits binary32 b) ⌝ }
+{
+    let k = estimate(s, b);
+    let w = f32::to_bits(s + 131071.9921875);
+    let above = std::num::wrapping_sub_u32(w, 0x4800_0000 + 64 * (k * k));
+    if above < 128 * k + 63 {
+        return k as u8;
+    }
+    length_near(k, b)
+}
+
 pub fn length_between(a: Vec3, b: Vec3) -> u8
     ensures { λ r. ⌜ r ≡ lengthBetween a b ⌝ }
 {
@@ -92,9 +100,8 @@ pub fn length_between(a: Vec3, b: Vec3) -> u8
     let dy = b.y - a.y;
     let dz = b.z - a.z;
     let s = dx * dx + dy * dy + dz * dz;
-    if s != s {
-        return 255;
+    if s < 65025.0 {
+        return length_under(s, f32::to_bits(s));
     }
-    let bits = f32::to_bits(s);
-    length_near(estimate(s, bits), bits)
+    255
 }

@@ -4,12 +4,12 @@ use Prim.Native.Nat.{_-_}
 use native.Mathlib.Omega.{arith}
 use lib.Dec.{T}
 use borrow.Author.Needs.{needs}
-use Rattle.numbers.proofs.SquareLaws.{between-is, beyond-is}
+use Rattle.numbers.proofs.SquareLaws.{between-is, before-one}
 use Rattle.numbers.proofs.length.length_near.Statement.{statement}
 use Rattle.numbers.proofs.length.length_near.Tie as tie
 
 returns : tie.Need-returns
-returns c = beyond-is (c .before .args .b) (c .before .pre .1) (c .if1 .taken)
+returns c = before-one (c .before .args .b) (c .if1 .taken)
 
 returns-2 : tie.Need-returns-2
 returns-2 c =
