@@ -50,6 +50,7 @@ fn numbers(run: &Run, seconds: f64) {
     run.sweep("grid cells", 40 * 40, [1, 1], |i| grid_cell(i as u32 % 40, i as u32 / 40));
     run.sweep("names with a middle", names::middles(7), [7, 1], |i| file_name(names::with_middle(i).as_bytes()));
     run.sweep("names of parts", names::rows(5), [1, 1], |i| file_name(names::row(i).as_bytes()));
+    run.sweep("names of four letters", names::spelled(12), [61, 1], |i| file_name(names::spelling(i).as_bytes()));
     let each = seconds / 40.0;
     run.random("positions", each, floats::position, |p| position(*p), |_| Vec::new());
     run.random("lengths", each, floats::pair, |p| length_between(thresholds, *p), |_| Vec::new());

@@ -1,4 +1,4 @@
-//! File names over a small alphabet, each once: `nodes`, a middle, `.ynd`; and every row of a few parts.
+//! File names over small alphabets, each once: `nodes`, a middle, `.ynd`; every row of a few parts; every name of up to twelve of four letters.
 use super::rng::Rng;
 
 const MIDDLE: &[u8] = b"0149+-/\\.n";
@@ -17,17 +17,29 @@ pub fn with_middle(mut i: u64) -> String {
     format!("nodes{middle}.ynd")
 }
 
-pub fn rows(most: u32) -> u64 { (0..=most).map(|n| (PARTS.len() as u64).pow(n)).sum() }
+/// The letters of the short alphabet; of these every name of up to twelve letters is made.
+const LETTERS: [&str; 4] = ["nodes", ".ynd", "1", "/"];
 
-/// The `i`-th row of parts.
-pub fn row(mut i: u64) -> String {
-    let parts = PARTS.len() as u64;
+fn rows_of(parts: &[&str], most: u32) -> u64 { (0..=most).map(|n| (parts.len() as u64).pow(n)).sum() }
+
+fn row_of(parts: &[&str], mut i: u64) -> String {
+    let many = parts.len() as u64;
     let mut length = 0;
-    while i >= parts.pow(length) { i -= parts.pow(length); length += 1; }
+    while i >= many.pow(length) { i -= many.pow(length); length += 1; }
     let mut out = String::new();
-    for _ in 0..length { out += PARTS[(i % parts) as usize]; i /= parts; }
+    for _ in 0..length { out += parts[(i % many) as usize]; i /= many; }
     out
 }
+
+pub fn rows(most: u32) -> u64 { rows_of(&PARTS, most) }
+
+/// The `i`-th row of parts.
+pub fn row(i: u64) -> String { row_of(&PARTS, i) }
+
+pub fn spelled(most: u32) -> u64 { rows_of(&LETTERS, most) }
+
+/// The `i`-th name over the short alphabet.
+pub fn spelling(i: u64) -> String { row_of(&LETTERS, i) }
 
 /// Any bytes, text or not: most are a name with a letter changed.
 pub fn bytes(r: &mut Rng) -> Vec<u8> {
