@@ -1,6 +1,6 @@
 # The Rust as judge. Included by the repository's Makefile, at whose root these run.
 #   make diff            both sides on the same inputs, about two minutes
-#   make diff FULL=1     with the exhaustive sweeps and a million lists of calls; some ten minutes of two quiet processors by an estimate
+#   make diff FULL=1     with the exhaustive sweeps and a million lists of calls; some five minutes on two quiet processors
 #   make soak            lists of calls on sound cells alone
 #   make bench           times of both sides, as the table of docs/BENCHMARKS.md
 #   make vectors         writes the vectors file anew, from the Rust's answers
