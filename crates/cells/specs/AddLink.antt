@@ -61,7 +61,7 @@ addLink m p x =
     (inserted (atIn (m .nodes) p (m .ynd .«link_count»)) (m .ynd .«link_count») (linkWords x) (m .links))
     (m .junctions) (m .heights) (m .refs)))
 
--- the room that an accepted call has
+-- the room that an accepted call has; no public function's contract cites this
 pub record LinkRoom (n l p e nodes links : ℕ) : Type 0 where
   pub place : p < n
   pub few : l < 4294967295

@@ -11,7 +11,7 @@ use lib.ListN.{getD}
 abbrev pub byteAt : List ℕ → ℕ → ℕ
 byteAt s at = getD s at 0 % 256
 
--- b has the 40 bytes of s from a place on.
+-- b has the 40 bytes of s from a place on. No public function's contract cites this.
 abbrev pub Window : List ℕ → ℕ → List ℕ → Type 0
 Window s at b = (k : ℕ) → k < 40 → byteAt b k ≡ byteAt s (at + k)
 
