@@ -1,13 +1,11 @@
 -- What is known of an entry that a place names, and of how many entries of a range are held.
 use Prim.Native.Nat.{ℕ, zero, suc, _+_, _-_, _*_, _/_, _%_, _<_, _≤_}
 use native.Mathlib.Omega.{arith}
-use native.Mathlib.Nat.{mul-le-mul}
 use mathlib.Core.Path.{_≡_, refl, sym}
-use mathlib.Core.Bool.{cond}
 use mathlib.Core.List.{List, [], _∷_}
 use lib.Dec.{eqb, ltb, leb}
 use lib.ListN.{length, getD}
-use borrow.Author.Tests.{lt-ltb, le-ltb, ltb-true, ltb-false, leb-false}
+use borrow.Author.Tests.{ltb-false, leb-false}
 use Rattle.cells.specs.declared.range.Range.{Range}
 use Rattle.cells.specs.declared.entry.Entry.the-variants.{At, Refused}
 use Rattle.cells.specs.declared.ynd.Ynd.{Ynd}
@@ -63,9 +61,6 @@ pub past : {A : Type 0} (l : List A) (p : ℕ) (d : A) → length l ≤ p → ge
 past [] p d h = refl
 past (x ∷ xs) zero d h = absurd (omega arith)
 past (x ∷ xs) (suc p) d h = past xs p d (omega arith)
-
-pub bytes-times : (a b : ℕ) → a < 256 → b < 256 → a * b ≤ 65025
-bytes-times a b ha hb = let x : a ≤ 255 = omega arith in let y : b ≤ 255 = omega arith in let h : a * b ≤ 255 * 255 = mul-le-mul x y in omega arith
 
 pub low-byte : (a b : ℕ) → a < 256 → (a + b * 256) % 256 ≡ a
 low-byte a b ha = omega arith
