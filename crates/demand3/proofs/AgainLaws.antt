@@ -15,9 +15,9 @@ use Rattle.cells.specs.FileCell.{fileCell}
 use Rattle.cells.specs.Read.{readOf}
 use Rattle.cells.specs.Renumber.{Renumbered, renumber}
 use Rattle.cells.specs.WriteRead.{Both, writeReadOf}
-use Rattle.cells.proofs.Tests.{by-test}
-use Rattle.cells.proofs.FileRead.{read-cell}
-use Rattle.cells.proofs.CellRenumbered.{places-tell}
+use Rattle.cells.proofs.Sequences.Tests.{by-test}
+use Rattle.cells.proofs.Reading.FileRead.{read-cell}
+use Rattle.cells.proofs.Renumbering.CellRenumbered.{places-tell}
 use Rattle.numbers.specs.declared.answer.Answer.{Answer}
 use Rattle.numbers.specs.declared.answer.Answer.the-variants as answer
 use Rattle.walks.specs.Sound.{sound}

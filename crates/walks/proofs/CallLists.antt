@@ -12,17 +12,17 @@ use Rattle.walks.specs.Walk.{Visit, Trail, walk}
 use Rattle.cells.specs.Memory.{Memory}
 use Rattle.cells.specs.CellOf.{cellOf}
 use Rattle.cells.specs.Renumber.{renumber}
-use Rattle.cells.proofs.KeptCells.{kept}
+use Rattle.cells.proofs.WritingBack.KeptCells.{kept}
 use Rattle.walks.specs.Calls.{Call, renumbering, write-read, isDone, after, run, renumbers, moved, anyRenumbers}
 use Rattle.numbers.specs.declared.answer.Answer.{Answer}
 use Rattle.numbers.specs.declared.answer.Answer.the-variants.{Done, Refused}
-use Rattle.cells.proofs.Tests.{by-test, true-false}
-use Rattle.cells.proofs.NewCell.{new-length, new-number, new-at}
+use Rattle.cells.proofs.Sequences.Tests.{by-test, true-false}
+use Rattle.cells.proofs.Renumbering.NewCell.{new-length, new-number, new-at}
 use Rattle.walks.proofs.NewSound.{sound-parts, sound-new}
 use Rattle.walks.proofs.NewWalks.{moveVisit, move, walk-new}
-use Rattle.cells.proofs.CellRenumbered.{done-call, refused-call, done-few}
-use Rattle.cells.proofs.Kept.{kept-again}
-use Rattle.cells.proofs.WrittenBack.{write-read-same}
+use Rattle.cells.proofs.Renumbering.CellRenumbered.{done-call, refused-call, done-few}
+use Rattle.cells.proofs.WritingBack.Kept.{kept-again}
+use Rattle.cells.proofs.WritingBack.WrittenBack.{write-read-same}
 
 -- ---- cells that are alike
 

@@ -11,14 +11,14 @@ use Rattle.cells.specs.Read.{readOf}
 use Rattle.cells.specs.Cell.{Cell}
 use Rattle.cells.specs.CellOf.{cellOf}
 use Rattle.cells.specs.FileCell.{fileCell}
-use Rattle.cells.proofs.KeptCells.{kept}
+use Rattle.cells.proofs.WritingBack.KeptCells.{kept}
 use Rattle.walks.specs.Sound.{sound}
 use Rattle.walks.specs.Walk.{walk}
 use Rattle.walks.specs.WalkCall.{route, walkCall}
 use Rattle.walks.specs.Calls.{Call, run, moved}
 use Rattle.walks.specs.Claim.{Unnoticed, Demand-3}
-use Rattle.cells.proofs.FileRead.{read-cell}
-use Rattle.cells.proofs.Kept.{read-kept}
+use Rattle.cells.proofs.Reading.FileRead.{read-cell}
+use Rattle.cells.proofs.WritingBack.Kept.{read-kept}
 use Rattle.walks.proofs.CallLists.{Alike, Fit, run-alike, run-numbers}
 use Rattle.walks.proofs.Routes.{same-walk, moveRoute}
 use Rattle.walks.proofs.WalksAlike.{Lies, read-lies, run-lies, routeLeft, calls-alike, answers-alike}

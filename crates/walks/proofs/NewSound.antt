@@ -13,9 +13,9 @@ use Rattle.cells.specs.Order.{keep, newPlace, newNumber, Old, parted, renamed, 
 use Rattle.cells.specs.Lookup.{firstWith}
 use Rattle.walks.specs.Sound.{differing, named, linkNamed, refNamed, nodeSound, isEmpty, sound}
 use Rattle.cells.specs.Lists.{every}
-use Rattle.cells.proofs.Tests.{and-left, and-right, by-test, every-at, every-keep, every-append, every-map}
+use Rattle.cells.proofs.Sequences.Tests.{and-left, and-right, by-test, every-at, every-keep, every-append, every-map}
 use Rattle.walks.proofs.Numbers.{Has, new-is, named-has, first-is}
-use Rattle.cells.proofs.NewCell.{ordered-length, number-is, new-at, new-length, new-number, every-number}
+use Rattle.cells.proofs.Renumbering.NewCell.{ordered-length, number-is, new-at, new-length, new-number, every-number}
 
 -- ---- soundness
 

@@ -13,9 +13,9 @@ use Rattle.cells.specs.Lookup.{refOf, junctionOf}
 use Rattle.cells.specs.Lists.{every}
 use Rattle.walks.specs.Sound.{linkNamed, refNamed, nodeSound}
 use Rattle.walks.specs.Walk.{Visit, Trail, Next, to, stop, linkAt, take-link, next, World, walkIn, see, walk, bodyOf, goOn}
-use Rattle.cells.proofs.Tests.{and-left, and-right, by-test, every-at, every-any, ifAny, map-at, mapOption}
+use Rattle.cells.proofs.Sequences.Tests.{and-left, and-right, by-test, every-at, every-any, ifAny, map-at, mapOption}
 use Rattle.walks.proofs.Numbers.{Has, find-is, same-place}
-use Rattle.cells.proofs.NewCell.{new-at, new-node, new-find, new-refs, new-junctions, number-is}
+use Rattle.cells.proofs.Renumbering.NewCell.{new-at, new-node, new-find, new-refs, new-junctions, number-is}
 use Rattle.walks.proofs.NewSound.{Sound, new-area, new-own, node-area}
 
 -- a trail with each place moved

@@ -11,7 +11,7 @@ use borrow.Author.Tests.{eqb-true, eq-eqb, ltb-true}
 use Rattle.cells.specs.Order.{lastWith, orElse, newNumber, newPlace, Old}
 use Rattle.cells.specs.Lookup.{firstWith, orLater, find, isSome}
 use Rattle.walks.specs.Sound.{differing}
-use Rattle.cells.proofs.Tests.{and-left, and-right, by-test, true-false}
+use Rattle.cells.proofs.Sequences.Tests.{and-left, and-right, by-test, true-false}
 
 -- the number at place p is k
 pub record Has (ns : List ℕ) (k p : ℕ) : Type 0 where

@@ -16,7 +16,7 @@ use Rattle.cells.specs.Cell.{Node, Link, numbers, firstOf}
 use Rattle.cells.specs.CellOf.{nodesOf, cellOf}
 use Rattle.cells.specs.Lookup.{find, firstWith, orLater}
 use Rattle.cells.specs.LookupCall.{numbersIn}
-use Rattle.cells.proofs.Tests.{and-left, by-test}
+use Rattle.cells.proofs.Sequences.Tests.{and-left, by-test}
 use Rattle.walks.specs.Walk.{Next, to, stop, next, linkAt, take-link, arrive}
 use Rattle.walks.specs.WalkCall.{Route, stepOn, route}
 use Rattle.walks.specs.WalkParts.{stepOf, stepIn, routeIn, traced}

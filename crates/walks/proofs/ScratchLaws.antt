@@ -14,8 +14,8 @@ use Rattle.cells.specs.Order.{lastWith}
 use Rattle.cells.specs.Lookup.{firstWith, isSome}
 use Rattle.cells.specs.LookupCall.{numbersIn}
 use Rattle.cells.specs.RenumberParts.{Indexed}
-use Rattle.cells.proofs.Named as cells
-use Rattle.cells.proofs.Tests.{by-test}
+use Rattle.cells.proofs.Renumbering.Named as cells
+use Rattle.cells.proofs.Sequences.Tests.{by-test}
 use Rattle.walks.specs.Sound.{differing}
 use Rattle.walks.specs.SoundCall.{indexed}
 use Rattle.walks.specs.SoundParts.{Ready}

@@ -17,8 +17,8 @@ use Rattle.cells.specs.CellOf.{linkOf, nodeWith, junctionWith, nodesOf, junctio
 use Rattle.cells.specs.Lookup.{refOf, junctionAt, junctionOf}
 use Rattle.cells.specs.LookupCall.{placeOf, refIn, below, junctionOfCall}
 use Rattle.cells.specs.declared.lookup.Place.{Place}
-use Rattle.cells.proofs.Tests.{by-test}
-use Rattle.cells.proofs.LookupLaws.{area-held}
+use Rattle.cells.proofs.Sequences.Tests.{by-test}
+use Rattle.cells.proofs.Lookups.LookupLaws.{area-held}
 use Rattle.walks.specs.Walk.{see, linkAt, bodyOf}
 use Rattle.walks.specs.Shown.{inside, junctionPlace, seenNode, shownNode, seenJunction, orNone, shownJunction, valuesOf, shownValues, seenLink, orNoLink, shownLink}
 use Rattle.walks.specs.ShownParts.{seenOf}

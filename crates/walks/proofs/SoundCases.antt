@@ -11,7 +11,7 @@ use Rattle.cells.specs.Memory.{Memory}
 use Rattle.cells.specs.Cell.{Cell, numbers}
 use Rattle.cells.specs.CellOf.{cellOf}
 use Rattle.cells.specs.LookupCall.{numbersIn}
-use Rattle.cells.proofs.Tests.{by-test}
+use Rattle.cells.proofs.Sequences.Tests.{by-test}
 use Rattle.walks.specs.Sound.{sound}
 use Rattle.walks.specs.SoundCall.{verdict, indexed, SoundLeft, soundLeft, soundCall}
 use Rattle.walks.specs.SoundParts.{wordsSound, noneOr}

@@ -16,8 +16,8 @@ use Rattle.cells.specs.Cell.{Link, Node, Ref, numbers, firstOf}
 use Rattle.cells.specs.CellOf.{linkOf, refOf, nodeWith, nodesOf, refsOf, cellOf}
 use Rattle.cells.specs.Lookup.{firstWith, isSome}
 use Rattle.cells.specs.LookupCall.{numbersIn}
-use Rattle.cells.proofs.Tests.{map-take, map-drop}
-use Rattle.cells.proofs.LookupLaws.{numbers-held}
+use Rattle.cells.proofs.Sequences.Tests.{map-take, map-drop}
+use Rattle.cells.proofs.Lookups.LookupLaws.{numbers-held}
 use Rattle.walks.specs.Sound.{linkNamed, refNamed, differing, nodeSound, sound}
 use Rattle.walks.specs.SoundParts.{wordNamed, wordSound, wordsSound, noneOr}
 use Rattle.walks.proofs.Ranges.{every-mapped, cut-all, cut-none, cut-part}

@@ -17,8 +17,8 @@ use Rattle.cells.specs.Blocks.{written}
 use Rattle.cells.specs.Write.{refuse, held, writeCall}
 use Rattle.cells.specs.declared.ynd.Ynd.{Ynd}
 use Rattle.cells.specs.declared.write.Written.the-variants.{Wrote}
-use Rattle.cells.proofs.Pairs as renumbering
-use Rattle.cells.proofs.WritePairs.{oneNode, links-31, links-32, bare-node, bare-address}
+use Rattle.cells.proofs.Worked.Pairs as renumbering
+use Rattle.cells.proofs.Worked.WritePairs.{oneNode, links-31, links-32, bare-node, bare-address}
 
 -- a node of area 1177 with this number and these flags1; a link or ref
 abbrev node : ℕ → ℕ → List ℕ

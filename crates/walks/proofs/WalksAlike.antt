@@ -28,9 +28,9 @@ use Rattle.numbers.specs.declared.answer.Answer.the-variants.{Done, Refused}
 use Rattle.cells.specs.declared.write.Written.{Written}
 use Rattle.cells.specs.declared.write.Written.the-variants as written
 use Rattle.walks.proofs.Routes.{moveRoute, alike-route}
-use Rattle.cells.proofs.ReadLaws.{length-upTo, length-joinTo, length-links}
-use Rattle.cells.proofs.FileRead.{read-all}
-use Rattle.cells.proofs.CellRenumbered.{parted-length, number-length}
+use Rattle.cells.proofs.Reading.ReadLaws.{length-upTo, length-joinTo, length-links}
+use Rattle.cells.proofs.Reading.FileRead.{read-all}
+use Rattle.cells.proofs.Renumbering.CellRenumbered.{parted-length, number-length}
 use Rattle.walks.proofs.CallLists.{Alike}
 
 -- nodes and links lie whole in the lists

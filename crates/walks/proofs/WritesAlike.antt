@@ -5,8 +5,8 @@ use Rattle.cells.specs.Memory.{Memory}
 use Rattle.cells.specs.Read.{readOf}
 use Rattle.cells.specs.Renumber.{renumber}
 use Rattle.cells.specs.WriteRead.{writeReadOf}
-use Rattle.cells.proofs.AsRead.{AsRead, read-as-read, renumber-as-read, write-read-as-read}
-use Rattle.cells.proofs.BackAccepted.{as-writing}
+use Rattle.cells.proofs.WritingBack.AsRead.{AsRead, read-as-read, renumber-as-read, write-read-as-read}
+use Rattle.cells.proofs.WritingBack.BackAccepted.{as-writing}
 use Rattle.walks.specs.Calls.{Call, renumbering, write-read, after, run}
 use Rattle.walks.specs.Writing.{Writes-alike}
 

@@ -5,7 +5,7 @@ use lib.ListN.{length, set}
 use Rattle.cells.specs.Words.{junctionWords}
 use Rattle.cells.specs.Memory.{memory}
 use Rattle.cells.specs.Add.{roomForJunction, done, addJunction}
-use Rattle.cells.proofs.AddLaws.{refused-left, done-left, JunctionRoom, junction-room, put-fits}
+use Rattle.cells.proofs.Editing.AddLaws.{refused-left, done-left, JunctionRoom, junction-room, put-fits}
 use borrow.Author.Needs.{needs}
 use Rattle.cells.proofs.add_junction.add_junction.Statement.{statement}
 use Rattle.cells.proofs.add_junction.add_junction.Tie as tie

@@ -5,8 +5,8 @@ use Rattle.cells.specs.Memory.{memory}
 use Rattle.cells.specs.Edit.{heldIn}
 use Rattle.cells.specs.Add.{done}
 use Rattle.cells.specs.AddLink.{heldAt, atIn, inserted, roomForLink, addLink, LinkRoom}
-use Rattle.cells.proofs.AddLaws.{refused-left, done-left}
-use Rattle.cells.proofs.Inserted.{accepted}
+use Rattle.cells.proofs.Editing.AddLaws.{refused-left, done-left}
+use Rattle.cells.proofs.Editing.Inserted.{accepted}
 use borrow.Author.Needs.{needs}
 use Rattle.cells.proofs.add_link.add_link.Statement.{statement}
 use Rattle.cells.proofs.add_link.add_link.Tie as tie

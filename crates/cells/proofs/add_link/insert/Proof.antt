@@ -3,7 +3,7 @@ use mathlib.Core.Path.{_≡_, refl}
 use mathlib.Core.List.{[], _∷_, _++_}
 use native.Mathlib.Omega.{arith}
 use lib.ListN.{length, getD, take, drop, length-set}
-use Rattle.cells.proofs.Inserted.{insert-start, insert-turn, insert-end}
+use Rattle.cells.proofs.Editing.Inserted.{insert-start, insert-turn, insert-end}
 use borrow.Author.Needs.{needs}
 use Rattle.cells.proofs.add_link.insert.Statement.{statement}
 use Rattle.cells.proofs.add_link.insert.Tie as tie

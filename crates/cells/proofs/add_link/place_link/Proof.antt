@@ -4,7 +4,7 @@ use mathlib.Core.List.{[], _++_, map}
 use native.Mathlib.Omega.{arith}
 use lib.ListN.{getD, set, take, drop}
 use Rattle.cells.specs.AddLink.{ranged, behind, shifted, inserted, nodesAfter}
-use Rattle.cells.proofs.Inserted.{behind-bound, held-few}
+use Rattle.cells.proofs.Editing.Inserted.{behind-bound, held-few}
 use borrow.Author.Needs.{needs}
 use Rattle.cells.proofs.add_link.place_link.Statement.{statement}
 use Rattle.cells.proofs.add_link.place_link.Tie as tie

@@ -5,7 +5,7 @@ use lib.ListN.{length, set}
 use Rattle.cells.specs.Words.{nodeWords}
 use Rattle.cells.specs.Memory.{memory}
 use Rattle.cells.specs.Add.{done, addNode}
-use Rattle.cells.proofs.AddLaws.{refused-left, done-left, room-inside}
+use Rattle.cells.proofs.Editing.AddLaws.{refused-left, done-left, room-inside}
 use borrow.Author.Needs.{needs}
 use Rattle.cells.proofs.add_node.add_node.Statement.{statement}
 use Rattle.cells.proofs.add_node.add_node.Tie as tie

@@ -4,7 +4,7 @@ use native.Mathlib.Omega.{arith}
 use lib.ListN.{length, set}
 use Rattle.cells.specs.Memory.{memory}
 use Rattle.cells.specs.Add.{done, addRef}
-use Rattle.cells.proofs.AddLaws.{refused-left, done-left, room-inside}
+use Rattle.cells.proofs.Editing.AddLaws.{refused-left, done-left, room-inside}
 use borrow.Author.Needs.{needs}
 use Rattle.cells.proofs.add_ref.add_ref.Statement.{statement}
 use Rattle.cells.proofs.add_ref.add_ref.Tie as tie

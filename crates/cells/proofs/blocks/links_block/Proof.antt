@@ -6,7 +6,7 @@ use Rattle.records.specs.Put.{put}
 use Rattle.records.specs.Layout.{gapFor}
 use Rattle.records.proofs.Laid.{padded-length, padded-put}
 use Rattle.cells.specs.Blocks.{linksBlock}
-use Rattle.cells.proofs.Turns.{put-inside}
+use Rattle.cells.proofs.Sequences.Turns.{put-inside}
 use borrow.Author.Needs.{needs}
 use Rattle.cells.proofs.blocks.links_block.Statement.{statement}
 use Rattle.cells.proofs.blocks.links_block.Tie as tie

@@ -9,7 +9,7 @@ use Rattle.records.proofs.RecordBack.{link-length}
 use Rattle.cells.specs.Words.{toLink}
 use Rattle.cells.specs.Entries.{fileLink}
 use Rattle.cells.specs.Blocks.{linkRecord}
-use Rattle.cells.proofs.Turns.{put-inside}
+use Rattle.cells.proofs.Sequences.Turns.{put-inside}
 use borrow.Author.Needs.{needs}
 use Rattle.cells.proofs.blocks.put_entries.Statement.{statement}
 use Rattle.cells.proofs.blocks.put_entries.Tie as tie

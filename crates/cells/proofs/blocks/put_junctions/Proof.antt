@@ -10,9 +10,9 @@ use Rattle.cells.specs.Words.{toJunction}
 use Rattle.cells.specs.Entries.{valuesIn, fileJunction}
 use Rattle.cells.specs.WriteChecks.{valuesWithin, accepted, checkJunctions}
 use Rattle.cells.specs.Blocks.{laid, junctionRecord, junctionsBlock}
-use Rattle.cells.proofs.CheckTurns.{junctions-inside}
-use Rattle.cells.proofs.Ranges.{value-count}
-use Rattle.cells.proofs.Turns.{put-inside, laid-turn, laid-ended}
+use Rattle.cells.proofs.Writing.CheckTurns.{junctions-inside}
+use Rattle.cells.proofs.Writing.Ranges.{value-count}
+use Rattle.cells.proofs.Sequences.Turns.{put-inside, laid-turn, laid-ended}
 use borrow.Author.Needs.{needs}
 use Rattle.cells.proofs.blocks.put_junctions.Statement.{statement}
 use Rattle.cells.proofs.blocks.put_junctions.Tie as tie

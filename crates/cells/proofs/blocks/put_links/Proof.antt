@@ -6,7 +6,7 @@ use lib.ListN.{length, drop}
 use Rattle.records.specs.Put.{put, joined}
 use Rattle.records.proofs.Puts.{joined-turn, joined-ended}
 use Rattle.cells.specs.Blocks.{linksRecords}
-use Rattle.cells.proofs.Turns.{joined-room}
+use Rattle.cells.proofs.Sequences.Turns.{joined-room}
 use borrow.Author.Needs.{needs}
 use Rattle.cells.proofs.blocks.put_links.Statement.{statement}
 use Rattle.cells.proofs.blocks.put_links.Tie as tie

@@ -7,7 +7,7 @@ use Rattle.records.specs.Put.{put, joined}
 use Rattle.records.proofs.Puts.{put-nil}
 use Rattle.cells.specs.Entries.{linksIn}
 use Rattle.cells.specs.Blocks.{linkRecord, linksRecords}
-use Rattle.cells.proofs.Ranges.{empty, link-count, links-size, links-part, links-inside}
+use Rattle.cells.proofs.Writing.Ranges.{empty, link-count, links-size, links-part, links-inside}
 use borrow.Author.Needs.{needs}
 use Rattle.cells.proofs.blocks.put_links_of.Statement.{statement}
 use Rattle.cells.proofs.blocks.put_links_of.Tie as tie

@@ -11,9 +11,9 @@ use Rattle.cells.specs.Words.{toNode}
 use Rattle.cells.specs.Entries.{linksIn, fileNode}
 use Rattle.cells.specs.WriteChecks.{linksWithin, accepted, checkNodes}
 use Rattle.cells.specs.Blocks.{laid, nodeRecord, nodesBlock}
-use Rattle.cells.proofs.CheckTurns.{nodes-inside}
-use Rattle.cells.proofs.Ranges.{link-count}
-use Rattle.cells.proofs.Turns.{put-inside, laid-turn, laid-ended}
+use Rattle.cells.proofs.Writing.CheckTurns.{nodes-inside}
+use Rattle.cells.proofs.Writing.Ranges.{link-count}
+use Rattle.cells.proofs.Sequences.Turns.{put-inside, laid-turn, laid-ended}
 use borrow.Author.Needs.{needs}
 use Rattle.cells.proofs.blocks.put_nodes.Statement.{statement}
 use Rattle.cells.proofs.blocks.put_nodes.Tie as tie

@@ -8,7 +8,7 @@ use Rattle.records.proofs.Puts.{joined-turn, joined-ended}
 use Rattle.records.proofs.RecordBack.{ref-length}
 use Rattle.cells.specs.Words.{toRef}
 use Rattle.cells.specs.Blocks.{refRecord}
-use Rattle.cells.proofs.Turns.{put-inside}
+use Rattle.cells.proofs.Sequences.Turns.{put-inside}
 use borrow.Author.Needs.{needs}
 use Rattle.cells.proofs.blocks.put_refs.Statement.{statement}
 use Rattle.cells.proofs.blocks.put_refs.Tie as tie

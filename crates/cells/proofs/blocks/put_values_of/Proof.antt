@@ -5,8 +5,8 @@ use lib.ListN.{length, take, drop}
 use Rattle.records.specs.Put.{put}
 use Rattle.records.proofs.Puts.{put-nil}
 use Rattle.cells.specs.Entries.{valuesIn}
-use Rattle.cells.proofs.Ranges.{empty, value-count, values-part, values-inside}
-use Rattle.cells.proofs.Turns.{put-inside}
+use Rattle.cells.proofs.Writing.Ranges.{empty, value-count, values-part, values-inside}
+use Rattle.cells.proofs.Sequences.Turns.{put-inside}
 use borrow.Author.Needs.{needs}
 use Rattle.cells.proofs.blocks.put_values_of.Statement.{statement}
 use Rattle.cells.proofs.blocks.put_values_of.Tie as tie

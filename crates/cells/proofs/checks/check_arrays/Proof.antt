@@ -7,7 +7,7 @@ use Rattle.cells.specs.Lists.{sumTo}
 use Rattle.cells.specs.Checks.{arraysCheck, nodesScan, junctionsScan, countsOf, after, linksAt, valuesAt}
 use Rattle.cells.specs.declared.count.Counted.{Counted}
 use Rattle.cells.specs.declared.count.Counted.the-variants.{Held}
-use Rattle.cells.proofs.ReadLaws.{after-refused, after-sum, sum-is, within-limits}
+use Rattle.cells.proofs.Reading.ReadLaws.{after-refused, after-sum, sum-is, within-limits}
 use borrow.Author.Needs.{needs}
 use Rattle.cells.proofs.checks.check_arrays.Statement.{statement}
 use Rattle.cells.proofs.checks.check_arrays.Tie as tie

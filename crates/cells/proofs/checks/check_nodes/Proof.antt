@@ -9,7 +9,7 @@ use Rattle.cells.specs.Lists.{sumTo}
 use Rattle.cells.specs.Checks.{scan, badNode, linksAt, totalOf}
 use Rattle.numbers.specs.declared.answer.Answer.{Answer}
 use Rattle.cells.specs.declared.count.Total.the-variants.{Sum}
-use Rattle.cells.proofs.ReadLaws.{scan-hit, scan-on, scan-end, scan-start, sum-next}
+use Rattle.cells.proofs.Reading.ReadLaws.{scan-hit, scan-on, scan-end, scan-start, sum-next}
 use Rattle.cells.proofs.checks.check_nodes.Statement.{statement}
 use Rattle.cells.proofs.checks.check_nodes.Tie as tie
 

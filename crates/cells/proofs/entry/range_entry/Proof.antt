@@ -1,7 +1,7 @@
 use native.Mathlib.Omega.{arith}
 use borrow.Author.Tests.{lt-ltb, le-ltb, lt-leb, le-leb}
 use Rattle.cells.specs.Edit.{rangeEntry}
-use Rattle.cells.proofs.EditLaws.{held-bound}
+use Rattle.cells.proofs.Editing.EditLaws.{held-bound}
 use borrow.Author.Needs.{needs}
 use Rattle.cells.proofs.entry.range_entry.Statement.{statement}
 use Rattle.cells.proofs.entry.range_entry.Tie as tie

@@ -2,7 +2,7 @@ use Prim.Native.Nat.{_/_, _%_, _≤_}
 use native.Mathlib.Omega.{arith}
 use lib.Pow.{pow-pos, pow-mono}
 use Rattle.cells.specs.Access.{fieldOf}
-use Rattle.cells.proofs.FieldLaws.{field-below}
+use Rattle.cells.proofs.Forms.FieldLaws.{field-below}
 use borrow.Author.Needs.{needs}
 use Rattle.cells.proofs.field.field_of.Statement.{statement}
 use Rattle.cells.proofs.field.field_of.Tie as tie

@@ -3,7 +3,7 @@ use native.Mathlib.Omega.{arith}
 use mathlib.Core.Path.{_≡_, sym, subst}
 use lib.Pow.{pow-pos}
 use Rattle.cells.specs.Access.{withField}
-use Rattle.cells.proofs.FieldLaws.{with-below}
+use Rattle.cells.proofs.Forms.FieldLaws.{with-below}
 use borrow.Author.Needs.{needs}
 use Rattle.cells.proofs.field.with_field.Statement.{statement}
 use Rattle.cells.proofs.field.with_field.Tie as tie

@@ -7,7 +7,7 @@ use lib.ListN.{length, getD, set, take, drop, length-set}
 use Rattle.records.specs.Records.{linkAt}
 use Rattle.cells.specs.Words.{linkWords, pathLink}
 use Rattle.cells.specs.Read.{linksFrom}
-use Rattle.cells.proofs.ReadLaws.{copy-start, copy-turn}
+use Rattle.cells.proofs.Reading.ReadLaws.{copy-start, copy-turn}
 use Rattle.cells.proofs.fill.copy_links.Statement.{statement}
 use Rattle.cells.proofs.fill.copy_links.Tie as tie
 

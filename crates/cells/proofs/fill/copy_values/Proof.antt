@@ -6,7 +6,7 @@ use borrow.Author.Needs.{needs}
 use lib.ListN.{length, getD, set, take, drop, length-set}
 use Rattle.records.specs.Bytes.{byteAt}
 use Rattle.cells.specs.Read.{valuesFrom}
-use Rattle.cells.proofs.ReadLaws.{copy-start, copy-turn}
+use Rattle.cells.proofs.Reading.ReadLaws.{copy-start, copy-turn}
 use Rattle.cells.proofs.fill.copy_values.Statement.{statement}
 use Rattle.cells.proofs.fill.copy_values.Tie as tie
 

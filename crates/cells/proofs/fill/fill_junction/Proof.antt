@@ -10,7 +10,7 @@ use Rattle.cells.specs.Lists.{upTo, joinTo, sumTo}
 use Rattle.cells.specs.Checks.{linksAt, valuesAt}
 use Rattle.cells.specs.Words.{pathJunction, junctionWords}
 use Rattle.cells.specs.Read.{linksFrom, valuesFrom, nodeIn, linksIn, junctionIn, valuesIn}
-use Rattle.cells.proofs.ReadLaws.{length-links, length-values, sum-next, sum-room, fill-turn, join-turn}
+use Rattle.cells.proofs.Reading.ReadLaws.{length-links, length-values, sum-next, sum-room, fill-turn, join-turn}
 use borrow.Author.Needs.{needs}
 use Rattle.cells.proofs.fill.fill_junction.Statement.{statement}
 use Rattle.cells.proofs.fill.fill_junction.Tie as tie

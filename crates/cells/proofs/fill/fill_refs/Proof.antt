@@ -8,7 +8,7 @@ use Rattle.records.specs.Records.{refAt}
 use Rattle.cells.specs.Lists.{upTo}
 use Rattle.cells.specs.Words.{refWords}
 use Rattle.cells.specs.Read.{refIn}
-use Rattle.cells.proofs.ReadLaws.{fill-turn}
+use Rattle.cells.proofs.Reading.ReadLaws.{fill-turn}
 use Rattle.cells.proofs.fill.fill_refs.Statement.{statement}
 use Rattle.cells.proofs.fill.fill_refs.Tie as tie
 

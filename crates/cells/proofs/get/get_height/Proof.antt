@@ -3,7 +3,7 @@ use mathlib.Core.Path.{sym, ap, _∙_}
 use lib.ListN.{length}
 use Rattle.cells.specs.Edit.{gotHeight}
 use Rattle.cells.specs.declared.entry.Entry.{Entry}
-use Rattle.cells.proofs.EditLaws.{height-inside}
+use Rattle.cells.proofs.Editing.EditLaws.{height-inside}
 use borrow.Author.Needs.{needs}
 use Rattle.cells.proofs.get.get_height.Statement.{statement}
 use Rattle.cells.proofs.get.get_height.Tie as tie

@@ -5,7 +5,7 @@ use lib.ListN.{length}
 use Rattle.cells.specs.Edit.{gotLink}
 use Rattle.cells.specs.declared.entry.Entry.{Entry}
 use Rattle.cells.specs.declared.get.GotLink.the-variants.{Link}
-use Rattle.cells.proofs.EditLaws.{link-inside}
+use Rattle.cells.proofs.Editing.EditLaws.{link-inside}
 use borrow.Author.Needs.{needs}
 use Rattle.cells.proofs.get.get_link.Statement.{statement}
 use Rattle.cells.proofs.get.get_link.Tie as tie

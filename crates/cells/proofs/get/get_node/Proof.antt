@@ -5,7 +5,7 @@ use lib.ListN.{length}
 use Rattle.cells.specs.Edit.{nodeEntry, gotNode}
 use Rattle.cells.specs.declared.entry.Entry.{Entry}
 use Rattle.cells.specs.declared.get.GotNode.the-variants.{Node}
-use Rattle.cells.proofs.EditLaws.{entry-inside}
+use Rattle.cells.proofs.Editing.EditLaws.{entry-inside}
 use borrow.Author.Needs.{needs}
 use Rattle.cells.proofs.get.get_node.Statement.{statement}
 use Rattle.cells.proofs.get.get_node.Tie as tie

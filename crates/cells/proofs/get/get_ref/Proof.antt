@@ -5,7 +5,7 @@ use lib.ListN.{length}
 use Rattle.cells.specs.Edit.{refEntry, gotRef}
 use Rattle.cells.specs.declared.entry.Entry.{Entry}
 use Rattle.cells.specs.declared.get.GotRef.the-variants.{Ref}
-use Rattle.cells.proofs.EditLaws.{entry-inside}
+use Rattle.cells.proofs.Editing.EditLaws.{entry-inside}
 use borrow.Author.Needs.{needs}
 use Rattle.cells.proofs.get.get_ref.Statement.{statement}
 use Rattle.cells.proofs.get.get_ref.Tie as tie

@@ -2,7 +2,7 @@ use mathlib.Core.Path.{ap}
 use borrow.Author.Tests.{lt-ltb, le-ltb}
 use Rattle.cells.specs.LookupCall.{areaIdCall}
 use Rattle.cells.specs.declared.lookup.OwnArea.the-variants.{Area}
-use Rattle.cells.proofs.LookupLaws.{first-node}
+use Rattle.cells.proofs.Lookups.LookupLaws.{first-node}
 use borrow.Author.Needs.{needs}
 use Rattle.cells.proofs.lookup.area_id.Statement.{statement}
 use Rattle.cells.proofs.lookup.area_id.Tie as tie

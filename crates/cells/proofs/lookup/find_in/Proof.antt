@@ -1,6 +1,6 @@
 use mathlib.Core.Path.{sym, _∙_}
 use native.Mathlib.Omega.{arith}
-use Rattle.cells.proofs.LookupLaws.{find-at, find-past, find-other}
+use Rattle.cells.proofs.Lookups.LookupLaws.{find-at, find-past, find-other}
 use borrow.Author.Needs.{needs}
 use Rattle.cells.proofs.lookup.find_in.Statement.{statement}
 use Rattle.cells.proofs.lookup.find_in.Tie as tie

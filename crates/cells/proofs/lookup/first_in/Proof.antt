@@ -5,7 +5,7 @@ use native.Mathlib.Omega.{arith}
 use borrow.Author.Count.{below-more}
 use lib.ListN.{getD}
 use Rattle.cells.specs.NodeWords.{numberOf}
-use Rattle.cells.proofs.LookupLaws.{first-at, first-no}
+use Rattle.cells.proofs.Lookups.LookupLaws.{first-at, first-no}
 use borrow.Author.Needs.{needs}
 use Rattle.cells.proofs.lookup.first_in.Statement.{statement}
 use Rattle.cells.proofs.lookup.first_in.Tie as tie

@@ -4,7 +4,7 @@ use native.Mathlib.Omega.{arith}
 use lib.ListN.{take, drop}
 use Rattle.cells.specs.LookupCall.{placeOf, refIn}
 use Rattle.cells.specs.declared.lookup.Place.the-variants.{At}
-use Rattle.cells.proofs.LookupLaws.{ref-here, ref-later, refs-passed}
+use Rattle.cells.proofs.Lookups.LookupLaws.{ref-here, ref-later, refs-passed}
 use borrow.Author.Needs.{needs}
 use Rattle.cells.proofs.lookup.first_ref.Statement.{statement}
 use Rattle.cells.proofs.lookup.first_ref.Tie as tie

@@ -5,7 +5,7 @@ use native.Mathlib.Omega.{arith}
 use lib.ListN.{length, take, length-set}
 use Rattle.cells.specs.NodeWords.{numberOf}
 use Rattle.cells.specs.RenumberParts.{Indexed}
-use Rattle.cells.proofs.Named.{index-starts, index-turn}
+use Rattle.cells.proofs.Renumbering.Named.{index-starts, index-turn}
 use borrow.Author.Needs.{needs}
 use Rattle.cells.proofs.number_index.index_numbers.Statement.{statement}
 use Rattle.cells.proofs.number_index.index_numbers.Tie as tie

@@ -1,7 +1,7 @@
 use mathlib.Core.Path.{refl, sym, _∙_}
 use native.Mathlib.Omega.{arith}
 use lib.ListN.{getD}
-use Rattle.cells.proofs.Looked.{place-below, looked-up, left-alone}
+use Rattle.cells.proofs.Renumbering.Looked.{place-below, looked-up, left-alone}
 use borrow.Author.Needs.{needs}
 use Rattle.cells.proofs.number_index.new_number.Statement.{statement}
 use Rattle.cells.proofs.number_index.new_number.Tie as tie

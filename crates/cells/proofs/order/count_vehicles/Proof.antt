@@ -9,7 +9,7 @@ use lib.Seq.{length-take-le, getD-take}
 use Rattle.cells.specs.Order.{rank}
 use Rattle.cells.specs.NodeWords.{isPed, isVehicle}
 use Rattle.cells.specs.Renumber.{vehicles}
-use Rattle.cells.proofs.Ranks.{rank-yes, rank-no, rank-zero, rank-all}
+use Rattle.cells.proofs.Sequences.Ranks.{rank-yes, rank-no, rank-zero, rank-all}
 use borrow.Author.Needs.{needs}
 use Rattle.cells.proofs.order.count_vehicles.Statement.{statement}
 use Rattle.cells.proofs.order.count_vehicles.Tie as tie

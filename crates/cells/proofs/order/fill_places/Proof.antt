@@ -8,9 +8,9 @@ use lib.Seq.{length-take-le, getD-take}
 use Rattle.cells.specs.Order.{newPlaces}
 use Rattle.cells.specs.NodeWords.{isPed}
 use Rattle.cells.specs.Renumber.{vehicles}
-use Rattle.cells.proofs.Placed.{Placing, placing-starts, turn-ped, turn-vehicle, placed, vehicles-few}
-use Rattle.cells.proofs.Parted.{places-length}
-use Rattle.cells.proofs.Filled.{fill-end}
+use Rattle.cells.proofs.Renumbering.Placed.{Placing, placing-starts, turn-ped, turn-vehicle, placed, vehicles-few}
+use Rattle.cells.proofs.Renumbering.Parted.{places-length}
+use Rattle.cells.proofs.Sequences.Filled.{fill-end}
 use borrow.Author.Needs.{needs}
 use Rattle.cells.proofs.order.fill_places.Statement.{statement}
 use Rattle.cells.proofs.order.fill_places.Tie as tie

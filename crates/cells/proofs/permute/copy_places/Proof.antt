@@ -3,7 +3,7 @@ use mathlib.Core.Path.{_≡_, refl}
 use mathlib.Core.List.{_++_}
 use native.Mathlib.Omega.{arith}
 use lib.ListN.{length, getD, take, drop, length-set}
-use Rattle.cells.proofs.Filled.{fill-turn}
+use Rattle.cells.proofs.Sequences.Filled.{fill-turn}
 use borrow.Author.Needs.{needs}
 use Rattle.cells.proofs.permute.copy_places.Statement.{statement}
 use Rattle.cells.proofs.permute.copy_places.Tie as tie

@@ -3,7 +3,7 @@ use native.Mathlib.Omega.{arith}
 use lib.ListN.{length, take}
 use Rattle.cells.specs.Order.{parted}
 use Rattle.cells.specs.NodeWords.{isPed}
-use Rattle.cells.proofs.Reordered.{are-places, they-lead, parted-long, numbered-too}
+use Rattle.cells.proofs.Renumbering.Reordered.{are-places, they-lead, parted-long, numbered-too}
 use borrow.Author.Needs.{needs}
 use Rattle.cells.proofs.permute.move_nodes.Statement.{statement}
 use Rattle.cells.proofs.permute.move_nodes.Tie as tie

@@ -6,9 +6,9 @@ use native.Mathlib.Nat.{zero-add}
 use lib.ListN.{length, getD, set, take, drop, length-set}
 use lib.Seq.{length-take-le, getD-take}
 use Rattle.cells.specs.NodeWords.{numbered, numberFrom}
-use Rattle.cells.proofs.Filled.{fill-turn, fill-ahead, fill-end}
-use Rattle.cells.proofs.CellRenumbered.{number-length}
-use Rattle.cells.proofs.Reordered.{number-at}
+use Rattle.cells.proofs.Sequences.Filled.{fill-turn, fill-ahead, fill-end}
+use Rattle.cells.proofs.Renumbering.CellRenumbered.{number-length}
+use Rattle.cells.proofs.Renumbering.Reordered.{number-at}
 use borrow.Author.Needs.{needs}
 use Rattle.cells.proofs.permute.number_all.Statement.{statement}
 use Rattle.cells.proofs.permute.number_all.Tie as tie

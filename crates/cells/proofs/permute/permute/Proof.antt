@@ -3,7 +3,7 @@ use mathlib.Core.List.{List}
 use mathlib.Core.Path.{_≡_, refl, sym, ap, subst, _∙_}
 use native.Mathlib.Omega.{arith}
 use lib.ListN.{length, getD, length-set}
-use Rattle.cells.proofs.Moved.{Moving, starts, next, below-t, exchange, loose, exchange-less, arrived, carried}
+use Rattle.cells.proofs.Sequences.Moved.{Moving, starts, next, below-t, exchange, loose, exchange-less, arrived, carried}
 use borrow.Author.Needs.{needs}
 use Rattle.cells.proofs.permute.permute.Statement.{statement}
 use Rattle.cells.proofs.permute.permute.Tie as tie

@@ -8,7 +8,7 @@ use Rattle.cells.specs.NodeWords.{valueStart}
 use Rattle.cells.specs.Words.{junctionWords}
 use Rattle.cells.specs.Edit.{sizedEntry, stored, changeAt, startAt, putJunction}
 use Rattle.cells.specs.declared.entry.Entry.{Entry}
-use Rattle.cells.proofs.EditLaws.{sized-inside}
+use Rattle.cells.proofs.Editing.EditLaws.{sized-inside}
 use borrow.Author.Needs.{needs}
 use Rattle.cells.proofs.put.put_junction.Statement.{statement}
 use Rattle.cells.proofs.put.put_junction.Tie as tie

@@ -7,7 +7,7 @@ use Rattle.numbers.specs.declared.answer.Answer.the-variants.{Done}
 use Rattle.cells.specs.Words.{linkWords}
 use Rattle.cells.specs.Edit.{stored, changeAt, putLink}
 use Rattle.cells.specs.declared.entry.Entry.{Entry}
-use Rattle.cells.proofs.EditLaws.{link-inside}
+use Rattle.cells.proofs.Editing.EditLaws.{link-inside}
 use borrow.Author.Needs.{needs}
 use Rattle.cells.proofs.put.put_link.Statement.{statement}
 use Rattle.cells.proofs.put.put_link.Tie as tie

@@ -7,7 +7,7 @@ use Rattle.numbers.specs.declared.answer.Answer.the-variants.{Done}
 use Rattle.cells.specs.Words.{nodeWords}
 use Rattle.cells.specs.Edit.{nodeEntry, stored, changeAt, rangeKept, putNode}
 use Rattle.cells.specs.declared.entry.Entry.{Entry}
-use Rattle.cells.proofs.EditLaws.{entry-inside}
+use Rattle.cells.proofs.Editing.EditLaws.{entry-inside}
 use borrow.Author.Needs.{needs}
 use Rattle.cells.proofs.put.put_node.Statement.{statement}
 use Rattle.cells.proofs.put.put_node.Tie as tie

@@ -7,7 +7,7 @@ use Rattle.numbers.specs.declared.answer.Answer.the-variants.{Done}
 use Rattle.cells.specs.Words.{refWords}
 use Rattle.cells.specs.Edit.{refEntry, stored, changeAt, putRef}
 use Rattle.cells.specs.declared.entry.Entry.{Entry}
-use Rattle.cells.proofs.EditLaws.{entry-inside}
+use Rattle.cells.proofs.Editing.EditLaws.{entry-inside}
 use borrow.Author.Needs.{needs}
 use Rattle.cells.proofs.put.put_ref.Statement.{statement}
 use Rattle.cells.proofs.put.put_ref.Tie as tie

@@ -10,7 +10,7 @@ use Rattle.cells.specs.NodeAccess.{withPosition}
 use Rattle.cells.specs.Edit.{nodeEntry, stored, changeAt, setPosition}
 use Rattle.cells.specs.declared.entry.Entry.{Entry}
 use Rattle.cells.specs.declared.node.PathNode.{PathNode}
-use Rattle.cells.proofs.EditLaws.{entry-inside}
+use Rattle.cells.proofs.Editing.EditLaws.{entry-inside}
 use borrow.Author.Needs.{needs}
 use Rattle.cells.proofs.put.set_position.Statement.{statement}
 use Rattle.cells.proofs.put.set_position.Tie as tie

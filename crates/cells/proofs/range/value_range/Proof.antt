@@ -2,7 +2,7 @@ use mathlib.Core.List.{List, []}
 use Prim.Native.Nat.{ℕ}
 use mathlib.Core.Path.{ap, sym}
 use Rattle.cells.specs.NodeWords.{valueStart, valueCount}
-use Rattle.cells.proofs.EditLaws.{past}
+use Rattle.cells.proofs.Editing.EditLaws.{past}
 use borrow.Author.Needs.{needs}
 use Rattle.cells.proofs.range.value_range.Statement.{statement}
 use Rattle.cells.proofs.range.value_range.Tie as tie

@@ -11,7 +11,7 @@ use Rattle.cells.specs.declared.arrays.Found.{Found}
 use Rattle.cells.specs.declared.arrays.Found.the-variants.{Arrays}
 use Rattle.numbers.specs.declared.answer.Answer.{Answer}
 use Rattle.numbers.specs.declared.answer.Answer.the-variants.{Done}
-use Rattle.cells.proofs.ReadLaws.{small, part-short}
+use Rattle.cells.proofs.Reading.ReadLaws.{small, part-short}
 use borrow.Author.Needs.{needs}
 use Rattle.cells.proofs.read.read.Statement.{statement}
 use Rattle.cells.proofs.read.read.Tie as tie

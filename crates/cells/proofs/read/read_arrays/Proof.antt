@@ -9,7 +9,7 @@ use Rattle.cells.specs.Memory.{Memory, memory}
 use Rattle.cells.specs.Read.{linksIn, valuesIn, readArrays, filled}
 use Rattle.cells.specs.declared.count.Counts.{Counts}
 use Rattle.numbers.specs.declared.answer.Answer.the-variants.{Done}
-use Rattle.cells.proofs.ReadLaws.{Holds, holds, Room, room, nodes-few, junctions-few, refs-few, links-sum, heights-sum, links-fit-word, heights-fit-word}
+use Rattle.cells.proofs.Reading.ReadLaws.{Holds, holds, Room, room, nodes-few, junctions-few, refs-few, links-sum, heights-sum, links-fit-word, heights-fit-word}
 use borrow.Author.Needs.{needs}
 use Rattle.cells.proofs.read.read_arrays.Statement.{statement}
 use Rattle.cells.proofs.read.read_arrays.Tie as tie

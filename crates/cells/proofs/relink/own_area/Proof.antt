@@ -1,6 +1,6 @@
 use mathlib.Core.Path.{sym, _∙_}
 use native.Mathlib.Omega.{arith}
-use Rattle.cells.proofs.Looked.{first-some, first-none}
+use Rattle.cells.proofs.Renumbering.Looked.{first-some, first-none}
 use borrow.Author.Needs.{needs}
 use Rattle.cells.proofs.relink.own_area.Statement.{statement}
 use Rattle.cells.proofs.relink.own_area.Tie as tie

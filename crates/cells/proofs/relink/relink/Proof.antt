@@ -2,7 +2,7 @@ use mathlib.Core.Path.{sym, _∙_}
 use mathlib.Core.List.{[], _∷_}
 use lib.ListN.{getD}
 use Rattle.cells.specs.NodeWords.{relinked}
-use Rattle.cells.proofs.Looked.{relinked-own, relinked-other}
+use Rattle.cells.proofs.Renumbering.Looked.{relinked-own, relinked-other}
 use borrow.Author.Needs.{needs}
 use Rattle.cells.proofs.relink.relink.Statement.{statement}
 use Rattle.cells.proofs.relink.relink.Tie as tie

@@ -5,7 +5,7 @@ use native.Mathlib.Omega.{arith}
 use lib.ListN.{length, getD, set, take, drop, length-set, length-map}
 use lib.Seq.{length-take-le, getD-take}
 use Rattle.cells.specs.NodeWords.{relinked, oldOf}
-use Rattle.cells.proofs.Filled.{fill-turn, fill-ahead, fill-end, mapped-at}
+use Rattle.cells.proofs.Sequences.Filled.{fill-turn, fill-ahead, fill-end, mapped-at}
 use borrow.Author.Needs.{needs}
 use Rattle.cells.proofs.relink.relink_all.Statement.{statement}
 use Rattle.cells.proofs.relink.relink_all.Tie as tie

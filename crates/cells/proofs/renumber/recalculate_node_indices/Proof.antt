@@ -7,8 +7,8 @@ use Rattle.numbers.specs.declared.answer.Answer.the-variants.{Done}
 use Rattle.cells.specs.Memory.{Memory, memory, short}
 use Rattle.cells.specs.Renumber.{peds, recounted, answerOf, newLists, leftBy, renumberMemory, renumber}
 use Rattle.cells.specs.RenumberParts.{Room}
-use Rattle.cells.proofs.Placed.{vehicles-few, peds-are}
-use Rattle.cells.proofs.CellRenumbered.{accepted}
+use Rattle.cells.proofs.Renumbering.Placed.{vehicles-few, peds-are}
+use Rattle.cells.proofs.Renumbering.CellRenumbered.{accepted}
 use borrow.Author.Needs.{needs}
 use Rattle.cells.proofs.renumber.recalculate_node_indices.Statement.{statement}
 use Rattle.cells.proofs.renumber.recalculate_node_indices.Tie as tie

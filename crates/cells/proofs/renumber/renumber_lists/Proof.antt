@@ -1,6 +1,6 @@
 use native.Mathlib.Omega.{arith}
 use Rattle.cells.specs.Renumber.{renumberLists}
-use Rattle.cells.proofs.Placed.{filled-at}
+use Rattle.cells.proofs.Renumbering.Placed.{filled-at}
 use borrow.Author.Needs.{needs}
 use Rattle.cells.proofs.renumber.renumber_lists.Statement.{statement}
 use Rattle.cells.proofs.renumber.renumber_lists.Tie as tie

@@ -9,7 +9,7 @@ use Rattle.records.specs.Layout.{headerSize, headerBytes, lay, sectionBytes}
 use Rattle.records.proofs.Puts.{then}
 use Rattle.records.proofs.Laid.{lay-next, lay-first, lay-turn, lay-done, header-length}
 use Rattle.cells.specs.Blocks.{refsBlock, heightsBlock, junctionsBlock, linksBlock, nodesBlock, arrays}
-use Rattle.cells.proofs.Turns.{put-inside}
+use Rattle.cells.proofs.Sequences.Turns.{put-inside}
 use borrow.Author.Needs.{needs}
 use Rattle.cells.proofs.write.fill.Statement.{statement}
 use Rattle.cells.proofs.write.fill.Tie as tie

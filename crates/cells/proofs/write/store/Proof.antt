@@ -12,8 +12,8 @@ use Rattle.cells.specs.Memory.{Memory, memory}
 use Rattle.cells.specs.Blocks.{blocks, rootFor, written}
 use Rattle.cells.specs.Write.{left, stored}
 use Rattle.cells.specs.declared.write.Written.the-variants.{Wrote}
-use Rattle.cells.proofs.BlockLaws.{links-length}
-use Rattle.cells.proofs.WriteSteps.{Ready, ready, placed, ending}
+use Rattle.cells.proofs.Writing.BlockLaws.{links-length}
+use Rattle.cells.proofs.Writing.WriteSteps.{Ready, ready, placed, ending}
 use borrow.Author.Needs.{needs}
 use Rattle.cells.proofs.write.store.Statement.{statement}
 use Rattle.cells.proofs.write.store.Tie as tie

@@ -4,7 +4,7 @@ use mathlib.Core.Path.{_∙_}
 use lib.ListN.{drop, length-take}
 use Rattle.cells.specs.Memory.{memory}
 use Rattle.cells.specs.Write.{held, writeHeld, writeCall}
-use Rattle.cells.proofs.Ranges.{front}
+use Rattle.cells.proofs.Writing.Ranges.{front}
 use borrow.Author.Needs.{needs}
 use Rattle.cells.proofs.write.write.Statement.{statement}
 use Rattle.cells.proofs.write.write.Tie as tie

@@ -3,7 +3,7 @@ use Rattle.cells.specs.Memory.{Memory, memory}
 use Rattle.cells.specs.Write.{left}
 use Rattle.cells.specs.WriteCounts.{notWritten}
 use Rattle.cells.specs.declared.write.Written.{Written}
-use Rattle.cells.proofs.WriteSteps.{counts-refused, list-refused, goes-on}
+use Rattle.cells.proofs.Writing.WriteSteps.{counts-refused, list-refused, goes-on}
 use borrow.Author.Needs.{needs}
 use Rattle.cells.proofs.write.write_held.Statement.{statement}
 use Rattle.cells.proofs.write.write_held.Tie as tie

@@ -4,7 +4,7 @@ use native.Mathlib.Omega.{arith}
 use mathlib.Core.Path.{_≡_, refl, sym, ap, _∙_}
 use lib.ListN.{length, drop}
 use Rattle.cells.specs.WriteChecks.{valuesWithin, checkJunctions}
-use Rattle.cells.proofs.CheckTurns.{junctions-end, junctions-10, junctions-next}
+use Rattle.cells.proofs.Writing.CheckTurns.{junctions-end, junctions-10, junctions-next}
 use borrow.Author.Needs.{needs}
 use Rattle.cells.proofs.write_checks.check_junctions.Statement.{statement}
 use Rattle.cells.proofs.write_checks.check_junctions.Tie as tie

@@ -4,7 +4,7 @@ use native.Mathlib.Omega.{arith}
 use mathlib.Core.Path.{_≡_, refl, sym, ap, _∙_}
 use lib.ListN.{length, drop}
 use Rattle.cells.specs.WriteChecks.{linksWithin, checkNodes}
-use Rattle.cells.proofs.CheckTurns.{nodes-end, nodes-8, nodes-9, nodes-next}
+use Rattle.cells.proofs.Writing.CheckTurns.{nodes-end, nodes-8, nodes-9, nodes-next}
 use borrow.Author.Needs.{needs}
 use Rattle.cells.proofs.write_checks.check_nodes.Statement.{statement}
 use Rattle.cells.proofs.write_checks.check_nodes.Tie as tie

@@ -1,6 +1,6 @@
 use mathlib.Core.Path.{sym, ap, _∙_}
 use Rattle.cells.specs.Checks.{handedOn}
-use Rattle.cells.proofs.WriteSteps.{nodes-refused, junctions-refused, refs-refused, counted-all}
+use Rattle.cells.proofs.Writing.WriteSteps.{nodes-refused, junctions-refused, refs-refused, counted-all}
 use borrow.Author.Needs.{needs}
 use Rattle.cells.proofs.write_checks.write_counts.Statement.{statement}
 use Rattle.cells.proofs.write_checks.write_counts.Tie as tie

@@ -7,8 +7,8 @@ use Rattle.cells.specs.WriteCounts.{writeCounts, notWritten}
 use Rattle.cells.specs.BackAnswer.{wroteIf}
 use Rattle.numbers.specs.declared.answer.Answer.{Answer}
 use Rattle.cells.specs.declared.count.Counted.the-variants.{Held}
-use Rattle.cells.proofs.WriteSteps.{Ready, ready, ending}
-use Rattle.cells.proofs.BackAnswer.{counts-first, lists-first, room-first, back-last}
+use Rattle.cells.proofs.Writing.WriteSteps.{Ready, ready, ending}
+use Rattle.cells.proofs.WritingBack.BackAnswer.{counts-first, lists-first, room-first, back-last}
 use borrow.Author.Needs.{needs}
 use Rattle.cells.proofs.write_read.answer_held.Statement.{statement}
 use Rattle.cells.proofs.write_read.answer_held.Tie as tie

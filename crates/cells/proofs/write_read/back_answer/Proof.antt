@@ -6,7 +6,7 @@ use Rattle.cells.specs.Memory.{memory}
 use Rattle.cells.specs.Write.{held}
 use Rattle.cells.specs.BackCheck.{lengths}
 use Rattle.cells.specs.BackAnswer.{backAnswer}
-use Rattle.cells.proofs.Ranges.{front}
+use Rattle.cells.proofs.Writing.Ranges.{front}
 use borrow.Author.Needs.{needs}
 use Rattle.cells.proofs.write_read.back_answer.Statement.{statement}
 use Rattle.cells.proofs.write_read.back_answer.Tie as tie

@@ -6,8 +6,8 @@ use Rattle.cells.specs.Lists.{sumTo}
 use Rattle.cells.specs.Checks.{scan}
 use Rattle.cells.specs.Read.{roomCheck}
 use Rattle.cells.specs.BackCheck.{areaAt, lacks, readCounts, backTests}
-use Rattle.cells.proofs.ReadLaws.{sum-is}
-use Rattle.cells.proofs.BackAnswer.{then-refused, then-sum, tests-on}
+use Rattle.cells.proofs.Reading.ReadLaws.{sum-is}
+use Rattle.cells.proofs.WritingBack.BackAnswer.{then-refused, then-sum, tests-on}
 use borrow.Author.Needs.{needs}
 use Rattle.cells.proofs.write_read.back_check.Statement.{statement}
 use Rattle.cells.proofs.write_read.back_check.Tie as tie

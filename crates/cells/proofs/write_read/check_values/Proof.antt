@@ -12,9 +12,9 @@ use Rattle.cells.specs.Entries.{valuesIn}
 use Rattle.cells.specs.BackCheck.{areaAt, lacks}
 use Rattle.numbers.specs.declared.answer.Answer.{Answer}
 use Rattle.cells.specs.declared.count.Total.the-variants.{Sum}
-use Rattle.cells.proofs.ReadLaws.{scan-hit, scan-on, scan-end, scan-start, sum-next}
-use Rattle.cells.proofs.Ranges.{value-count}
-use Rattle.cells.proofs.Turns.{joined-next, joined-front}
+use Rattle.cells.proofs.Reading.ReadLaws.{scan-hit, scan-on, scan-end, scan-start, sum-next}
+use Rattle.cells.proofs.Writing.Ranges.{value-count}
+use Rattle.cells.proofs.Sequences.Turns.{joined-next, joined-front}
 use borrow.Author.Needs.{needs}
 use Rattle.cells.proofs.write_read.check_values.Statement.{statement}
 use Rattle.cells.proofs.write_read.check_values.Tie as tie

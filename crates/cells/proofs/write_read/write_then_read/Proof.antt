@@ -6,7 +6,7 @@ use Rattle.cells.specs.Memory.{Memory, memory}
 use Rattle.cells.specs.Read.{readOf}
 use Rattle.cells.specs.declared.write.Written.{Written}
 use Rattle.cells.specs.declared.write.Written.the-variants.{Wrote}
-use Rattle.cells.proofs.BackAnswer.{Accepted, refused-back, accepted-back}
+use Rattle.cells.proofs.WritingBack.BackAnswer.{Accepted, refused-back, accepted-back}
 use borrow.Author.Needs.{needs}
 use Rattle.cells.proofs.write_read.write_then_read.Statement.{statement}
 use Rattle.cells.proofs.write_read.write_then_read.Tie as tie

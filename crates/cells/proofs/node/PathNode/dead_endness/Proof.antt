@@ -1,5 +1,5 @@
 use native.Mathlib.Omega.{arith}
-use Rattle.cells.proofs.FieldLaws.{field-below}
+use Rattle.cells.proofs.Forms.FieldLaws.{field-below}
 use borrow.Author.Needs.{needs}
 use Rattle.cells.proofs.node.PathNode.dead_endness.Statement.{statement}
 use Rattle.cells.proofs.node.PathNode.dead_endness.Tie as tie

@@ -4,7 +4,7 @@ use mathlib.Core.Path.{_≡_, ap, _∙_}
 use Rattle.cells.specs.Access.{fieldOf}
 use Rattle.cells.specs.NodeWords.{pedKind}
 use Rattle.cells.specs.Special.{isPedSpecial}
-use Rattle.cells.proofs.SpecialLaws.{special-ped}
+use Rattle.cells.proofs.Forms.SpecialLaws.{special-ped}
 use borrow.Author.Needs.{needs}
 use Rattle.cells.proofs.node.PathNode.is_ped_node.Statement.{statement}
 use Rattle.cells.proofs.node.PathNode.is_ped_node.Tie as tie

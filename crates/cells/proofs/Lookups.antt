@@ -1,0 +1,2 @@
+-- Lookups in lent lists are lookups in the cell.
+pub mod LookupLaws

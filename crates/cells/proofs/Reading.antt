@@ -1,0 +1,5 @@
+-- What reading leaves is the cell that document 01 defines.
+pub mod ReadLaws
+pub mod FileRead
+pub mod Fits
+pub mod NewYnd

@@ -1,0 +1,6 @@
+-- Checks 8 to 11, the five arrays and the section.
+pub mod Ranges
+pub mod CheckTurns
+pub mod WriteTotals
+pub mod WriteSteps
+pub mod BlockLaws

@@ -1,0 +1,266 @@
+-- Reading back what an accepted writing wrote is refused exactly as `backCheck` says.
+use Prim.Native.Nat.{ℕ, zero, suc, _+_, _*_, _/_, _%_, _≤_, _<_}
+use native.Mathlib.Omega.{arith}
+use native.Mathlib.Nat.{zero-add}
+use mathlib.Core.Path.{_≡_, refl, ap, _∙_}
+use mathlib.Core.Bool.{Bool, true, false}
+use mathlib.Core.List.{List, [], _∷_, map}
+use lib.Dec.{ltb}
+use lib.ListN.{length, getD, take, length-append}
+use borrow.Author.Tests.{le-ltb, ltb-false}
+use Rattle.records.specs.Sections.{located, bytesOf}
+use Rattle.records.specs.Root.{rootOf}
+use Rattle.records.specs.Records.{nodeAt, nodeBytes, junctionAt, junctionBytes}
+use Rattle.records.specs.Put.{joined}
+use Rattle.records.specs.Layout.{headerSize, headerBytes, lay, sectionBytes}
+use Rattle.records.proofs.RecordBack.{node-back, node-length, junction-back, junction-length}
+use Rattle.records.proofs.Laid.{header-length}
+use Rattle.records.specs.declared.section.Part.{Part}
+use Rattle.records.specs.declared.section.Located.{Located}
+use Rattle.records.specs.declared.root.Root.{Root}
+use Rattle.numbers.specs.declared.answer.Answer.{Answer}
+use Rattle.numbers.specs.declared.answer.Answer.the-variants.{Done, Refused}
+use Rattle.cells.specs.Lists.{sumTo}
+use Rattle.cells.specs.Words.{toNode, toJunction}
+use Rattle.cells.specs.Checks.{refuseIf, sizesCheck, opened, arraysFound, scan, linksAt, valuesAt, badNode, badJunction, refuseMore, after, nodesScan, junctionsScan, countsOf, arraysCheck}
+use Rattle.cells.specs.Memory.{Memory, Left, unless, short}
+use Rattle.cells.specs.Read.{filled, roomCheck, ifHeld, ifFound, readArrays, readOf}
+use Rattle.cells.specs.Entries.{linksIn, valuesIn, fileNode, fileJunction}
+use Rattle.cells.specs.WriteChecks.{accepted, checkNodes, checkJunctions}
+use Rattle.cells.specs.Blocks.{refsBlock, heightsBlock, junctionRecord, junctionsBlock, nodeRecord, linksBlock, nodesBlock, blocks, rootFor, written}
+use Rattle.cells.specs.Write.{held, writeCall}
+use Rattle.cells.specs.WriteRead.{ifRead, ifWritten, writeReadOf}
+use Rattle.cells.specs.BackCheck.{then, areaAt, lacks, backCounts, lengths, backTests, backCheck}
+use Rattle.cells.specs.declared.arrays.Found.the-variants as found
+use Rattle.cells.specs.declared.count.Counts.{Counts}
+use Rattle.cells.specs.declared.count.Counted.{Counted}
+use Rattle.cells.specs.declared.count.Counted.the-variants as counted
+use Rattle.cells.specs.declared.write.Written.{Written}
+use Rattle.cells.specs.declared.write.Written.the-variants as written
+use Rattle.cells.proofs.Sequences.Joined.{laid-at}
+use Rattle.cells.proofs.Writing.BlockLaws.{nodes-length, links-length, junctions-length, refs-length}
+use Rattle.cells.proofs.WritingBack.BlocksBack.{nodes-ok, junctions-ok, stands-at, node-in, junction-in}
+use Rattle.cells.proofs.WritingBack.SectionBack.{root-read, nodes-here, links-here, junctions-here, heights-here, refs-here}
+use Rattle.cells.proofs.WritingBack.WrittenBack.{Told, write-told}
+
+-- ---- scans and sums
+
+pub scan-same : (cause : ℕ) (f g : ℕ → Bool) (i k : ℕ) → ((j : ℕ) → j < i + k → f j ≡ g j) → scan cause f i k ≡ scan cause g i k
+unfolding scan
+scan-same cause f g i zero e = refl
+scan-same cause f g i (suc k) e = λ q. refuseIf (e i (omega arith) q) cause i (scan-same cause f g (suc i) k (λ j h. e j (omega arith)) q)
+
+pub scan-none : (cause i k : ℕ) → scan cause (λ j. false) i k ≡ Done
+unfolding scan
+scan-none cause i zero = refl
+scan-none cause i (suc k) = scan-none cause (suc i) k
+
+pub sum-same : (f g : ℕ → ℕ) (n : ℕ) → ((j : ℕ) → j < n → f j ≡ g j) → sumTo f n ≡ sumTo g n
+unfolding sumTo
+sum-same f g zero e = refl
+sum-same f g (suc n) e = λ q. sum-same f g n (λ j h. e j (omega arith)) q + e n (omega arith) q
+
+sum-first : (g : ℕ → ℕ) (n : ℕ) → sumTo g (suc n) ≡ g 0 + sumTo (λ i. g (suc i)) n
+unfolding sumTo
+sum-first g zero = omega arith
+sum-first g (suc n) = omega (arith, sum-first g n)
+
+pub sum-joined : {A B : Type 0} (f : A → List B) (xs : List A) (z : A) → sumTo (λ i. length (f (getD xs i z))) (length xs) ≡ length (joined f xs)
+unfolding sumTo joined
+sum-joined f [] z = refl
+sum-joined f (x ∷ xs) z = omega (arith, sum-first (λ i. length (f (getD (x ∷ xs) i z))) (length xs), sum-joined f xs z, length-append (f x) (joined f xs))
+
+pub part-ends : {A B : Type 0} (f : A → List B) (xs : List A) (i : ℕ) (z : A) → i < length xs → length (joined f (take i xs)) + length (f (getD xs i z)) ≤ length (joined f xs)
+unfolding joined
+part-ends f [] i z lt = absurd (omega arith)
+part-ends f (x ∷ xs) zero z lt = omega (arith, length-append (f x) (joined f xs))
+part-ends f (x ∷ xs) (suc i) z lt = omega (arith, part-ends f xs i z (omega arith), length-append (f x) (joined f xs), length-append (f x) (joined f (take i xs)))
+
+-- ---- what the records say, with no bound on the entries
+
+module _ (links nodes : List (List ℕ)) (ok : accepted (checkNodes (λ n. length (linksIn links n)) 0 0 nodes) ≡ true) where
+  abbrev block : List ℕ
+  block = nodesBlock links nodes
+
+  node-record : (i : ℕ) → i < length nodes → nodeAt block (i * 40) ≡ fileNode (length (joined (linksIn links) (take i nodes))) (length (linksIn links (getD nodes i []))) (toNode (getD nodes i []))
+  node-record i lt =
+      let w = getD nodes i [] in
+      let count = length (linksIn links w) in
+      let start = length (joined (linksIn links) (take i nodes)) in
+      let c = nodes-ok (linksIn links) 0 0 nodes i ok lt in
+      node-back (fileNode start count (toNode w)) (node-in start count w (omega (arith, c .1)) (c .0)) block (i * 40)
+      (stands-at block (nodeBytes (fileNode start count (toNode w))) 40 i (node-length (fileNode start count (toNode w)))
+      (laid-at (linksIn links) (nodeRecord links) 40 (λ s n. node-length (fileNode s (length (linksIn links n)) (toNode n))) 0 nodes i [] lt ∙ ap (λ (s : ℕ). nodeBytes (fileNode s count (toNode w))) (zero-add start)))
+
+  count-at : (i : ℕ) → i < length nodes → linksAt block i ≡ length (linksIn links (getD nodes i []))
+  unfolding fileNode toNode
+  count-at i lt = ap (λ r. r .«link_count_flags» / 8) (node-record i lt) ∙ high (length (linksIn links (getD nodes i []))) (getD (getD nodes i []) 6 0 / 256 % 256)
+    where
+      high : (c f : ℕ) → (c * 8 + f % 8) / 8 ≡ c
+      high c f = omega arith
+
+  start-at : (i : ℕ) → i < length nodes → nodeAt block (i * 40) .«link_id» ≡ length (joined (linksIn links) (take i nodes))
+  unfolding fileNode
+  start-at i lt = ap (λ r. r .«link_id») (node-record i lt)
+
+  size : length block / 40 ≡ length nodes
+  size = omega (arith, nodes-length links nodes)
+
+  pub no-4 : nodesScan block (linksBlock links nodes) ≡ Done
+  no-4 =
+      ap (scan 4 (badNode block (length (linksBlock links nodes) / 8)) 0) size
+      ∙ scan-same 4 (badNode block (length (linksBlock links nodes) / 8)) (λ j. false) 0 (length nodes)
+      (λ i h. let lt : i < length nodes = omega arith in
+      le-ltb (length (linksBlock links nodes) / 8) (nodeAt block (i * 40) .«link_id» + linksAt block i)
+      (let q : nodeAt block (i * 40) .«link_id» + linksAt block i ≤ length (linksBlock links nodes) / 8 = omega (arith, start-at i lt, count-at i lt, part-ends (linksIn links) nodes i [] lt, links-length links nodes) in q))
+      ∙ scan-none 4 0 (length nodes)
+
+  pub links-sum : sumTo (linksAt block) (length block / 40) ≡ length (joined (linksIn links) nodes)
+  links-sum = ap (sumTo (linksAt block)) size ∙ sum-same (linksAt block) (λ i. length (linksIn links (getD nodes i []))) (length nodes) count-at ∙ sum-joined (linksIn links) nodes []
+
+module _ (heights : List ℕ) (js : List (List ℕ)) (ok : accepted (checkJunctions (λ j. length (valuesIn heights j)) 0 0 js) ≡ true) where
+  abbrev block-j : List ℕ
+  block-j = junctionsBlock heights js
+
+  junction-record : (i : ℕ) → i < length js → junctionAt block-j (i * 12) ≡ fileJunction (length (joined (valuesIn heights) (take i js))) (toJunction (getD js i []))
+  junction-record i lt =
+      let w = getD js i [] in
+      let start = length (joined (valuesIn heights) (take i js)) in
+      let low : 0 + start ≤ 65535 = junctions-ok (valuesIn heights) 0 0 js i ok lt in
+      junction-back (fileJunction start (toJunction w)) (junction-in start w (omega (arith, low))) block-j (i * 12)
+      (stands-at block-j (junctionRecord start w) 12 i (junction-length (fileJunction start (toJunction w)))
+      (laid-at (valuesIn heights) junctionRecord 12 (λ s j. junction-length (fileJunction s (toJunction j))) 0 js i [] lt ∙ ap (λ (s : ℕ). junctionBytes (fileJunction s (toJunction w))) (zero-add start)))
+
+  area-at : (i : ℕ) → i < length js → valuesAt block-j i ≡ areaAt js i
+  unfolding fileJunction toJunction
+  area-at i lt = ap (λ r. r .«heightmap_dim_x» * r .«heightmap_dim_y») (junction-record i lt)
+
+  bad-at : (i : ℕ) → i < length js → badJunction block-j (length (heightsBlock heights js)) i ≡ lacks heights js i
+  unfolding fileJunction toJunction
+  bad-at i lt = ap (λ r. ltb (length (heightsBlock heights js)) (r .«heightmap_ptr» + r .«heightmap_dim_x» * r .«heightmap_dim_y»)) (junction-record i lt)
+
+  size-j : length block-j / 12 ≡ length js
+  size-j = omega (arith, junctions-length heights js)
+
+  pub same-5 : junctionsScan block-j (heightsBlock heights js) ≡ scan 5 (lacks heights js) 0 (length js)
+  same-5 =
+      ap (scan 5 (badJunction block-j (length (heightsBlock heights js))) 0) size-j
+      ∙ scan-same 5 (badJunction block-j (length (heightsBlock heights js))) (lacks heights js) 0 (length js) (λ i h. bad-at i (omega arith))
+
+  pub heights-sum : sumTo (valuesAt block-j) (length block-j / 12) ≡ sumTo (areaAt js) (length js)
+  heights-sum = ap (sumTo (valuesAt block-j)) size-j ∙ sum-same (valuesAt block-j) (areaAt js) (length js) area-at
+
+-- ---- from the five arrays
+
+module _ (h : Memory) (told : Told h) (m : Memory) where
+  abbrev ns : List ℕ
+  ns = nodesBlock (h .links) (h .nodes)
+
+  abbrev ls : List ℕ
+  ls = linksBlock (h .links) (h .nodes)
+
+  abbrev hs : List ℕ
+  hs = heightsBlock (h .heights) (h .junctions)
+
+  abbrev js : List ℕ
+  js = junctionsBlock (h .heights) (h .junctions)
+
+  abbrev rs : List ℕ
+  rs = refsBlock (h .refs)
+
+  counts-are : countsOf ns js rs ≡ backCounts h
+  counts-are = λ i. record {
+    nodes = size (h .links) (h .nodes) (told .nodes-told) i;
+    links = links-sum (h .links) (h .nodes) (told .nodes-told) i;
+    junctions = size-j (h .heights) (h .junctions) (told .junctions-told) i;
+    heights = heights-sum (h .heights) (h .junctions) (told .junctions-told) i;
+    refs = (let e : length rs / 8 ≡ length (h .refs) = omega (arith, refs-length (h .refs)) in e) i;
+  }
+
+  abbrev roomOf : Counts → Answer
+  roomOf k = roomCheck k (length (m .nodes)) (length (m .links)) (length (m .junctions)) (length (m .heights)) (length (m .refs))
+
+  pub arrays-done : (root : Root) → readArrays root ns ls js hs rs m .answer
+      ≡ refuseIf (ltb 65536 (length (h .nodes))) 6 0 (refuseIf (ltb 4096 (length (h .junctions))) 6 1 (then (scan 5 (lacks (h .heights) (h .junctions)) 0 (length (h .junctions))) (roomOf (backCounts h))))
+  unfolding readArrays arraysCheck
+  arrays-done root =
+      (λ i. reading (refuseMore (ltb 65536 (size (h .links) (h .nodes) (told .nodes-told) i)) 6 0
+      (refuseMore (ltb 4096 (size-j (h .heights) (h .junctions) (told .junctions-told) i)) 6 1
+      (after (no-4 (h .links) (h .nodes) (told .nodes-told) i) (after (same-5 (h .heights) (h .junctions) (told .junctions-told) i) (counted.Held (counts-are i)))))) .answer)
+      ∙ go (ltb 65536 (length (h .nodes))) (ltb 4096 (length (h .junctions))) (scan 5 (lacks (h .heights) (h .junctions)) 0 (length (h .junctions))) (roomOf (backCounts h)) refl
+    where
+      reading : Counted → Left
+      reading c = ifHeld c m λ k. unless (roomOf k) m (record { answer = Done; memory = filled root k ns ls js hs rs m })
+
+      room-done : (c : Answer) (x : Memory) → unless c m (record { answer = Done; memory = x }) .answer ≡ c
+      room-done Done x = refl
+      room-done (Refused a b) x = refl
+
+      go : (a b : Bool) (c d : Answer) → roomOf (backCounts h) ≡ d
+          → reading (refuseMore a 6 0 (refuseMore b 6 1 (after Done (after c (counted.Held (backCounts h)))))) .answer ≡ refuseIf a 6 0 (refuseIf b 6 1 (then c (roomOf (backCounts h))))
+      go true b c d e = refl
+      go false true c d e = refl
+      go false false (Refused x y) d e = refl
+      go false false Done d e = room-done (roomOf (backCounts h)) (filled root (backCounts h) ns ls js hs rs m)
+
+-- ---- from the section
+
+-- the section is long enough for a root
+long-enough : (h : Memory) → 112 ≤ length (written h)
+unfolding written sectionBytes
+long-enough h =
+    let r = rootFor h (map length (blocks h)) in
+    omega (arith, length-append (headerBytes r) (lay headerSize (blocks h)), header-length r)
+
+-- reading back, after an accepted writing
+pub read-back-done : (h m : Memory) → Told h → readOf (written h) [] m .answer ≡ backCheck h (lengths m)
+unfolding readOf backCheck backTests sizesCheck arraysFound
+read-back-done h m told = go (ltb 16777216 (length (written h))) refl
+  where
+    w : List ℕ
+    w = written h
+
+    reading : Part → Part → Part → Part → Part → Left
+    reading n l j t r = readArrays (rootOf w) (bytesOf n w []) (bytesOf l w []) (bytesOf j w []) (bytesOf t w []) (bytesOf r w []) m
+
+    by : Located → Located → Located → Located → Located → Left
+    by a b c d f =
+        ifFound (opened 0 a λ n. opened 1 b λ l. opened 2 c λ j. opened 3 d λ t. opened 4 f λ r. found.Arrays (record { nodes = n; links = l; junctions = j; heights = t; refs = r })) m reading
+
+    after-sizes : Answer
+    after-sizes =
+        refuseIf (ltb 65536 (length (h .nodes))) 6 0 (refuseIf (ltb 4096 (length (h .junctions))) 6 1 (then (scan 5 (lacks (h .heights) (h .junctions)) 0 (length (h .junctions)))
+        (roomCheck (backCounts h) (length (m .nodes)) (length (m .links)) (length (m .junctions)) (length (m .heights)) (length (m .refs)))))
+
+    parts : Root → Left
+    parts r =
+        by (located (r .nodes) (r .«node_count») 40 (length w) 0) (located (r .links) (r .«link_count») 8 (length w) 0) (located (r .junctions) (r .«junction_count») 12 (length w) 0)
+        (located (r .heightmap) (r .«heightmap_count») 1 (length w) 0) (located (r .refs) (r .«ref_count») 8 (length w) 0)
+
+    found-all : length w ≤ 16777216 → parts (rootOf w) .answer ≡ after-sizes
+    found-all q =
+        let a = nodes-here h (told .refs-told) q in
+        let b = links-here h (told .refs-told) q in
+        let c = junctions-here h (told .refs-told) q in
+        let d = heights-here h (told .refs-told) q in
+        let f = refs-here h (told .refs-told) q in
+        ap (λ (r : Root). parts r .answer) (root-read h (told .refs-told) q)
+        ∙ (λ i. by (a .is-at i) (b .is-at i) (c .is-at i) (d .is-at i) (f .is-at i) .answer)
+        ∙ (λ i. readArrays (rootOf w) (a .bytes i) (b .bytes i) (c .bytes i) (d .bytes i) (f .bytes i) m .answer)
+        ∙ arrays-done h told m (rootOf w)
+
+    go : (big : Bool) → ltb 16777216 (length w) ≡ big
+        → unless (refuseIf big 2 0 (refuseIf (ltb 16777216 0) 2 1 (refuseIf (ltb (length w) 112) 1 0 Done))) m (parts (rootOf w)) .answer ≡ refuseIf big 2 0 after-sizes
+    go true e = refl
+    go false e = rw (le-ltb (length w) 112 (long-enough h)) (found-all (ltb-false 16777216 (length w) e))
+
+-- so write-then-read may test first, and write only what will be read back
+pub tested-first : (m : Memory) (s : List ℕ) (n : ℕ) → writeCall m s .answer ≡ written.Wrote n
+    → writeReadOf m s ≡ ifRead n (writeCall m s .section) (backCheck (held m) (lengths m)) (readOf (written (held m)) [] m .memory) m s
+unfolding writeReadOf writeCall
+tested-first m s n e =
+    let t = writeCall m s .section in
+    let w = write-told (held m) (short m) s n e in
+    ap (λ (a : Written). ifWritten a t m s) e
+    ∙ ap (λ (x : List ℕ). ifRead n t (readOf x [] m .answer) (readOf x [] m .memory) m s) (w .bytes)
+    ∙ ap (λ (c : Answer). ifRead n t c (readOf (written (held m)) [] m .memory) m s) (read-back-done (held m) m (w .told))
