@@ -32,7 +32,7 @@ inserted at l x xs = (take at (take l xs) ++ (x ∷ drop at (take l xs))) ++ dro
 
 -- the node, with c links from s
 unfoldable pub ranged : ℕ → ℕ → List ℕ → List ℕ
-ranged s c w = getD w 0 0 ∷ getD w 1 0 ∷ getD w 2 0 ∷ getD w 3 0 ∷ getD w 4 0 ∷ getD w 5 0 ∷ (getD w 6 0 % 65536 + c * 65536) ∷ s ∷ []
+ranged s c w = getD w 0 0 ∷ getD w 1 0 ∷ getD w 2 0 ∷ getD w 3 0 ∷ getD w 4 0 ∷ getD w 5 0 ∷ (getD w 6 0 % 65536 + c * 65536) ∷ s ∷ drop 8 w
 
 -- a node whose range starts at or behind the new link; a start that no link has stays
 unfoldable pub shifted : ℕ → ℕ → List ℕ → List ℕ

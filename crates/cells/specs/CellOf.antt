@@ -5,7 +5,11 @@ use mathlib.Core.List.{List, [], _∷_, _++_, map}
 use lib.ListN.{length, getD, take, drop}
 use Rattle.cells.specs.NodeWords.{areaOf, numberOf, linkStart, linkCount, valueStart, valueCount}
 use Rattle.cells.specs.Memory.{Memory}
-use Rattle.cells.specs.Cell.{Position, LinkBody, Link, NodeBody, Node, Junction, Ref, Cell}
+use Rattle.cells.specs.Cell.{Position, LinkBody, Link, NodeMarks, NodeBody, Node, Junction, Ref, Cell}
+use lib.Ieee.{binary32, toBits}
+use Rattle.numbers.specs.declared.math.Vec3.{Vec3}
+use Rattle.cells.specs.declared.node.PathNode.{PathNode}
+use Rattle.cells.specs.Words.{toNode}
 
 abbrev pub linkOf : List ℕ → Link
 linkOf w = record { area = getD w 0 0; number = getD w 1 0; body = record { flags0 = getD w 2 0 % 256; flags1 = getD w 2 0 / 256 % 256; flags2 = getD w 3 0 % 256; len = getD w 3 0 / 256 % 256 } }
@@ -13,17 +17,21 @@ linkOf w = record { area = getD w 0 0; number = getD w 1 0; body = record { flag
 abbrev pub refOf : List ℕ → Ref
 refOf w = record { area = getD w 0 0; number = getD w 1 0; junction = getD w 2 0; unk0 = getD w 3 0 }
 
+abbrev pub marksOf : PathNode → NodeMarks
+marksOf n = record { street = n .«street_name»; flags0 = n .flags0; flags1 = n .flags1; flags2 = n .flags2; flags3 = n .flags3; flags4 = n .flags4; flags5 = n .flags5 }
+
+-- the bits of a position; those that a node's words hold
+abbrev pub bitsOf : Vec3 → Position
+bitsOf p = record { x = toBits binary32 (p .x); y = toBits binary32 (p .y); z = toBits binary32 (p .z) }
+
+abbrev pub bitsIn : List ℕ → Position
+bitsIn w = record { x = getD w 2 0; y = getD w 3 0; z = getD w 4 0 }
+
 unfoldable pub bodyOf : List ℕ → NodeBody
-bodyOf w = record {
-  street = getD w 1 0 % 4294967296;
-  position = record { x = getD w 2 0; y = getD w 3 0; z = getD w 4 0 };
-  flags0 = getD w 5 0 % 256;
-  flags1 = getD w 5 0 / 256 % 256;
-  flags2 = getD w 5 0 / 65536 % 256;
-  flags3 = getD w 5 0 / 16777216 % 256;
-  flags4 = getD w 6 0 % 256;
-  flags5 = getD w 6 0 / 256 % 256;
-}
+bodyOf w = record { position = bitsIn w; marks = marksOf (toNode w) }
+
+abbrev pub bodyFrom : PathNode → NodeBody
+bodyFrom n = record { position = bitsOf (n .position); marks = marksOf n }
 
 -- a node with its own copy of its links: as many as a byte of word 6 says, from where word 7 says
 abbrev pub nodeWith : List Link → List ℕ → Node

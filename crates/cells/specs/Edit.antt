@@ -6,7 +6,7 @@ use lib.Dec.{eqb, ltb, leb}
 use lib.ListN.{length, getD, set}
 use Rattle.cells.specs.NodeWords.{linkStart, linkCount, valueStart, valueCount}
 use Rattle.cells.specs.Words.{toNode, nodeWords, toLink, linkWords, toJunction, junctionWords, toRef, refWords}
-use Rattle.cells.specs.NodeAccess.{withPosition}
+use Rattle.cells.specs.NodeAccess.{withPosition, withRange}
 use Rattle.numbers.specs.Positions.{quantised, dequantised}
 use Rattle.numbers.specs.declared.math.Vec3.{Vec3}
 use Rattle.numbers.specs.declared.answer.Answer.{Answer}
@@ -114,20 +114,7 @@ changeAt (Refused cause place) f d l = stored (answer.Refused cause place) l
 
 -- a node with the range of links that its entry has
 unfoldable pub rangeKept : PathNode → List ℕ → PathNode
-rangeKept n w = record {
-  «area_id» = n .«area_id»;
-  «node_id» = n .«node_id»;
-  «street_name» = n .«street_name»;
-  position = n .position;
-  flags0 = n .flags0;
-  flags1 = n .flags1;
-  flags2 = n .flags2;
-  flags3 = n .flags3;
-  flags4 = n .flags4;
-  flags5 = n .flags5;
-  «link_id» = linkStart w;
-  «link_count» = linkCount w;
-}
+rangeKept n w = withRange n (linkStart w) (linkCount w)
 
 unfoldable pub putNode : Ynd → List (List ℕ) → ℕ → PathNode → Stored (List ℕ)
 putNode y nodes p n = changeAt (nodeEntry y nodes p) (λ w. nodeWords (rangeKept n w)) [] nodes

@@ -11,42 +11,17 @@ use Rattle.cells.specs.declared.node.PathNode.{PathNode}
 use Rattle.cells.specs.declared.junction.PathJunction.{PathJunction}
 use Rattle.cells.specs.NodeWords.{linkStart, linkCount, valueStart, valueCount}
 use Rattle.cells.specs.Cell.{Link, NodeBody, Node, Junction, Ref, Cell, nodeAt}
+use Rattle.cells.specs.CellOf.{bitsOf, bodyFrom}
 use Rattle.cells.specs.AddLink.{heldAt}
 
 -- ---- the cell's entries, by the structs
-
-abbrev pub bodyFrom : PathNode → NodeBody
-bodyFrom n = record {
-  street = n .«street_name»;
-  position = record { x = toBits binary32 (n .position .x); y = toBits binary32 (n .position .y); z = toBits binary32 (n .position .z) };
-  flags0 = n .flags0;
-  flags1 = n .flags1;
-  flags2 = n .flags2;
-  flags3 = n .flags3;
-  flags4 = n .flags4;
-  flags5 = n .flags5;
-}
 
 abbrev pub nodeFrom : List Link → PathNode → Node
 nodeFrom ls n = record { area = n .«area_id»; number = n .«node_id»; links = ls; body = bodyFrom n }
 
 -- the node at another position
 abbrev pub nodeMoved : Vec3 → Node → Node
-nodeMoved at n = record {
-  area = n .area;
-  number = n .number;
-  links = n .links;
-  body = record {
-    street = n .body .street;
-    position = record { x = toBits binary32 (at .x); y = toBits binary32 (at .y); z = toBits binary32 (at .z) };
-    flags0 = n .body .flags0;
-    flags1 = n .body .flags1;
-    flags2 = n .body .flags2;
-    flags3 = n .body .flags3;
-    flags4 = n .body .flags4;
-    flags5 = n .body .flags5;
-  };
-}
+nodeMoved at n = record { area = n .area; number = n .number; links = n .links; body = record { position = bitsOf at; marks = n .body .marks } }
 
 abbrev pub refFrom : NodeJunctionRef → Ref
 refFrom r = record { area = r .«area_id»; number = r .«node_id»; junction = r .«junction_id»; unk0 = r .unk0 }

@@ -9,6 +9,8 @@ use Rattle.records.specs.Sections.{arrayAt}
 use Rattle.records.specs.Records.{nodeAt, linkAt, junctionAt, refAt}
 use Rattle.cells.specs.Lists.{upTo}
 use Rattle.cells.specs.Checks.{rootRead}
+use Rattle.cells.specs.Words.{pathNode}
+use Rattle.cells.specs.CellOf.{bodyFrom}
 use Rattle.cells.specs.Cell.{Link, Node, NodeBody, Junction, Ref, Cell}
 use Rattle.records.specs.declared.root.Root.{Root}
 use Rattle.records.specs.declared.node.Node as raw-node
@@ -24,18 +26,8 @@ fileLinkOf l = record { area = l .«area_id»; number = l .«node_id»; body = r
 abbrev pub fileRefOf : NodeJunctionRef → Ref
 fileRefOf r = record { area = r .«area_id»; number = r .«node_id»; junction = r .«junction_id»; unk0 = r .unk0 }
 
--- Section 4: the low three bits of `link_count_flags` are flags5.
 abbrev pub fileBody : raw-node.Node → NodeBody
-fileBody n = record {
-  street = n .«street_name»;
-  position = record { x = toBits binary32 (unstep 2 (n .«position_x»)); y = toBits binary32 (unstep 2 (n .«position_y»)); z = toBits binary32 (unstep 5 (n .«position_z»)) };
-  flags0 = n .flags0;
-  flags1 = n .flags1;
-  flags2 = n .flags2;
-  flags3 = n .flags3;
-  flags4 = n .flags4;
-  flags5 = n .«link_count_flags» % 8;
-}
+fileBody n = bodyFrom (pathNode n 0)
 
 -- Section 4: its links are those of the array l from `link_id` on, as many as the top five bits of `link_count_flags` say. Each node gets its copy.
 abbrev pub fileNodeOf : List ℕ → raw-node.Node → Node

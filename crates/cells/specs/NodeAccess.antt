@@ -22,9 +22,9 @@ newNode area node p = record {
   «link_count» = 0;
 }
 
--- a node with another position and other flags
-unfoldable pub changed : PathNode → Vec3 → ℕ → ℕ → ℕ → ℕ → ℕ → ℕ → PathNode
-changed n p f0 f1 f2 f3 f4 f5 = record {
+-- a node with another position, other flags and another range of links
+unfoldable pub changed : PathNode → Vec3 → ℕ → ℕ → ℕ → ℕ → ℕ → ℕ → ℕ → ℕ → PathNode
+changed n p f0 f1 f2 f3 f4 f5 start count = record {
   «area_id» = n .«area_id»;
   «node_id» = n .«node_id»;
   «street_name» = n .«street_name»;
@@ -35,30 +35,34 @@ changed n p f0 f1 f2 f3 f4 f5 = record {
   flags3 = f3;
   flags4 = f4;
   flags5 = f5;
-  «link_id» = n .«link_id»;
-  «link_count» = n .«link_count»;
+  «link_id» = start;
+  «link_count» = count;
 }
 
 abbrev pub withPosition : PathNode → Vec3 → PathNode
-withPosition n p = changed n p (n .flags0) (n .flags1) (n .flags2) (n .flags3) (n .flags4) (n .flags5)
+withPosition n p = changed n p (n .flags0) (n .flags1) (n .flags2) (n .flags3) (n .flags4) (n .flags5) (n .«link_id») (n .«link_count»)
 
 abbrev pub withFlags0 : PathNode → ℕ → PathNode
-withFlags0 n f = changed n (n .position) f (n .flags1) (n .flags2) (n .flags3) (n .flags4) (n .flags5)
+withFlags0 n f = changed n (n .position) f (n .flags1) (n .flags2) (n .flags3) (n .flags4) (n .flags5) (n .«link_id») (n .«link_count»)
 
 abbrev pub withFlags1 : PathNode → ℕ → PathNode
-withFlags1 n f = changed n (n .position) (n .flags0) f (n .flags2) (n .flags3) (n .flags4) (n .flags5)
+withFlags1 n f = changed n (n .position) (n .flags0) f (n .flags2) (n .flags3) (n .flags4) (n .flags5) (n .«link_id») (n .«link_count»)
 
 abbrev pub withFlags2 : PathNode → ℕ → PathNode
-withFlags2 n f = changed n (n .position) (n .flags0) (n .flags1) f (n .flags3) (n .flags4) (n .flags5)
+withFlags2 n f = changed n (n .position) (n .flags0) (n .flags1) f (n .flags3) (n .flags4) (n .flags5) (n .«link_id») (n .«link_count»)
 
 abbrev pub withFlags3 : PathNode → ℕ → PathNode
-withFlags3 n f = changed n (n .position) (n .flags0) (n .flags1) (n .flags2) f (n .flags4) (n .flags5)
+withFlags3 n f = changed n (n .position) (n .flags0) (n .flags1) (n .flags2) f (n .flags4) (n .flags5) (n .«link_id») (n .«link_count»)
 
 abbrev pub withFlags4 : PathNode → ℕ → PathNode
-withFlags4 n f = changed n (n .position) (n .flags0) (n .flags1) (n .flags2) (n .flags3) f (n .flags5)
+withFlags4 n f = changed n (n .position) (n .flags0) (n .flags1) (n .flags2) (n .flags3) f (n .flags5) (n .«link_id») (n .«link_count»)
 
 abbrev pub withFlags5 : PathNode → ℕ → PathNode
-withFlags5 n f = changed n (n .position) (n .flags0) (n .flags1) (n .flags2) (n .flags3) (n .flags4) f
+withFlags5 n f = changed n (n .position) (n .flags0) (n .flags1) (n .flags2) (n .flags3) (n .flags4) f (n .«link_id») (n .«link_count»)
+
+-- a node with so many links from there on
+abbrev pub withRange : PathNode → ℕ → ℕ → PathNode
+withRange n start count = changed n (n .position) (n .flags0) (n .flags1) (n .flags2) (n .flags3) (n .flags4) (n .flags5) start count
 
 -- either of the two disabled bits of flags2
 unfoldable pub disabled : ℕ → Bool

@@ -18,7 +18,10 @@ fn with_count(w: u32, c: u8) -> u32
 pub(crate) fn with_range(w: NodeWords, s: u32, c: u8) -> NodeWords
     ensures { λ r. ⌜ r ≡ ranged s c w ⌝ }
 {
-    [w[0], w[1], w[2], w[3], w[4], w[5], with_count(w[6], c), s]
+    let mut v = w;
+    v[6] = with_count(w[6], c);
+    v[7] = s;
+    v
 }
 
 fn shift(w: NodeWords, at: usize, l: usize) -> NodeWords

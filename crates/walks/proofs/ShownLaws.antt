@@ -20,7 +20,7 @@ use Rattle.cells.specs.declared.lookup.Place.{Place}
 use Rattle.cells.proofs.Sequences.Tests.{by-test}
 use Rattle.cells.proofs.Lookups.LookupLaws.{area-held}
 use Rattle.walks.specs.Walk.{see, linkAt, bodyOf}
-use Rattle.walks.specs.Shown.{inside, junctionPlace, seenNode, shownNode, seenJunction, orNone, shownJunction, valuesOf, shownValues, seenLink, orNoLink, shownLink}
+use Rattle.walks.specs.Shown.{seenBy, inside, junctionPlace, seenNode, shownNode, seenJunction, orNone, shownJunction, valuesOf, shownValues, seenLink, orNoLink, shownLink}
 use Rattle.walks.specs.ShownParts.{seenOf}
 use Rattle.walks.specs.declared.shown.SeenNode.{SeenNode}
 use Rattle.walks.specs.declared.shown.SeenJunction.{SeenJunction}
@@ -108,22 +108,10 @@ module _ (m : Memory) where
       held-long = sym (rw (length-take, length-drop, length-map, length-take-le l (m .links) links))
 
       -- by the node's own fields
-      abbrev seenBy : Node → SeenNode
-      seenBy x = record {
-        «area_id» = x .area;
-        «street_name» = x .body .street;
-        position = record { x = x .body .position .x; y = x .body .position .y; z = x .body .position .z };
-        flags0 = x .body .flags0;
-        flags1 = x .body .flags1;
-        flags2 = x .body .flags2;
-        flags3 = x .body .flags3;
-        flags4 = x .body .flags4;
-        flags5 = x .body .flags5;
-        «link_count» = length (x .links);
-        junction = placeOf (junctionPlace (cellOf m) (x .area) (x .number));
-      }
+      abbrev seenAs : Node → SeenNode
+      seenAs x = seenBy (x .area) (x .body) (length (x .links)) (placeOf (junctionPlace (cellOf m) (x .area) (x .number)))
 
-      seen-fields : seenNode (cellOf m) p ≡ seenBy (nodeAt (nodesOf m) p)
+      seen-fields : seenNode (cellOf m) p ≡ seenAs (nodeAt (nodesOf m) p)
       unfolding seenNode see cellOf
       seen-fields = refl
 
@@ -133,7 +121,7 @@ module _ (m : Memory) where
       seen-words count j ec ej =
           let ec′ : count ≡ length (take (linkCount w) (drop (linkStart w) pool)) = ec ∙ held-long in
           let ej′ : j ≡ placeOf (junctionPlace (cellOf m) (areaOf w) (numberOf w)) = ej ∙ junction-place (areaOf w) (numberOf w) in
-          (λ i. seenOf w (ec′ i) (ej′ i)) ∙ ap seenBy (sym (node-in m nodes p lt)) ∙ sym seen-fields
+          (λ i. seenOf w (ec′ i) (ej′ i)) ∙ ap seenAs (sym (node-in m nodes p lt)) ∙ sym seen-fields
 
       pub node-answered : (r : SeenNode) (count : ℕ) (j : Place) → r ≡ seenOf w count j → count ≡ min (linkCount w) (l - linkStart w)
           → j ≡ junctionOfCall (m .ynd) (m .nodes) (m .refs) (areaOf w) (numberOf w) → node.Node r ≡ shownNode m p

@@ -7,10 +7,11 @@ use mathlib.Core.Option.{Option, none, some}
 use lib.Dec.{leb, ltb}
 use lib.ListN.{length, getElem?}
 use Rattle.cells.specs.Memory.{Memory}
-use Rattle.cells.specs.Cell.{LinkBody, Junction, Cell, nodeAt, firstOf}
+use Rattle.cells.specs.Cell.{LinkBody, NodeBody, Junction, Cell, nodeAt, firstOf}
 use Rattle.cells.specs.CellOf.{cellOf}
 use Rattle.cells.specs.Lookup.{refOf}
 use Rattle.cells.specs.LookupCall.{placeOf}
+use Rattle.cells.specs.declared.lookup.Place.{Place}
 use Rattle.walks.specs.Walk.{linkAt, see, bodyOf}
 use Rattle.walks.specs.declared.shown.SeenNode.{SeenNode}
 use Rattle.walks.specs.declared.shown.SeenJunction.{SeenJunction}
@@ -33,21 +34,25 @@ inside count none = none
 unfoldable pub junctionPlace : Cell → ℕ → ℕ → Option ℕ
 junctionPlace c a k = inside (length (c .junctions)) (refOf (firstOf (c .nodes)) (c .refs) a k)
 
+-- what is shown of a node of this area and body, with so many links and its junction at a place
+abbrev pub seenBy : ℕ → NodeBody → ℕ → Place → SeenNode
+seenBy area b count junction = record {
+  «area_id» = area;
+  «street_name» = b .marks .street;
+  position = record { x = b .position .x; y = b .position .y; z = b .position .z };
+  flags0 = b .marks .flags0;
+  flags1 = b .marks .flags1;
+  flags2 = b .marks .flags2;
+  flags3 = b .marks .flags3;
+  flags4 = b .marks .flags4;
+  flags5 = b .marks .flags5;
+  «link_count» = count;
+  junction = junction;
+}
+
 -- what the walk shows of the node at place p, with the place of its junction
 unfoldable pub seenNode : Cell → ℕ → SeenNode
-seenNode c p = record {
-  «area_id» = see c p .area;
-  «street_name» = see c p .body .street;
-  position = record { x = see c p .body .position .x; y = see c p .body .position .y; z = see c p .body .position .z };
-  flags0 = see c p .body .flags0;
-  flags1 = see c p .body .flags1;
-  flags2 = see c p .body .flags2;
-  flags3 = see c p .body .flags3;
-  flags4 = see c p .body .flags4;
-  flags5 = see c p .body .flags5;
-  «link_count» = see c p .count;
-  junction = placeOf (junctionPlace c (see c p .area) (nodeAt (c .nodes) p .number));
-}
+seenNode c p = seenBy (see c p .area) (see c p .body) (see c p .count) (placeOf (junctionPlace c (see c p .area) (nodeAt (c .nodes) p .number)))
 
 unfoldable pub shownNode : Memory → ℕ → ShownNode
 shownNode m p =

@@ -16,7 +16,7 @@ use Rattle.cells.specs.declared.link.PathLink.{PathLink}
 use Rattle.cells.specs.declared.junction.PathJunction.{PathJunction}
 use Rattle.cells.specs.NodeWords.{areaOf, numberOf, valueStart, valueCount}
 use Rattle.cells.specs.NodeAccess.{newNode}
-use Rattle.cells.specs.Words.{nodeWords, linkWords, junctionWords, refWords}
+use Rattle.cells.specs.Words.{toNode, nodeWords, linkWords, junctionWords, refWords}
 use Rattle.cells.specs.Cell.{Link, Node, Junction}
 use Rattle.cells.specs.CellOf.{linkOf, refOf, bodyOf, nodeWith, junctionWith, nodesOf, junctionsOf, refsOf, cellOf}
 use Rattle.cells.specs.Memory.{Memory, memory}
@@ -37,7 +37,7 @@ more-held f n l x h = rw (add-one, take-suc-set l n x h) (map-append f (take n l
 -- ---- a node
 
 bare-node : (ls : List Link) (area n : ℕ) (p : Vec3) → area < 65536 → n < 65536 → nodeWith ls (nodeWords (newNode area n p)) ≡ nodeFrom [] (newNode area n p)
-unfolding areaOf numberOf bodyOf nodeWords newNode
+unfolding areaOf numberOf bodyOf nodeWords newNode toNode
 bare-node ls area n p ha hn = λ i. record {
   area = (let e : (area + n * 65536) % 65536 ≡ area = omega arith in e) i;
   number = (let e : (area + n * 65536) / 65536 % 65536 ≡ n = omega arith in e) i;

@@ -20,6 +20,7 @@ use Rattle.cells.specs.NodeAccess.{changed, withPosition}
 use Rattle.cells.specs.Words.{toNode, nodeWords, junctionWords, refWords}
 use Rattle.cells.specs.Cell.{Link, Node, noNode, nodeAt}
 use Rattle.cells.specs.CellOf.{linkOf, refOf, bodyOf, nodeWith, junctionWith, nodesOf, junctionsOf, refsOf, cellOf}
+use Rattle.cells.specs.CellOf.{bitsOf, marksOf}
 use Rattle.cells.specs.Memory.{Memory, memory}
 use Rattle.cells.specs.Edit.{entryAt, nodeEntry, refEntry, changeAt, rangeKept, putNode, setPosition, putRef, valueRange, startAt, sizedEntry, putJunction}
 use Rattle.cells.specs.EditedCell.{nodeFrom, nodeMoved, refFrom, junctionFrom, withNodes, withRefs, withJunctions}
@@ -73,20 +74,11 @@ node-words ls n at h =
       area = b i .«area_id»;
       number = b i .«node_id»;
       links = take (b i .«link_count») (drop (n .«link_id») ls);
-      body = record {
-        street = b i .«street_name»;
-        position = record { x = toBits binary32 (at .x); y = toBits binary32 (at .y); z = toBits binary32 (at .z) };
-        flags0 = b i .flags0;
-        flags1 = b i .flags1;
-        flags2 = b i .flags2;
-        flags3 = b i .flags3;
-        flags4 = b i .flags4;
-        flags5 = b i .flags5;
-      };
+      body = record { position = bitsOf at; marks = marksOf (b i) };
     }
 
 kept-fits : (n : PathNode) (w : List ℕ) → NodeFits n → linkStart w < 4294967296 → NodeFits (rangeKept n w)
-unfolding rangeKept
+unfolding rangeKept changed
 kept-fits n w h lt = record {
   «area_id» = h .«area_id»;
   «node_id» = h .«node_id»;

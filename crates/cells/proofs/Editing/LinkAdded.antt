@@ -12,6 +12,8 @@ use borrow.Author.Tests.{ne-eqb, ltb-true, ltb-false, leb-true, leb-false, eqb-t
 use Rattle.cells.specs.NodeWords.{areaOf, numberOf, linkStart, linkCount}
 use Rattle.cells.specs.Cell.{Link, Node, noNode, nodeAt}
 use Rattle.cells.specs.CellOf.{linkOf, bodyOf, nodeWith}
+use Rattle.cells.specs.CellOf.{bitsIn}
+use Rattle.cells.specs.Words.{toNode}
 use Rattle.cells.specs.Edit.{heldIn}
 use Rattle.cells.specs.AddLink.{heldAt, behind, atIn, inserted, ranged, shifted, nodesAfter}
 use Rattle.cells.specs.EditedCell.{withLink, addTo, Apart}
@@ -95,7 +97,7 @@ byte-one a c = let e : a % 65536 + a / 65536 * 65536 ≡ a = omega arith in byte
 
 node-ranged : (P : List Link) (s c : ℕ) (w : List ℕ) → c < 256
     → nodeWith P (ranged s c w) ≡ record { area = areaOf w; number = numberOf w; links = take c (drop s P); body = bodyOf w }
-unfolding ranged areaOf numberOf bodyOf
+unfolding ranged areaOf numberOf bodyOf toNode
 node-ranged P s c w hc =
     let k : (getD w 6 0 % 65536 + c * 65536) / 65536 % 256 ≡ c = omega arith in
     let f₄ : (getD w 6 0 % 65536 + c * 65536) % 256 ≡ getD w 6 0 % 256 = omega arith in
@@ -105,14 +107,16 @@ node-ranged P s c w hc =
       number = numberOf w;
       links = take (k i) (drop s P);
       body = record {
-        street = getD w 1 0 % 4294967296;
-        position = record { x = getD w 2 0; y = getD w 3 0; z = getD w 4 0 };
-        flags0 = getD w 5 0 % 256;
-        flags1 = getD w 5 0 / 256 % 256;
-        flags2 = getD w 5 0 / 65536 % 256;
-        flags3 = getD w 5 0 / 16777216 % 256;
-        flags4 = f₄ i;
-        flags5 = f₅ i;
+        position = bitsIn w;
+        marks = record {
+          street = toNode w .«street_name»;
+          flags0 = toNode w .flags0;
+          flags1 = toNode w .flags1;
+          flags2 = toNode w .flags2;
+          flags3 = toNode w .flags3;
+          flags4 = f₄ i;
+          flags5 = f₅ i;
+        };
       };
     }
 

@@ -1,11 +1,16 @@
 -- An entry comes back from its words: any words' entry, and any entry whose fields fit.
 -- Assumes nothing.
-use Prim.Native.Nat.{ℕ, _+_, _*_, _/_, _%_, _<_}
+use Prim.Native.Nat.{ℕ, suc, _+_, _*_, _/_, _%_, _<_, _^_}
 use native.Mathlib.Omega.{arith}
 use mathlib.Core.Path.{_≡_, refl}
 use mathlib.Core.List.{List}
 use lib.ListN.{length, getD}
-use lib.Ieee.{binary32}
+use mathlib.Core.Bool.{true, false}
+use lib.Dec.{T}
+use lib.IntN.{ℤ, pos, negsuc}
+use lib.Ieee.{binary32, fits}
+use lib.Ieee.Fits.{round-fits}
+use Rattle.numbers.specs.Steps.{unstep}
 use lib.Ieee.Bits.{ofBits-toBits, ofBits-fits}
 use Rattle.records.specs.declared.junction_ref.NodeJunctionRef.{NodeJunctionRef}
 use Rattle.cells.specs.declared.node.PathNode.{PathNode}
@@ -47,6 +52,11 @@ word : (a : ℕ) → a < 4294967296 → a % 4294967296 ≡ a
 word a h = omega arith
 
 -- ---- nodes
+
+pub unstep-fits : (k : ℕ) (z : ℤ) → T (fits binary32 (unstep k z))
+unfolding unstep
+unstep-fits k (pos n) = round-fits binary32 false n (2 ^ k)
+unstep-fits k (negsuc n) = round-fits binary32 true (suc n) (2 ^ k)
 
 pub node-back : (n : PathNode) → NodeFits n → toNode (nodeWords n) ≡ n
 unfolding toNode nodeWords

@@ -8,7 +8,7 @@ use lib.ListN.{length, take, drop}
 use lib.Seq.{take-at}
 use lib.Ieee.{binary32, toBits}
 use Rattle.numbers.specs.Steps.{unstep}
-use Rattle.records.specs.Bytes.{byteAt, numberAt, le16, le32}
+use Rattle.records.specs.Bytes.{byteAt, numberAt, le16, le32, signed16}
 use Rattle.records.specs.Sections.{located, bytesOf, partBytes, arrayAt}
 use Rattle.records.specs.Root.{rootOf}
 use Rattle.records.specs.Records.{nodeAt, linkAt, junctionAt, refAt}
@@ -20,6 +20,10 @@ use Rattle.cells.specs.Read.{linksFrom, valuesFrom, nodeIn, linksIn, jun
 use Rattle.cells.specs.NodeWords.{areaOf, numberOf}
 use Rattle.cells.specs.Cell.{Link, Node}
 use Rattle.cells.specs.CellOf.{linkOf, refOf, bodyOf, nodeWith, junctionWith, nodesOf, junctionsOf, refsOf, cellOf}
+use Rattle.cells.specs.Words.{toNode}
+use Rattle.cells.specs.CellOf.{bitsOf, marksOf}
+use Rattle.cells.proofs.Forms.EntryFits.{NodeFits}
+use Rattle.cells.proofs.Forms.Entries.{node-back, unstep-fits}
 use Rattle.cells.specs.FileCell.{fileLinkOf, fileRefOf, fileBody, fileNodeOf, fileJunctionOf, fileNodes, fileJunctions, fileRefs, cellFrom, cellBy, fileCell}
 use Rattle.records.specs.declared.root.Root.{Root}
 use Rattle.records.specs.declared.section.Part.{Part}
@@ -49,58 +53,24 @@ map-upTo {B = B} h f (suc n) = map-append h (upTo f n) (f n ∷ []) ∙ ap (λ (
 
 -- ---- the words of each record
 
-digit0 : (a b c d : ℕ) → a < 256 → (a + b * 256 + c * 65536 + d * 16777216) % 256 ≡ a
-digit0 a b c d ha = omega arith
-
-digit1 : (a b c d : ℕ) → a < 256 → b < 256 → (a + b * 256 + c * 65536 + d * 16777216) / 256 % 256 ≡ b
-digit1 a b c d ha hb = omega arith
-
-digit2 : (a b c d : ℕ) → a < 256 → b < 256 → c < 256 → (a + b * 256 + c * 65536 + d * 16777216) / 65536 % 256 ≡ c
-digit2 a b c d ha hb hc = omega arith
-
-digit3 : (a b c d : ℕ) → a < 256 → b < 256 → c < 256 → d < 256 → (a + b * 256 + c * 65536 + d * 16777216) / 16777216 % 256 ≡ d
-digit3 a b c d ha hb hc hd = omega arith
-
 low : (a b : ℕ) → a < 256 → (a + b * 256) % 256 ≡ a
 low a b h = omega arith
 
 high : (a b : ℕ) → a < 256 → b < 256 → (a + b * 256) / 256 % 256 ≡ b
 high a b h k = omega arith
 
-pub record NodeFits (n : raw-node.Node) : Type 0 where
-  pub area : n .«area_id» < 65536
-  pub number : n .«node_id» < 65536
-  pub street : n .«street_name» < 4294967296
-  pub flags0 : n .flags0 < 256
-  pub flags1 : n .flags1 < 256
-  pub flags2 : n .flags2 < 256
-  pub flags3 : n .flags3 < 256
-  pub flags4 : n .flags4 < 256
-  pub count-flags : n .«link_count_flags» < 256
-
-body-words : (n : raw-node.Node) (first : ℕ) → NodeFits n → bodyOf (nodeWords (pathNode n first)) ≡ fileBody n
-unfolding bodyOf nodeWords pathNode
-body-words n first h = λ i. record {
-  street = (let e : n .«street_name» % 4294967296 ≡ n .«street_name» = omega (arith, h .street) in e) i;
-  position = record { x = toBits binary32 (unstep 2 (n .«position_x»)); y = toBits binary32 (unstep 2 (n .«position_y»)); z = toBits binary32 (unstep 5 (n .«position_z»)) };
-  flags0 = digit0 (n .flags0) (n .flags1) (n .flags2) (n .flags3) (h .flags0) i;
-  flags1 = digit1 (n .flags0) (n .flags1) (n .flags2) (n .flags3) (h .flags0) (h .flags1) i;
-  flags2 = digit2 (n .flags0) (n .flags1) (n .flags2) (n .flags3) (h .flags0) (h .flags1) (h .flags2) i;
-  flags3 = digit3 (n .flags0) (n .flags1) (n .flags2) (n .flags3) (h .flags0) (h .flags1) (h .flags2) (h .flags3) i;
-  flags4 = digit0 (n .flags4) (n .«link_count_flags» % 8) (n .«link_count_flags» / 8) 0 (h .flags4) i;
-  flags5 = digit1 (n .flags4) (n .«link_count_flags» % 8) (n .«link_count_flags» / 8) 0 (h .flags4) (omega arith) i;
-}
+-- the node read, by its words
+body-words : (n : raw-node.Node) (first : ℕ) → NodeFits (pathNode n 0) → bodyOf (nodeWords (pathNode n first)) ≡ fileBody n
+unfolding bodyOf nodeWords pathNode toNode
+body-words n first h = λ i. record { position = bitsOf (pathNode n 0 .position); marks = marksOf (node-back (pathNode n 0) h i) }
 
 -- a node, with its links from `first` on
-pub node-words : (ls : List Link) (n : raw-node.Node) (first : ℕ) → NodeFits n
+pub node-words : (ls : List Link) (n : raw-node.Node) (first : ℕ) → NodeFits (pathNode n 0)
     → nodeWith ls (nodeWords (pathNode n first)) ≡ record { area = n .«area_id»; number = n .«node_id»; links = take (n .«link_count_flags» / 8) (drop first ls); body = fileBody n }
-unfolding areaOf numberOf nodeWords pathNode
-node-words ls n first h = λ i. record {
-  area = (let e : (n .«area_id» + n .«node_id» * 65536) % 65536 ≡ n .«area_id» = omega (arith, h .area) in e) i;
-  number = (let e : (n .«area_id» + n .«node_id» * 65536) / 65536 % 65536 ≡ n .«node_id» = omega (arith, h .area, h .number) in e) i;
-  links = take (digit2 (n .flags4) (n .«link_count_flags» % 8) (n .«link_count_flags» / 8) 0 (h .flags4) (omega arith) (omega (arith, h .count-flags)) i) (drop first ls);
-  body = body-words n first h i;
-}
+unfolding areaOf numberOf nodeWords pathNode toNode
+node-words ls n first h =
+    let b = node-back (pathNode n 0) h in
+    λ i. record { area = b i .«area_id»; number = b i .«node_id»; links = take (b i .«link_count») (drop first ls); body = body-words n first h i }
 
 pub le16-below : (s : List ℕ) (at : ℕ) → le16 s at < 65536
 unfolding numberAt
@@ -110,18 +80,24 @@ pub le32-below : (s : List ℕ) (at : ℕ) → le32 s at < 4294967296
 unfolding numberAt
 le32-below s at = omega arith
 
-pub node-fits : (s : List ℕ) (at : ℕ) → NodeFits (nodeAt s at)
-unfolding nodeAt
+-- the node read fits its fields
+pub node-fits : (s : List ℕ) (at : ℕ) → NodeFits (pathNode (nodeAt s at) 0)
+unfolding nodeAt pathNode
 node-fits s at = record {
-  area = le16-below s (at + 16);
-  number = le16-below s (at + 18);
-  street = le32-below s (at + 20);
+  «area_id» = le16-below s (at + 16);
+  «node_id» = le16-below s (at + 18);
+  «street_name» = le32-below s (at + 20);
+  x = unstep-fits 2 (signed16 (le16 s (at + 28)));
+  y = unstep-fits 2 (signed16 (le16 s (at + 30)));
+  z = unstep-fits 5 (signed16 (le16 s (at + 34)));
   flags0 = omega arith;
   flags1 = omega arith;
   flags2 = omega arith;
   flags3 = omega arith;
   flags4 = omega arith;
-  count-flags = omega arith;
+  flags5 = omega arith;
+  «link_id» = omega arith;
+  «link_count» = omega arith;
 }
 
 pub link-words : (s : List ℕ) (at : ℕ) → linkOf (linkWords (pathLink (linkAt s at))) ≡ fileLinkOf (linkAt s at)

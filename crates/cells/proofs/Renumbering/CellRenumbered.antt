@@ -23,6 +23,7 @@ use Rattle.cells.proofs.Renumbering.Parted as any
 use Rattle.cells.specs.Cell.{Link, Node, Junction, Ref, Cell, isPedNode, isVehicleNode, firstOf, oldNodes, relink, reref, renode, numberNodes, ordered, renumberCell, pedFlags}
 use Rattle.cells.specs.Memory.{Memory, short}
 use Rattle.cells.specs.CellOf.{linkOf, refOf, bodyOf, nodeWith, nodesOf, junctionsOf, refsOf, cellOf}
+use Rattle.cells.specs.Words.{toNode}
 
 pub parted-length : (ns : List (List ℕ)) → length (parted isPed ns) ≡ length ns
 parted-length ns = any.parted-length isPed ns
@@ -61,7 +62,7 @@ ref-new o w = refl
 
 -- a node with another number is the node, but for the number
 node-new : (o : Old) (ls : List Link) (k : ℕ) (w : List ℕ) → k < 65536 → nodeWith (map (relink o) ls) (numbered k w) ≡ renode o k (nodeWith ls w)
-unfolding numbered areaOf numberOf bodyOf
+unfolding numbered areaOf numberOf bodyOf toNode
 node-new o ls k w lt = λ i. record {
   area = (let e : (getD w 0 0 % 65536 + k * 65536) % 65536 ≡ getD w 0 0 % 65536 = omega arith in e) i;
   number = (let e : (getD w 0 0 % 65536 + k * 65536) / 65536 % 65536 ≡ k = omega arith in e) i;
@@ -87,15 +88,15 @@ nodes-new o ls k (w ∷ ws) h = λ i. node-new o ls k w (omega arith) i ∷ node
 
 -- the words say as much as the nodes
 ped-same : (ls : List Link) (w : List ℕ) → isPedNode (nodeWith ls w) ≡ isPed w
-unfolding isPed bodyOf
+unfolding isPed bodyOf toNode
 ped-same ls w = refl
 
 parted-new : (ls : List Link) (ws : List (List ℕ)) → parted isPedNode (map (nodeWith ls) ws) ≡ map (nodeWith ls) (parted isPed ws)
-unfolding parted isPed bodyOf
+unfolding parted isPed bodyOf toNode
 parted-new ls ws = rw (map-append, map-keep, map-keep)
 
 old-same : (ls : List Link) (n : ℕ) (nodes : List (List ℕ)) → oldOf n nodes ≡ oldNodes (map (nodeWith ls) (take n nodes))
-unfolding oldOf firstArea isPed bodyOf
+unfolding oldOf firstArea isPed bodyOf toNode
 old-same ls n nodes = λ i. record { area = area (take n nodes) i; numbers = each (λ x. x .number) (take n nodes) i; peds = each isPedNode (take n nodes) i }
   where
     area : (ws : List (List ℕ)) → firstArea ws ≡ firstOf (map (nodeWith ls) ws)
@@ -153,7 +154,7 @@ module _ (m : Memory) (ps : List ℕ) {s : ℕ}
   counted t = rw (map-keep, length-map)
 
   pub renumber-memory : cellOf (renumberMemory m ps) ≡ renumberCell (cellOf m)
-  unfolding cellOf nodesOf refsOf junctionsOf renumberCell recounted vehicles peds isPed bodyOf renumberMemory
+  unfolding cellOf nodesOf refsOf junctionsOf renumberCell recounted vehicles peds isPed bodyOf toNode renumberMemory
   renumber-memory = whole (old-same ls n (m .nodes))
     where
       whole : o ≡ oldNodes (map (nodeWith ls) ns) → cellOf (renumberMemory m ps) ≡ renumberCell (cellOf m)

@@ -21,6 +21,9 @@ use Rattle.cells.specs.Lists.{upTo, every}
 use Rattle.cells.specs.NodeWords.{areaOf, numberOf}
 use Rattle.cells.specs.Words.{toNode, toLink, toJunction, toRef}
 use Rattle.cells.specs.CellOf.{linkOf, refOf, bodyOf, nodeWith, junctionWith}
+use Rattle.cells.specs.Words.{pathNode}
+use Rattle.cells.specs.NodeAccess.{changed}
+use Rattle.cells.specs.CellOf.{marksOf}
 use Rattle.cells.specs.FileCell.{fileLinkOf, fileRefOf, fileBody, fileNodeOf, fileJunctionOf, fileNodes, fileJunctions, fileRefs}
 use Rattle.cells.proofs.WritingBack.KeptCells.{keptStep, keptLink, keptBody, keptNode, isByte, keptJunction, keptRef}
 use Rattle.cells.specs.Entries.{linksIn, valuesIn, fileNode, fileLink, fileJunction}
@@ -157,21 +160,15 @@ module _ (links nodes : List (List ℕ)) where
 -- ---- nodes
 
 body-back : (start count : ℕ) (w : List ℕ) → keptBody (bodyOf w) ≡ true → fileBody (fileNode start count (toNode w)) ≡ bodyOf w
-unfolding fileNode toNode bodyOf
+unfolding fileNode toNode bodyOf pathNode changed
 body-back start count w t =
     let t₁ = and-right (keptStep 2 (getD w 2 0)) _ t in
     let t₂ = and-right (keptStep 2 (getD w 3 0)) _ t₁ in
     let f = getD w 6 0 / 256 % 256 in
     let e : f % 8 ≡ f = eqb-true (f % 8) f (and-right (keptStep 5 (getD w 4 0)) _ t₂) in
     λ i. record {
-      street = getD w 1 0 % 4294967296;
       position = record { x = step-back 2 (getD w 2 0) (and-left _ _ t) i; y = step-back 2 (getD w 3 0) (and-left _ _ t₁) i; z = step-back 5 (getD w 4 0) (and-left _ _ t₂) i };
-      flags0 = getD w 5 0 % 256;
-      flags1 = getD w 5 0 / 256 % 256;
-      flags2 = getD w 5 0 / 65536 % 256;
-      flags3 = getD w 5 0 / 16777216 % 256;
-      flags4 = getD w 6 0 % 256;
-      flags5 = (low count f ∙ e) i;
+      marks = marksOf (changed (toNode w) (toNode w .position) (toNode w .flags0) (toNode w .flags1) (toNode w .flags2) (toNode w .flags3) (toNode w .flags4) ((low count f ∙ e) i) 0 0);
     }
   where
     low : (c f : ℕ) → (c * 8 + f % 8) % 8 ≡ f % 8

@@ -23,6 +23,7 @@ use Rattle.cells.specs.Lists.{upTo}
 use Rattle.cells.specs.Order.{keep, lastWith, newPlace, newNumber, placeOr, renamed, belongs, Old, parted}
 use Rattle.cells.specs.Cell.{Link, Node, Ref, Cell, isPedNode, isVehicleNode, oldNodes, numbers, pedFlags, relink, reref, renode, ordered, renumberCell}
 use Rattle.cells.specs.Lists.{every}
+use Rattle.cells.specs.Words.{pathNode}
 use Rattle.cells.specs.FileCell.{fileLinkOf, fileRefOf, fileNodeOf, fileJunctionOf, fileNodes, fileJunctions, fileRefs, cellFrom, cellBy, fileCell}
 use Rattle.cells.proofs.WritingBack.KeptCells.{keptStep, keptLink, keptBody, keptNode, isByte, isWord, keptJunction, keptRef, keptRoot, kept}
 use Rattle.cells.proofs.Sequences.Tests.{and-left, and-right, by-test, every-keep, every-append, every-map, keep-lengths}
@@ -30,6 +31,7 @@ use Rattle.cells.proofs.Renumbering.Named.{last-inside}
 use Rattle.cells.proofs.Renumbering.NewCell.{every-number, new-at}
 use Rattle.cells.proofs.Reading.ReadLaws.{length-upTo}
 use Rattle.cells.proofs.Reading.FileRead.{le16-below, le32-below}
+use Rattle.cells.proofs.Forms.Entries.{unstep-fits}
 
 pub both : (a b : Bool) → a ≡ true → b ≡ true → a && b ≡ true
 both a b e f = cc
@@ -40,11 +42,6 @@ every-upTo t f e zero = refl
 every-upTo t f e (suc n) = every-append t (upTo f n) (f n ∷ []) (every-upTo t f e n) (both (t (f n)) true (e n) refl)
 
 -- ---- what was read
-
-unstep-fits : (k : ℕ) (z : ℤ) → T (fits binary32 (unstep k z))
-unfolding unstep
-unstep-fits k (pos n) = round-fits binary32 false n (2 ^ k)
-unstep-fits k (negsuc n) = round-fits binary32 true (suc n) (2 ^ k)
 
 -- steps within 16 bits
 step-kept : (k n : ℕ) → k ≤ 5 → n < 65536 → keptStep k (toBits binary32 (unstep k (signed16 n))) ≡ true
@@ -74,7 +71,7 @@ two-five : 2 ≤ 5
 two-five = omega arith
 
 node-kept : (l s : List ℕ) (at : ℕ) → keptNode (fileNodeOf l (nodeAt s at)) ≡ true
-unfolding nodeAt
+unfolding nodeAt pathNode
 node-kept l s at =
     cc (
       step-kept 2 (le16 s (at + 28)) two-five (le16-below s (at + 28)),

@@ -18,7 +18,7 @@ abbrev pub keptLink : Link → Bool
 keptLink l = ltb (l .area) 65536 && ltb (l .number) 65536
 
 abbrev pub keptBody : NodeBody → Bool
-keptBody b = keptStep 2 (b .position .x) && (keptStep 2 (b .position .y) && (keptStep 5 (b .position .z) && eqb (b .flags5 % 8) (b .flags5)))
+keptBody b = keptStep 2 (b .position .x) && (keptStep 2 (b .position .y) && (keptStep 5 (b .position .z) && eqb (b .marks .flags5 % 8) (b .marks .flags5)))
 
 abbrev pub keptNode : Node → Bool
 keptNode n = keptBody (n .body) && every keptLink (n .links)
