@@ -1,8 +1,9 @@
 -- Section 4, other calls: adding nodes, refs and junctions. Causes of refusal, in their order: 14 the cell is at a limit, 12, 7 a list has no room.
 -- Lists that a call is not lent stay as they are.
+use Rattle.cells.specs.Refusals.{when, decided, unless as otherwise}
 use Prim.Native.Nat.{ℕ, _+_, _*_}
 use mathlib.Core.Bool.{not}
-use mathlib.Core.List.{List}
+use mathlib.Core.List.{List, [], _∷_}
 use lib.Dec.{eqb, ltb, leb}
 use lib.ListN.{length, set}
 use Rattle.numbers.specs.Positions.{quantised, dequantised}
@@ -11,7 +12,6 @@ use Rattle.numbers.specs.declared.answer.Answer.{Answer}
 use Rattle.numbers.specs.declared.answer.Answer.the-variants.{Done}
 use Rattle.records.specs.Put.{put}
 use Rattle.records.specs.declared.junction_ref.NodeJunctionRef.{NodeJunctionRef}
-use Rattle.cells.specs.Checks.{refuseIf}
 use Rattle.cells.specs.Words.{nodeWords, junctionWords, refWords}
 use Rattle.cells.specs.NodeAccess.{newNode}
 use Rattle.cells.specs.Memory.{Memory, memory, Left, unless}
@@ -50,7 +50,7 @@ done m = record { answer = Done; memory = m }
 
 -- one more entry behind n of a list of this length, whose own place is `list`
 unfoldable pub roomFor : ℕ → ℕ → ℕ → ℕ → Answer
-roomFor limit n len list = refuseIf (leb limit n) 14 0 (refuseIf (leb len n) 7 list Done)
+roomFor limit n len list = decided (when (leb limit n) 14 0 ∷ when (leb len n) 7 list ∷ [])
 
 -- its number is its place
 unfoldable pub addNode : Memory → ℕ → Vec3 → Left
@@ -69,12 +69,13 @@ addRef m r =
 -- one more junction of this size behind n, with v values behind h
 unfoldable pub roomForJunction : ℕ → ℕ → ℕ → ℕ → ℕ → ℕ → Answer
 roomForJunction n h size v junctions heights =
-    refuseIf (leb 4096 n) 14 0
-    (refuseIf (ltb 4294967295 (h + v)) 14 0
-    (refuseIf (not (eqb v size)) 12 0
-    (refuseIf (leb junctions n) 7 2
-    (refuseIf (ltb heights (h + v)) 7 3
-    Done))))
+    decided
+    (when (leb 4096 n) 14 0
+    ∷ when (ltb 4294967295 (h + v)) 14 0
+    ∷ when (not (eqb v size)) 12 0
+    ∷ when (leb junctions n) 7 2
+    ∷ when (ltb heights (h + v)) 7 3
+    ∷ [])
 
 -- its values stand behind all others
 unfoldable pub addJunction : Memory → PathJunction → List ℕ → Left

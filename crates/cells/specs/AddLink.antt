@@ -1,5 +1,6 @@
 -- Section 4, other calls: adding a link. It comes last of its node's links; the entries behind it move up by one, and so do the ranges there.
 -- Causes of refusal, in their order: 13, 14, 7.
+use Rattle.cells.specs.Refusals.{when, decided, unless as otherwise}
 use Prim.Native.Nat.{ℕ, _+_, _-_, _*_, _%_, _≤_, _<_}
 use mathlib.Core.Bool.{cond}
 use mathlib.Core.List.{List, [], _∷_, _++_, map}
@@ -7,7 +8,6 @@ use lib.Dec.{eqb, ltb, leb}
 use lib.ListN.{length, getD, set, take, drop}
 use Rattle.numbers.specs.declared.answer.Answer.{Answer}
 use Rattle.numbers.specs.declared.answer.Answer.the-variants.{Done}
-use Rattle.cells.specs.Checks.{refuseIf}
 use Rattle.cells.specs.NodeWords.{linkStart, linkCount}
 use Rattle.cells.specs.Words.{linkWords}
 use Rattle.cells.specs.Memory.{Memory, memory, Left, unless}
@@ -46,12 +46,13 @@ nodesAfter n l p nodes =
 -- for n nodes, l links, a place p whose node has e links; the count of links is a number of 32 bits
 unfoldable pub roomForLink : ℕ → ℕ → ℕ → ℕ → ℕ → ℕ → Answer
 roomForLink n l p e nodes links =
-    refuseIf (leb n p) 13 0
-    (refuseIf (leb 4294967295 l) 14 0
-    (refuseIf (leb 255 e) 14 0
-    (refuseIf (ltb nodes n) 7 0
-    (refuseIf (leb links l) 7 1
-    Done))))
+    decided
+    (when (leb n p) 13 0
+    ∷ when (leb 4294967295 l) 14 0
+    ∷ when (leb 255 e) 14 0
+    ∷ when (ltb nodes n) 7 0
+    ∷ when (leb links l) 7 1
+    ∷ [])
 
 unfoldable pub addLink : Memory → ℕ → PathLink → Left
 addLink m p x =

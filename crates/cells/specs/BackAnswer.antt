@@ -1,6 +1,7 @@
 -- What write-then-read answers, found before anything is stored: writing's checks, then those of reading back. No public function's contract cites this.
+use Rattle.cells.specs.Refusals.{when, decided, unless as otherwise}
 use Prim.Native.Nat.{ℕ}
-use mathlib.Core.Bool.{Bool, true, false}
+use mathlib.Core.Bool.{Bool, cond}
 use mathlib.Core.List.{List}
 use lib.Dec.{ltb}
 use lib.ListN.{length}
@@ -21,12 +22,10 @@ ifCounted (counted.Refused cause place) next = Refused cause place
 ifCounted (counted.Held k) next = next
 
 abbrev pub notIf : Bool → ℕ → ℕ → Written → Written
-notIf true cause place next = Refused cause place
-notIf false cause place next = next
+notIf b cause place next = cond b (Refused cause place) next
 
 abbrev pub wroteIf : Answer → ℕ → Written
-wroteIf (answer.Refused cause place) n = Refused cause place
-wroteIf answer.Done n = Wrote n
+wroteIf a n = otherwise a Refused (Wrote n)
 
 -- of the cell h, whose lists are cut from lists of so many entries, into a section of so many bytes
 unfoldable pub backAnswer : Memory → Counts → ℕ → Written

@@ -1,4 +1,5 @@
 -- When reading back what is written would be refused, by counts alone: what write-then-read has to test before it writes. No public function's contract cites this.
+use Rattle.cells.specs.Refusals.{when, decided, unless as otherwise}
 use Prim.Native.Nat.{ℕ, _+_, _*_, _/_, _%_}
 use mathlib.Core.Bool.{Bool}
 use mathlib.Core.List.{List, []}
@@ -16,8 +17,7 @@ use Rattle.numbers.specs.declared.answer.Answer.{Answer}
 use Rattle.numbers.specs.declared.answer.Answer.the-variants.{Done, Refused}
 
 abbrev pub then : Answer → Answer → Answer
-then Done next = next
-then (Refused cause place) next = Refused cause place
+then a next = otherwise a Refused next
 
 -- width × height of the junction at place i
 abbrev pub areaAt : List (List ℕ) → ℕ → ℕ

@@ -1,7 +1,8 @@
 -- Reading's checks, in their order: 2, 1, 3, 6, 4, 5. Lists are bytes: of the sections s and g, and of the five arrays n, l, j, h, r.
+use Rattle.cells.specs.Refusals.{when, decided, unless as otherwise}
 use Prim.Native.Nat.{ℕ, zero, suc, _+_, _*_, _/_}
 use mathlib.Core.Bool.{Bool, true, false, cond}
-use mathlib.Core.List.{List}
+use mathlib.Core.List.{List, [], _∷_}
 use lib.Dec.{ltb, eqb}
 use lib.ListN.{length}
 use Rattle.records.specs.declared.section.Part.{Part}
@@ -29,11 +30,10 @@ rootRead s = rootOf s
 -- ---- 2 and 1: the sections' sizes
 
 abbrev pub refuseIf : Bool → ℕ → ℕ → Answer → Answer
-refuseIf true cause place next = answer.Refused cause place
-refuseIf false cause place next = next
+refuseIf b cause place next = cond b (answer.Refused cause place) next
 
 unfoldable pub sizesCheck : ℕ → ℕ → Answer
-sizesCheck s g = refuseIf (ltb 16777216 s) 2 0 (refuseIf (ltb 16777216 g) 2 1 (refuseIf (ltb s 112) 1 0 answer.Done))
+sizesCheck s g = decided (when (ltb 16777216 s) 2 0 ∷ when (ltb 16777216 g) 2 1 ∷ when (ltb s 112) 1 0 ∷ [])
 
 -- ---- 3: where the arrays lie, in sections of s and g bytes
 
@@ -74,16 +74,14 @@ badJunction j bytes i = ltb bytes (junctionAt j (i * 12) .«heightmap_ptr» + va
 
 -- a sum, if nothing is bad
 abbrev pub totalOf : Answer → ℕ → Total
-totalOf (answer.Refused cause place) n = total.Refused cause place
-totalOf answer.Done n = total.Sum n
+totalOf a n = otherwise a total.Refused (total.Sum n)
 
 abbrev pub handedOn : Total → Counted
 handedOn (total.Refused cause place) = counted.Refused cause place
 handedOn (total.Sum n) = counted.Refused 0 0
 
 abbrev pub countedOf : Answer → Counted
-countedOf (answer.Refused cause place) = counted.Refused cause place
-countedOf answer.Done = counted.Refused 0 0
+countedOf a = otherwise a counted.Refused (counted.Refused 0 0)
 
 abbrev pub foundAnswer : Found → Answer
 foundAnswer (found.Refused cause place) = answer.Refused cause place
@@ -94,12 +92,10 @@ countedAnswer (counted.Refused cause place) = answer.Refused cause place
 countedAnswer (counted.Held k) = answer.Done
 
 abbrev pub refuseMore : Bool → ℕ → ℕ → Counted → Counted
-refuseMore true cause place next = counted.Refused cause place
-refuseMore false cause place next = next
+refuseMore b cause place next = cond b (counted.Refused cause place) next
 
 abbrev pub after : Answer → Counted → Counted
-after (answer.Refused cause place) next = counted.Refused cause place
-after answer.Done next = next
+after a next = otherwise a counted.Refused next
 
 -- 4: each node's range, by the length of the list of links; 5: each junction's, by the length of the heightmap bytes
 abbrev pub nodesScan : List ℕ → List ℕ → Answer

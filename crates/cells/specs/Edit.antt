@@ -1,7 +1,8 @@
 -- Section 4, other calls: entries taken out and stored by place. Causes of refusal, in their order: 13 no such place, 12, 7 a list shorter than its count.
+use Rattle.cells.specs.Refusals.{when, decided, unless as otherwise}
 use Prim.Native.Nat.{ℕ, _+_, _-_, _*_, min}
 use mathlib.Core.Bool.{Bool, true, false, not, cond}
-use mathlib.Core.List.{List, []}
+use mathlib.Core.List.{List, [], _∷_}
 use lib.Dec.{eqb, ltb, leb}
 use lib.ListN.{length, getD, set}
 use Rattle.cells.specs.NodeWords.{linkStart, linkCount, valueStart, valueCount}
@@ -33,12 +34,11 @@ use Rattle.cells.specs.declared.get.GotHeight.the-variants as got-height
 -- ---- the entry that a place names
 
 abbrev pub entryIf : Bool → ℕ → ℕ → Entry → Entry
-entryIf true cause place next = Refused cause place
-entryIf false cause place next = next
+entryIf b cause place next = cond b (Refused cause place) next
 
 -- the entry at the place p of n, in a list of this length, whose own place is `list`
 unfoldable pub entryAt : ℕ → ℕ → ℕ → ℕ → Entry
-entryAt n len list p = entryIf (leb n p) 13 0 (entryIf (ltb len n) 7 list (At p))
+entryAt n len list p = otherwise (decided (when (leb n p) 13 0 ∷ when (ltb len n) 7 list ∷ [])) Refused (At p)
 
 -- Section 4: a node's range of links, a junction's range of values; none at a place that the list has not
 abbrev pub linkRange : List (List ℕ) → ℕ → Range
@@ -54,11 +54,14 @@ heldIn r l = min (r .count) (l - r .start)
 -- entry k of the range r, which belongs to the place p of n and lies among l entries of a pool; both lists' lengths, and their own places a and b
 unfoldable pub rangeEntry : ℕ → ℕ → ℕ → ℕ → ℕ → ℕ → ℕ → Range → ℕ → Entry
 rangeEntry n len a l pool b p r k =
-    entryIf (leb n p) 13 0
-    (entryIf (leb (heldIn r l) k) 13 0
-    (entryIf (ltb len n) 7 a
-    (entryIf (ltb pool l) 7 b
-    (At (r .start + k)))))
+    otherwise
+    (decided
+    (when (leb n p) 13 0
+    ∷ when (leb (heldIn r l) k) 13 0
+    ∷ when (ltb len n) 7 a
+    ∷ when (ltb pool l) 7 b
+    ∷ []))
+    Refused (At (r .start + k))
 
 unfoldable pub nodeEntry : Ynd → List (List ℕ) → ℕ → Entry
 nodeEntry y nodes p = entryAt (y .«node_count») (length nodes) 0 p
@@ -142,7 +145,7 @@ startAt j start = record {
 
 -- 12: the values stay as many
 unfoldable pub sizedEntry : ℕ → ℕ → ℕ → ℕ → ℕ → Entry
-sizedEntry n len p values held = entryIf (leb n p) 13 0 (entryIf (not (eqb values held)) 12 0 (entryIf (ltb len n) 7 2 (At p)))
+sizedEntry n len p values held = otherwise (decided (when (leb n p) 13 0 ∷ when (not (eqb values held)) 12 0 ∷ when (ltb len n) 7 2 ∷ [])) Refused (At p)
 
 unfoldable pub putJunction : Ynd → List (List ℕ) → ℕ → PathJunction → Stored (List ℕ)
 putJunction y junctions p j =

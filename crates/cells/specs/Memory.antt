@@ -1,4 +1,5 @@
 -- A cell with the memory lent to it, and what a call leaves of both.
+use Rattle.cells.specs.Refusals.{when, decided, unless as otherwise}
 use Prim.Native.Nat.{ℕ}
 use mathlib.Core.Bool.{cond}
 use mathlib.Core.List.{List}
@@ -35,8 +36,7 @@ abbrev pub refuse : ℕ → ℕ → Memory → Left
 refuse cause place m = record { answer = Refused cause place; memory = m }
 
 abbrev pub unless : Answer → Memory → Left → Left
-unless (Refused cause place) m next = refuse cause place m
-unless Done m next = next
+unless a m next = otherwise a (λ cause place. refuse cause place m) next
 
 -- the first list that is shorter than its count, 5 if none is
 unfoldable pub shortOf : Ynd → ℕ → ℕ → ℕ → ℕ → ℕ → ℕ

@@ -1,6 +1,7 @@
 -- What reading leaves.
+use Rattle.cells.specs.Refusals.{when, decided, unless as otherwise}
 use Prim.Native.Nat.{ℕ, _+_, _*_}
-use mathlib.Core.List.{List, _++_}
+use mathlib.Core.List.{List, [], _∷_, _++_}
 use lib.Dec.{ltb}
 use lib.ListN.{length, drop}
 use Rattle.records.specs.Bytes.{byteAt}
@@ -10,7 +11,7 @@ use Rattle.records.specs.declared.root.Root.{Root}
 use Rattle.records.specs.declared.section.Part.{Part}
 use Rattle.cells.specs.Lists.{upTo, joinTo, sumTo}
 use Rattle.cells.specs.Words.{pathNode, pathLink, pathJunction, nodeWords, linkWords, junctionWords, refWords}
-use Rattle.cells.specs.Checks.{rootRead, refuseIf, sizesCheck, arraysFound, arraysCheck, linksAt, valuesAt}
+use Rattle.cells.specs.Checks.{rootRead, sizesCheck, arraysFound, arraysCheck, linksAt, valuesAt}
 use Rattle.cells.specs.Memory.{Memory, memory, Left, refuse, unless}
 use Rattle.cells.specs.declared.ynd.Ynd.{Ynd}
 use Rattle.cells.specs.declared.count.Counts.{Counts}
@@ -48,12 +49,13 @@ refIn r i = refWords (refAt r (i * 8))
 -- ---- 7: the memory lent holds what is read
 unfoldable pub roomCheck : Counts → ℕ → ℕ → ℕ → ℕ → ℕ → Answer
 roomCheck k nodes links junctions heights refs =
-    refuseIf (ltb nodes (k .nodes)) 7 0
-    (refuseIf (ltb links (k .links)) 7 1
-    (refuseIf (ltb junctions (k .junctions)) 7 2
-    (refuseIf (ltb heights (k .heights)) 7 3
-    (refuseIf (ltb refs (k .refs)) 7 4
-    Done))))
+    decided
+    (when (ltb nodes (k .nodes)) 7 0
+    ∷ when (ltb links (k .links)) 7 1
+    ∷ when (ltb junctions (k .junctions)) 7 2
+    ∷ when (ltb heights (k .heights)) 7 3
+    ∷ when (ltb refs (k .refs)) 7 4
+    ∷ [])
 
 unfoldable pub cellRead : Root → Counts → Ynd
 cellRead root k = record {

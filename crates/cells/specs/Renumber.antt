@@ -1,8 +1,9 @@
 -- Section 4, renumbering: what the call answers, and what it leaves of the cell and of the lists lent to it.
 -- The scratch is not part of the state: its content afterwards is free. Junctions and heightmaps are lent to be counted and stay.
+use Rattle.cells.specs.Refusals.{when, decided, unless as otherwise}
 use Prim.Native.Nat.{ℕ}
 use mathlib.Core.Bool.{cond}
-use mathlib.Core.List.{List, _++_, map}
+use mathlib.Core.List.{List, [], _∷_, _++_, map}
 use lib.Dec.{ltb}
 use lib.ListN.{length, take, drop}
 use Rattle.cells.specs.Order.{keep, newPlaces}
@@ -69,11 +70,12 @@ recounted y v p = record {
 -- too many nodes (14); a list shorter than its count (7, its place); scratch and new places too short (7, places 6 and 7)
 unfoldable pub answerOf : ℕ → ℕ → ℕ → ℕ → Answer
 answerOf n lack scratch places =
-    cond (ltb 65536 n) (Refused 14 0)
-    (cond (ltb lack 5) (Refused 7 lack)
-    (cond (ltb scratch 65536) (Refused 7 6)
-    (cond (ltb places n) (Refused 7 7)
-    Done)))
+    decided
+    (when (ltb 65536 n) 14 0
+    ∷ when (ltb lack 5) 7 lack
+    ∷ when (ltb scratch 65536) 7 6
+    ∷ when (ltb places n) 7 7
+    ∷ [])
 
 -- the lists of the cell m, with a list of new places, renumbered
 unfoldable pub newLists : Memory → List ℕ → Lists

@@ -1,6 +1,6 @@
 -- The call: refusals in their order, then the section.
 use Prim.Native.Nat.{ℕ}
-use mathlib.Core.Bool.{Bool, true, false}
+use mathlib.Core.Bool.{Bool, cond}
 use mathlib.Core.List.{List, _++_}
 use lib.Dec.{ltb}
 use lib.ListN.{length, take, drop}
@@ -26,8 +26,7 @@ abbrev pub refuse : ℕ → ℕ → List ℕ → WriteLeft
 refuse cause place s = left (written.Refused cause place) s
 
 abbrev pub orElse : Bool → WriteLeft → WriteLeft → WriteLeft
-orElse true refusal next = refusal
-orElse false refusal next = next
+orElse b refusal next = cond b refusal next
 
 abbrev pub after : Total → List ℕ → WriteLeft → WriteLeft
 after (Refused cause place) s next = refuse cause place s

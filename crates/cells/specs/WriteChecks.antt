@@ -1,6 +1,6 @@
 -- Causes of refusal, the cell being written: 8 and 9 node by node, 8 first, then 10 junction by junction.
 use Prim.Native.Nat.{ℕ, _+_, _-_, min}
-use mathlib.Core.Bool.{Bool, true, false}
+use mathlib.Core.Bool.{Bool, true, false, cond}
 use mathlib.Core.List.{List, [], _∷_}
 use lib.Dec.{ltb}
 use Rattle.cells.specs.NodeWords.{linkStart, linkCount, valueStart, valueCount}
@@ -8,8 +8,7 @@ use Rattle.cells.specs.declared.count.Total.{Total}
 use Rattle.cells.specs.declared.count.Total.the-variants.{Sum, Refused}
 
 abbrev pub unless : Bool → Total → Total → Total
-unless true refusal next = refusal
-unless false refusal next = next
+unless b refusal next = cond b refusal next
 
 abbrev pub accepted : Total → Bool
 accepted (Sum n) = true
