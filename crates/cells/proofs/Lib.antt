@@ -1,4 +1,3 @@
-pub mod Refusing
 pub mod Sequences
 pub mod Forms
 pub mod Reading

@@ -1,11 +1,11 @@
 -- Section 4, other calls: adding nodes, refs and junctions. Causes of refusal, in their order: 14 the cell is at a limit, 12, 7 a list has no room.
 -- Lists that a call is not lent stay as they are.
-use Rattle.cells.specs.Refusals.{when, decided, unless as otherwise}
 use Prim.Native.Nat.{ℕ, _+_, _*_}
 use mathlib.Core.Bool.{not}
 use mathlib.Core.List.{List, [], _∷_}
 use lib.Dec.{eqb, ltb, leb}
 use lib.ListN.{length, set}
+use Rattle.numbers.specs.Refusals.{when, decided}
 use Rattle.numbers.specs.Positions.{quantised, dequantised}
 use Rattle.numbers.specs.declared.math.Vec3.{Vec3}
 use Rattle.numbers.specs.declared.answer.Answer.{Answer}

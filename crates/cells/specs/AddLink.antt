@@ -1,11 +1,11 @@
 -- Section 4, other calls: adding a link. It comes last of its node's links; the entries behind it move up by one, and so do the ranges there.
 -- Causes of refusal, in their order: 13, 14, 7.
-use Rattle.cells.specs.Refusals.{when, decided, unless as otherwise}
 use Prim.Native.Nat.{ℕ, _+_, _-_, _*_, _%_, _≤_, _<_}
 use mathlib.Core.Bool.{cond}
 use mathlib.Core.List.{List, [], _∷_, _++_, map}
 use lib.Dec.{eqb, ltb, leb}
 use lib.ListN.{length, getD, set, take, drop}
+use Rattle.numbers.specs.Refusals.{when, decided}
 use Rattle.numbers.specs.declared.answer.Answer.{Answer}
 use Rattle.numbers.specs.declared.answer.Answer.the-variants.{Done}
 use Rattle.cells.specs.NodeWords.{linkStart, linkCount}

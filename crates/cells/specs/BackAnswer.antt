@@ -1,10 +1,10 @@
 -- What write-then-read answers, found before anything is stored: writing's checks, then those of reading back. No public function's contract cites this.
-use Rattle.cells.specs.Refusals.{when, decided, unless as otherwise}
 use Prim.Native.Nat.{ℕ}
 use mathlib.Core.Bool.{Bool, cond}
 use mathlib.Core.List.{List}
 use lib.Dec.{ltb}
 use lib.ListN.{length}
+use Rattle.numbers.specs.Refusals.{unless as otherwise}
 use Rattle.cells.specs.Memory.{Memory, shortOf}
 use Rattle.cells.specs.Blocks.{written}
 use Rattle.cells.specs.WriteCounts.{writeCounts}

@@ -1,10 +1,10 @@
 -- When reading back what is written would be refused, by counts alone: what write-then-read has to test before it writes. No public function's contract cites this.
-use Rattle.cells.specs.Refusals.{when, decided, unless as otherwise}
 use Prim.Native.Nat.{ℕ, _+_, _*_, _/_, _%_}
 use mathlib.Core.Bool.{Bool}
 use mathlib.Core.List.{List, []}
 use lib.Dec.{ltb}
 use lib.ListN.{length, getD, take}
+use Rattle.numbers.specs.Refusals.{unless as otherwise}
 use Rattle.records.specs.Put.{joined}
 use Rattle.cells.specs.Lists.{sumTo}
 use Rattle.cells.specs.Checks.{refuseIf, scan}

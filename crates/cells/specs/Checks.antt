@@ -1,10 +1,10 @@
 -- Reading's checks, in their order: 2, 1, 3, 6, 4, 5. Lists are bytes: of the sections s and g, and of the five arrays n, l, j, h, r.
-use Rattle.cells.specs.Refusals.{when, decided, unless as otherwise}
 use Prim.Native.Nat.{ℕ, zero, suc, _+_, _*_, _/_}
 use mathlib.Core.Bool.{Bool, true, false, cond}
 use mathlib.Core.List.{List, [], _∷_}
 use lib.Dec.{ltb, eqb}
 use lib.ListN.{length}
+use Rattle.numbers.specs.Refusals.{when, decided, unless as otherwise}
 use Rattle.records.specs.declared.section.Part.{Part}
 use Rattle.records.specs.declared.section.Located.{Located}
 use Rattle.records.specs.declared.section.Located.the-variants.{At, Bad}

@@ -1,10 +1,10 @@
 -- Section 4, other calls: entries taken out and stored by place. Causes of refusal, in their order: 13 no such place, 12, 7 a list shorter than its count.
-use Rattle.cells.specs.Refusals.{when, decided, unless as otherwise}
 use Prim.Native.Nat.{ℕ, _+_, _-_, _*_, min}
 use mathlib.Core.Bool.{Bool, true, false, not, cond}
 use mathlib.Core.List.{List, [], _∷_}
 use lib.Dec.{eqb, ltb, leb}
 use lib.ListN.{length, getD, set}
+use Rattle.numbers.specs.Refusals.{when, decided, unless as otherwise}
 use Rattle.cells.specs.NodeWords.{linkStart, linkCount, valueStart, valueCount}
 use Rattle.cells.specs.Words.{toNode, nodeWords, toLink, linkWords, toJunction, junctionWords, toRef, refWords}
 use Rattle.cells.specs.NodeAccess.{withPosition, withRange}

@@ -1,4 +1,3 @@
-pub mod Refusals
 pub mod Lists
 pub mod Words
 pub mod Access

@@ -1,10 +1,10 @@
 -- A cell with the memory lent to it, and what a call leaves of both.
-use Rattle.cells.specs.Refusals.{when, decided, unless as otherwise}
 use Prim.Native.Nat.{ℕ}
 use mathlib.Core.Bool.{cond}
 use mathlib.Core.List.{List}
 use lib.Dec.{ltb}
 use lib.ListN.{length}
+use Rattle.numbers.specs.Refusals.{unless as otherwise}
 use Rattle.cells.specs.declared.ynd.Ynd.{Ynd}
 use Rattle.numbers.specs.declared.answer.Answer.{Answer}
 use Rattle.numbers.specs.declared.answer.Answer.the-variants.{Done, Refused}

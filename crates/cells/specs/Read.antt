@@ -1,9 +1,9 @@
 -- What reading leaves.
-use Rattle.cells.specs.Refusals.{when, decided, unless as otherwise}
 use Prim.Native.Nat.{ℕ, _+_, _*_}
 use mathlib.Core.List.{List, [], _∷_, _++_}
 use lib.Dec.{ltb}
 use lib.ListN.{length, drop}
+use Rattle.numbers.specs.Refusals.{when, decided}
 use Rattle.records.specs.Bytes.{byteAt}
 use Rattle.records.specs.Sections.{bytesOf}
 use Rattle.records.specs.Records.{nodeAt, linkAt, junctionAt, refAt}

@@ -1,11 +1,11 @@
 -- Section 4, renumbering: what the call answers, and what it leaves of the cell and of the lists lent to it.
 -- The scratch is not part of the state: its content afterwards is free. Junctions and heightmaps are lent to be counted and stay.
-use Rattle.cells.specs.Refusals.{when, decided, unless as otherwise}
 use Prim.Native.Nat.{ℕ}
 use mathlib.Core.Bool.{cond}
 use mathlib.Core.List.{List, [], _∷_, _++_, map}
 use lib.Dec.{ltb}
 use lib.ListN.{length, take, drop}
+use Rattle.numbers.specs.Refusals.{when, decided}
 use Rattle.cells.specs.Order.{keep, newPlaces}
 use Rattle.cells.specs.NodeWords.{isPed, isVehicle, reordered, oldOf, relinked}
 use Rattle.cells.specs.Memory.{Memory, memory, short}

@@ -1,3 +1,4 @@
+pub mod Refusing
 pub mod Patterns
 pub mod Units
 pub mod Every

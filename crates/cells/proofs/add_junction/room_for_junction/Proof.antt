@@ -1,5 +1,5 @@
 use Rattle.cells.specs.Add.{roomForJunction}
-use Rattle.cells.proofs.Refusing.{tests}
+use Rattle.numbers.proofs.Refusing.{tests}
 use Rattle.cells.proofs.add_junction.room_for_junction.Statement.{statement}
 use Rattle.cells.proofs.add_junction.room_for_junction.Tie as tie
 

@@ -1,5 +1,5 @@
 use Rattle.cells.specs.AddLink.{roomForLink}
-use Rattle.cells.proofs.Refusing.{tests}
+use Rattle.numbers.proofs.Refusing.{tests}
 use Rattle.cells.proofs.add_link.room_for_link.Statement.{statement}
 use Rattle.cells.proofs.add_link.room_for_link.Tie as tie
 

@@ -1,5 +1,5 @@
 use Rattle.cells.specs.Checks.{sizesCheck}
-use Rattle.cells.proofs.Refusing.{tests}
+use Rattle.numbers.proofs.Refusing.{tests}
 use Rattle.cells.proofs.checks.check_sizes.Statement.{statement}
 use Rattle.cells.proofs.checks.check_sizes.Tie as tie
 

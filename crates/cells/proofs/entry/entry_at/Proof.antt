@@ -1,5 +1,5 @@
 use Rattle.cells.specs.Edit.{entryAt}
-use Rattle.cells.proofs.Refusing.{tests}
+use Rattle.numbers.proofs.Refusing.{tests}
 use Rattle.cells.proofs.entry.entry_at.Statement.{statement}
 use Rattle.cells.proofs.entry.entry_at.Tie as tie
 

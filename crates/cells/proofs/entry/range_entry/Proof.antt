@@ -1,6 +1,6 @@
 use native.Mathlib.Omega.{arith}
 use Rattle.cells.specs.Edit.{rangeEntry, heldIn}
-use Rattle.cells.proofs.Refusing.{tests, tested}
+use Rattle.numbers.proofs.Refusing.{tests, tested}
 use Rattle.cells.proofs.Editing.EditLaws.{held-bound}
 use Rattle.cells.proofs.entry.range_entry.Statement.{statement}
 use Rattle.cells.proofs.entry.range_entry.Tie as tie

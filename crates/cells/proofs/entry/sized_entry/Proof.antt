@@ -1,5 +1,5 @@
 use Rattle.cells.specs.Edit.{sizedEntry}
-use Rattle.cells.proofs.Refusing.{tests}
+use Rattle.numbers.proofs.Refusing.{tests}
 use Rattle.cells.proofs.entry.sized_entry.Statement.{statement}
 use Rattle.cells.proofs.entry.sized_entry.Tie as tie
 

@@ -1,5 +1,5 @@
 use Rattle.cells.specs.Read.{roomCheck}
-use Rattle.cells.proofs.Refusing.{tests}
+use Rattle.numbers.proofs.Refusing.{tests}
 use Rattle.cells.proofs.read.check_room.Statement.{statement}
 use Rattle.cells.proofs.read.check_room.Tie as tie
 

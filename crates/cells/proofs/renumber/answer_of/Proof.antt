@@ -1,5 +1,5 @@
 use Rattle.cells.specs.Renumber.{answerOf}
-use Rattle.cells.proofs.Refusing.{tests}
+use Rattle.numbers.proofs.Refusing.{tests}
 use Rattle.cells.proofs.renumber.answer_of.Statement.{statement}
 use Rattle.cells.proofs.renumber.answer_of.Tie as tie
 

@@ -1,5 +1,5 @@
 use Rattle.cells.specs.Memory.{shortOf}
-use Rattle.cells.proofs.Refusing.{tests}
+use Rattle.numbers.proofs.Refusing.{tests}
 use Rattle.cells.proofs.room.lacking.Statement.{statement}
 use Rattle.cells.proofs.room.lacking.Tie as tie
 

@@ -1,5 +1,5 @@
 use Rattle.cells.specs.Add.{roomFor}
-use Rattle.cells.proofs.Refusing.{tests}
+use Rattle.numbers.proofs.Refusing.{tests}
 use Rattle.cells.proofs.room_check.room_for.Statement.{statement}
 use Rattle.cells.proofs.room_check.room_for.Tie as tie
 
