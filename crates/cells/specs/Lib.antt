@@ -1,3 +1,4 @@
+pub mod Area
 pub mod Lists
 pub mod Words
 pub mod Access

@@ -6,6 +6,7 @@ use mathlib.Core.Bool.{Bool, true, false, not, _||_}
 use mathlib.Core.List.{List, [], _∷_, _++_, map}
 use lib.Dec.{eqb}
 use lib.ListN.{getD, take, drop}
+use Rattle.cells.specs.Area.{ownArea}
 use Rattle.cells.specs.Order.{Old, parted, renamed}
 
 -- Section 4: which links are a node's own, by its words; and which values a junction's, by its
@@ -49,10 +50,9 @@ numberFrom k (w ∷ ws) = numbered k w ∷ numberFrom (suc k) ws
 unfoldable pub reordered : List (List ℕ) → List (List ℕ)
 reordered ws = numberFrom 0 (parted isPed ws)
 
--- the first node's area, 0 if there is no node
+-- the own area of a cell with these nodes
 unfoldable pub firstArea : List (List ℕ) → ℕ
-firstArea [] = 0
-firstArea (w ∷ ws) = areaOf w
+firstArea ws = ownArea areaOf ws
 
 -- what renumbering goes by, of the first n nodes
 unfoldable pub oldOf : ℕ → List (List ℕ) → Old

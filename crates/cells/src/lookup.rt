@@ -4,14 +4,15 @@ ghost use Prim.Native.Nat.{_≤_};
 ghost use lib.ListN.{length, take, getD};
 ghost use Rattle.cells.specs.NodeWords.{firstArea};
 ghost use Rattle.cells.specs.CellOf.{refOf};
-ghost use Rattle.cells.specs.Cell.{refFor};
+ghost use Rattle.cells.specs.Area.{refFor};
 ghost use Rattle.cells.specs.Lookup.{refMatches};
 ghost use Rattle.cells.specs.LookupCall.{areaIdCall, firstIn, findIn, nodeCall, placeOf, refIn, below, junctionOfCall};
+use crate::area::own_area;
+use crate::area::ref_for;
 use crate::junction_ref::RefWords;
 use crate::node::NodeWords;
 use crate::node_words::area_of;
 use crate::node_words::number_of;
-use crate::relink::own_area;
 use crate::ynd::Ynd;
 
 pub enum OwnArea {
@@ -80,12 +81,6 @@ pub fn node(ynd: Ynd, nodes: &[NodeWords], node_id: u16) -> Place
         return Place::Refused(7, 0);
     }
     find_in(nodes, n, node_id)
-}
-
-fn ref_for(own: u16, area: u16, area_id: u16) -> bool
-    ensures { λ r. ⌜ r ≡ refFor own area «area_id» ⌝ }
-{
-    area == area_id
 }
 
 fn ref_matches(w: RefWords, own: u16, area_id: u16, node_id: u16) -> bool

@@ -3,33 +3,17 @@ ghost use mathlib.Core.Path.{_≡_};
 ghost use mathlib.Core.List.{map};
 ghost use Prim.Native.Nat.{ℕ, _≤_, _<_};
 ghost use lib.ListN.{length, getD, take};
-ghost use Rattle.cells.specs.Order.{belongs, newPlace};
+ghost use Rattle.cells.specs.Area.{belongs};
+ghost use Rattle.cells.specs.Order.{newPlace};
 ghost use Rattle.cells.specs.NodeWords.{isPed, firstArea, oldOf, relinked};
 ghost use Rattle.cells.specs.Renumber.{over};
 ghost use Rattle.cells.specs.RenumberParts.{Ready};
+use crate::area::belongs_to;
+use crate::area::own_area;
 use crate::link::LinkWords;
 use crate::node::NodeWords;
-use crate::node_words::area_of;
 use crate::number_index::index_numbers;
 use crate::number_index::new_number;
-
-// Whether a link or a ref of this area belongs to a cell of the area `own`.
-pub fn belongs_to(own: u16, area: u16) -> bool
-    ensures { λ r. ⌜ r ≡ belongs own area ⌝ }
-{
-    area == own
-}
-
-// The first node's area, 0 if there is no node.
-pub(crate) fn own_area(nodes: &[NodeWords], n: usize) -> u16
-    requires { ⌜ n ≤ length (now nodes) ⌝ }
-    ensures { λ r. ⌜ r ≡ firstArea (take n (now (nodes .entry))) ⌝ }
-{
-    if n == 0 {
-        return 0;
-    }
-    area_of(nodes[0])
-}
 
 // A link or a ref of a cell of the area `own`, as it is after renumbering.
 fn relink(

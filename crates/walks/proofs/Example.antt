@@ -19,7 +19,8 @@ use Rattle.cells.specs.Words.{pathNode, pathLink, nodeWords, linkWords, toNode,
 use Rattle.cells.specs.Checks.{sizesCheck, arraysFound, scan, arraysCheck}
 use Rattle.cells.specs.Memory.{Memory, memory, shortOf}
 use Rattle.cells.specs.Read.{linksFrom, nodeIn, linksIn, roomCheck, cellRead, filled, readArrays, readOf}
-use Rattle.cells.specs.Order.{keep, rank, parted, newPlace, listed, newPlaces, lastWith, newNumber, belongs, renamed}
+use Rattle.cells.specs.Area.{belongs}
+use Rattle.cells.specs.Order.{keep, rank, parted, newPlace, listed, newPlaces, lastWith, newNumber, renamed}
 use Rattle.cells.specs.NodeWords.{areaOf, numberOf, isPed, numbered, numberFrom, reordered, firstArea, oldOf, relinked}
 use Rattle.cells.specs.CellOf.{bodyOf, nodesOf, cellOf}
 use Rattle.cells.specs.FileCell.{fileNodes, fileJunctions, fileRefs, cellFrom, cellBy, fileCell}

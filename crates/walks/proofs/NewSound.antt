@@ -9,7 +9,8 @@ use lib.Dec.{eqb}
 use lib.ListN.{length, length-map}
 use borrow.Author.Tests.{eqb-true, eq-eqb, ne-eqb}
 use Rattle.cells.specs.Cell.{Node, Cell, nodeAt, noNode, isPedNode, numbers, pedFlags, firstOf, isVehicleNode, ordered, relink, reref, renode, numberNodes, renumberCell, oldNodes}
-use Rattle.cells.specs.Order.{keep, newPlace, newNumber, Old, parted, renamed, belongs}
+use Rattle.cells.specs.Area.{belongs}
+use Rattle.cells.specs.Order.{keep, newPlace, newNumber, Old, parted, renamed}
 use Rattle.cells.specs.Lookup.{firstWith}
 use Rattle.walks.specs.Sound.{differing, named, linkNamed, refNamed, nodeSound, isEmpty, sound}
 use Rattle.cells.specs.Lists.{every}

@@ -7,8 +7,10 @@ use mathlib.Core.Option.{Option, none, some}
 use lib.Dec.{eqb}
 use lib.ListN.{length, length-map}
 use borrow.Author.Tests.{eqb-true, eqb-false, eq-eqb, ne-eqb}
-use Rattle.cells.specs.Cell.{Link, Node, Ref, Cell, nodeAt, noNode, numbers, pedFlags, firstOf, refFor, relink, reref, renumberCell, oldNodes}
-use Rattle.cells.specs.Order.{newPlace, Old, renamed, belongs}
+use Rattle.cells.specs.Cell.{Link, Node, Ref, Cell, nodeAt, noNode, numbers, pedFlags, firstOf, relink, reref, renumberCell, oldNodes}
+use Rattle.cells.specs.Area.{belongs, refFor}
+use Rattle.cells.proofs.Lookups.AreaLaws.{ref-own}
+use Rattle.cells.specs.Order.{newPlace, Old, renamed}
 use Rattle.cells.specs.Lookup.{refOf, junctionOf}
 use Rattle.cells.specs.Lists.{every}
 use Rattle.walks.specs.Sound.{linkNamed, refNamed, nodeSound}
@@ -54,11 +56,6 @@ walk-alike {L} {Ok} {w} {v} {f} s (b ∷ bs) p ok =
         → goOn (moveVisit f here) (walkIn v bs) (moveNext f x) ≡ move f (goOn here (walkIn w bs) x)
     go (to q) ok ih = rw (ih q ok)
     go (stop e) ok ih = refl
-
--- in a cell, a ref for the cell's own area is one that belongs to the cell
-pub ref-own : (own x : ℕ) → refFor own x own ≡ belongs own x
-unfolding refFor belongs
-ref-own own x = refl
 
 module _ (c : Cell) (s : Sound c) where
   abbrev ns : List Node

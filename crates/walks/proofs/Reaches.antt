@@ -11,7 +11,7 @@ use lib.ListN.{length, getD, drop, length-drop, drop-of-length-le}
 use lib.Seq.{drop-cons, drop-drop}
 use borrow.Author.Tests.{ltb-true, le-leb}
 use Rattle.cells.specs.Memory.{Memory}
-use Rattle.cells.specs.Order.{belongs}
+use Rattle.cells.specs.Area.{belongs}
 use Rattle.cells.specs.Cell.{Node, Link, numbers, firstOf}
 use Rattle.cells.specs.CellOf.{nodesOf, cellOf}
 use Rattle.cells.specs.Lookup.{find, firstWith, orLater}

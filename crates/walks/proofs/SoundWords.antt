@@ -8,9 +8,10 @@ use lib.Dec.{eqb}
 use lib.ListN.{length, getD, take, drop, length-map}
 use lib.Seq.{length-take-le}
 use borrow.Author.Tests.{eq-eqb, ne-eqb}
-use Rattle.cells.specs.NodeWords.{areaOf, numberOf, linkStart, linkCount}
+use Rattle.cells.specs.NodeWords.{areaOf, firstArea, numberOf, linkStart, linkCount}
+use Rattle.cells.proofs.Lookups.LookupLaws.{area-held}
 use Rattle.cells.specs.Lists.{every}
-use Rattle.cells.specs.Order.{belongs}
+use Rattle.cells.specs.Area.{belongs}
 use Rattle.cells.specs.Memory.{Memory}
 use Rattle.cells.specs.Cell.{Link, Node, Ref, numbers, firstOf}
 use Rattle.cells.specs.CellOf.{linkOf, refOf, nodeWith, nodesOf, refsOf, cellOf}
@@ -79,7 +80,7 @@ module _ (m : Memory) where
 
   module _ (some : 0 < n) (fits : n ≤ length (m .nodes)) where
     abbrev own : ℕ
-    own = areaOf (getD (m .nodes) 0 [])
+    own = firstArea (take n (m .nodes))
 
     abbrev ks : List ℕ
     ks = numbersIn n (m .nodes)
@@ -89,13 +90,7 @@ module _ (m : Memory) where
     same-numbers = numbers-same
 
     own-is : firstOf N ≡ own
-    unfolding nodesOf
-    own-is = go n (m .nodes) some fits
-      where
-        go : (n : ℕ) (ws : List (List ℕ)) → 0 < n → n ≤ length ws → firstOf (map (nodeWith pool) (take n ws)) ≡ areaOf (getD ws 0 [])
-        go zero ws h k = absurd (omega arith)
-        go (suc n) [] h k = absurd (omega arith)
-        go (suc n) (w ∷ ws) h k = refl
+    own-is = area-held m
 
     link-same : (w : List ℕ) → linkNamed N (linkOf w) ≡ wordNamed ks own w
     unfolding wordNamed
@@ -145,7 +140,7 @@ module _ (m : Memory) where
 
 -- ---- the answer, by the tests in their order
 
-module _ (n l r : ℕ) (nodes links refs : List (List ℕ)) (own : ℕ) (is-own : own ≡ areaOf (getD nodes 0 [])) (some : n ≡ 0 → ⊥) where
+module _ (n l r : ℕ) (nodes links refs : List (List ℕ)) (own : ℕ) (is-own : own ≡ firstArea (take n nodes)) (some : n ≡ 0 → ⊥) where
   abbrev test-nodes : Bool
   test-nodes = every (wordSound (numbersIn n nodes) own (take l links)) (take n nodes)
 

@@ -10,8 +10,9 @@ use lib.ListN.{length, getD, getElem?, take, drop, length-map}
 use lib.Seq.{length-take-le, getD-take}
 use borrow.Author.Tests.{le-ltb}
 use Rattle.cells.specs.Memory.{Memory}
-use Rattle.cells.specs.NodeWords.{areaOf, linkStart, linkCount}
-use Rattle.cells.specs.Order.{belongs}
+use Rattle.cells.specs.NodeWords.{firstArea, linkStart, linkCount}
+use Rattle.cells.proofs.Lookups.LookupLaws.{area-held}
+use Rattle.cells.specs.Area.{belongs}
 use Rattle.cells.specs.Cell.{Link, Node, noNode, nodeAt, numbers, firstOf}
 use Rattle.cells.specs.CellOf.{linkOf, nodeWith, nodesOf, cellOf}
 use Rattle.cells.specs.Lookup.{find}
@@ -86,15 +87,6 @@ module _ (m : Memory) where
     links-in : (p : ℕ) → p < n → nodeAt (nodesOf m) p .links ≡ take (count p) (drop (start p) pool)
     links-in p lt = ap (λ (x : Node). x .links) (node-in p lt)
 
-    pub area-in : (p : ℕ) → p < n → firstOf (nodesOf m) ≡ areaOf (getD (m .nodes) 0 [])
-    unfolding nodesOf
-    area-in p lt = go n (m .nodes) lt fits
-      where
-        go : (n : ℕ) (ws : List (List ℕ)) → p < n → n ≤ length ws → firstOf (map (nodeWith pool) (take n ws)) ≡ areaOf (getD ws 0 [])
-        go zero ws lt h = absurd (omega arith)
-        go (suc n) [] lt h = absurd (omega arith)
-        go (suc n) (w ∷ ws) lt h = refl
-
     -- a choice at or past the count
     pub link-past : (p b : ℕ) → p < n → count p ≤ b → linkAt (nodesOf m) p b ≡ none
     link-past p b lt h = rw (links-in p lt, elem-take-past (count p) (drop (start p) pool) b h)
@@ -127,16 +119,16 @@ module _ (m : Memory) where
           )
 
       -- a link of another area
-      pub next-left : (p b : ℕ) → p < n → b < count p → start p + b < l → belongs (areaOf (getD (m .nodes) 0 [])) (getD (getD (m .links) (start p + b) []) 0 0) ≡ false
+      pub next-left : (p b : ℕ) → p < n → b < count p → start p + b < l → belongs (firstArea (take n (m .nodes))) (getD (getD (m .links) (start p + b) []) 0 0) ≡ false
           → Stop (Left (getD (getD (m .links) (start p + b) []) 0 0) (getD (getD (m .links) (start p + b) []) 1 0)) ≡ stepIn m p b
       unfolding stepIn next
-      next-left p b lt h lq ne = rw (link-in p b lt h lq, area-in p lt, ne)
+      next-left p b lt h lq ne = rw (link-in p b lt h lq, area-held m, ne)
 
       -- a link of the cell's own area leads to what `node` finds
-      pub next-own : (p b : ℕ) → p < n → b < count p → start p + b < l → belongs (areaOf (getD (m .nodes) 0 [])) (getD (getD (m .links) (start p + b) []) 0 0) ≡ true
+      pub next-own : (p b : ℕ) → p < n → b < count p → start p + b < l → belongs (firstArea (take n (m .nodes))) (getD (getD (m .links) (start p + b) []) 0 0) ≡ true
           → stepTo (nodeCall (m .ynd) (m .nodes) (getD (getD (m .links) (start p + b) []) 1 0)) ≡ stepIn m p b
       unfolding stepIn next nodeCall findIn
-      next-own p b lt h lq e = rw (link-in p b lt h lq, area-in p lt, e, same-numbers, le-ltb _ _ fits) (go (find _ _))
+      next-own p b lt h lq e = rw (link-in p b lt h lq, area-held m, e, same-numbers, le-ltb _ _ fits) (go (find _ _))
         where
           go : (o : Option ℕ) → stepTo (placeOf o) ≡ stepOf (arrive o)
           go (some q) = refl

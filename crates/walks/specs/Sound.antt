@@ -4,7 +4,7 @@ use mathlib.Core.Bool.{Bool, true, false, not, _&&_, _||_}
 use mathlib.Core.List.{List, [], _∷_}
 use lib.Dec.{eqb}
 use Rattle.cells.specs.Lists.{every}
-use Rattle.cells.specs.Order.{belongs}
+use Rattle.cells.specs.Area.{belongs}
 use Rattle.cells.specs.Cell.{Link, Node, Ref, Cell, numbers, firstOf}
 use Rattle.cells.specs.Lookup.{firstWith, isSome}
 

@@ -5,8 +5,8 @@ use mathlib.Core.List.{List, []}
 use lib.Dec.{eqb}
 use lib.ListN.{length, getD, take, drop}
 use Rattle.cells.specs.Lists.{every}
-use Rattle.cells.specs.Order.{belongs}
-use Rattle.cells.specs.NodeWords.{areaOf, linkStart, linkCount}
+use Rattle.cells.specs.Area.{belongs}
+use Rattle.cells.specs.NodeWords.{areaOf, firstArea, linkStart, linkCount}
 use Rattle.cells.specs.Lookup.{firstWith, isSome}
 use Rattle.cells.specs.LookupCall.{numbersIn}
 use Rattle.cells.specs.RenumberParts.{Indexed}
@@ -29,9 +29,9 @@ wordSound ks own links w = eqb (areaOf w) own && every (wordNamed ks own) (take 
 -- the first n nodes, l links and r refs, where there is a node
 unfoldable pub wordsSound : ℕ → ℕ → ℕ → List (List ℕ) → List (List ℕ) → List (List ℕ) → Bool
 wordsSound n l r nodes links refs =
-    every (wordSound (numbersIn n nodes) (areaOf (getD nodes 0 [])) (take l links)) (take n nodes)
+    every (wordSound (numbersIn n nodes) (firstArea (take n nodes)) (take l links)) (take n nodes)
     && differing (numbersIn n nodes)
-    && every (wordNamed (numbersIn n nodes) (areaOf (getD nodes 0 []))) (take r refs)
+    && every (wordNamed (numbersIn n nodes) (firstArea (take n nodes))) (take r refs)
 
 abbrev pub noneOr : ℕ → Bool → Bool
 noneOr zero b = true

@@ -4,7 +4,7 @@ use mathlib.Core.Bool.{cond}
 use mathlib.Core.List.{List, [], _∷_}
 use mathlib.Core.Option.{Option, none, some}
 use lib.ListN.{length, getElem?}
-use Rattle.cells.specs.Order.{belongs}
+use Rattle.cells.specs.Area.{belongs}
 use Rattle.cells.specs.Cell.{Link, LinkBody, Node, NodeBody, Junction, Cell, nodeAt, numbers, firstOf}
 use Rattle.cells.specs.Lookup.{find, junctionOf}
 use Rattle.walks.specs.declared.walk.End.{End}

@@ -12,13 +12,14 @@ ghost use Rattle.cells.specs.RenumberParts.{Indexed};
 ghost use Rattle.walks.specs.Sound.{differing};
 ghost use Rattle.walks.specs.SoundCall.{verdict, indexed, soundLeft, soundCall};
 ghost use Rattle.walks.specs.SoundParts.{Ready, wordNamed, wordSound, wordsSound, noneOr};
+use cells::area::belongs_to;
+use cells::area::own_area;
 use cells::link::LinkWords;
 use cells::node::NodeWords;
 use cells::node_words::area_of;
 use cells::node_words::number_of;
 use cells::range::link_count;
 use cells::range::link_start;
-use cells::relink::belongs_to;
 use cells::ynd::Ynd;
 
 pub enum Soundness {
@@ -169,7 +170,7 @@ fn judge(
     if n == 0 {
         return true;
     }
-    let own = area_of(nodes[0]);
+    let own = own_area(nodes, n);
     if !nodes_sound(nodes, scratch, n, own, links, l) {
         return false;
     }

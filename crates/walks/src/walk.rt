@@ -7,14 +7,14 @@ ghost use lib.ListN.{length, getD};
 ghost use Rattle.cells.specs.Memory.{memory};
 ghost use Rattle.walks.specs.WalkCall.{walkLeft, walkCall};
 ghost use Rattle.walks.specs.WalkParts.{lent, stepIn, stepTo, routeIn, traced, over};
+use cells::area::belongs_to;
+use cells::area::own_area;
 use cells::link::LinkWords;
 use cells::lookup::Place;
 use cells::lookup::node;
 use cells::node::NodeWords;
-use cells::node_words::area_of;
 use cells::range::link_count;
 use cells::range::link_start;
-use cells::relink::belongs_to;
 use cells::ynd::Ynd;
 
 // How a walk ends. `Left` has the area and the number that the link names.
@@ -81,7 +81,7 @@ fn follow(ynd: Ynd, nodes: &[NodeWords], links: &[LinkWords], p: usize, b: usize
     }
     let area = area_named(links[at]);
     let number = number_named(links[at]);
-    let own = area_of(nodes[0]);
+    let own = own_area(nodes, ynd.node_count as usize);
     if belongs_to(own, area) {
         return step_to(node(ynd, nodes, number));
     }

@@ -8,7 +8,8 @@ use mathlib.Core.List.{List, [], _∷_, map}
 use mathlib.Core.Option.{Option}
 use lib.ListN.{length, getD, take, length-map, List·getD-map}
 use lib.Seq.{length-take-le, getD-take}
-use Rattle.cells.specs.Order.{newNumber, placeOr, renamed, belongs}
+use Rattle.cells.specs.Area.{belongs}
+use Rattle.cells.specs.Order.{newNumber, placeOr, renamed}
 use Rattle.cells.specs.NodeWords.{areaOf, numberOf, isPed, firstArea, oldOf}
 use Rattle.cells.specs.RenumberParts.{Ready}
 use Rattle.cells.proofs.Renumbering.Placed.{new-at}
@@ -48,14 +49,3 @@ relinked-own n nodes own x k e t = rw (← e, t)
 pub relinked-other : (n : ℕ) (nodes : List (List ℕ)) (own x k : ℕ) → own ≡ firstArea (take n nodes) → belongs own x ≡ false → renamed (oldOf n nodes) x k ≡ k
 unfolding renamed oldOf
 relinked-other n nodes own x k e t = rw (← e, t)
-
-pub first-some : (n : ℕ) (nodes : List (List ℕ)) → 0 < n → n ≤ length nodes → firstArea (take n nodes) ≡ areaOf (getD nodes 0 [])
-unfolding firstArea
-first-some zero nodes h k = absurd (omega arith)
-first-some (suc n) [] h k = absurd (omega arith)
-first-some (suc n) (w ∷ ws) h k = refl
-
-pub first-none : (n : ℕ) (nodes : List (List ℕ)) → n ≡ 0 → 0 ≡ firstArea (take n nodes)
-unfolding firstArea
-first-none zero nodes e = refl
-first-none (suc n) nodes e = absurd (omega arith)

@@ -9,7 +9,8 @@ use mathlib.Core.List.{List, [], _∷_, map}
 use mathlib.Core.Option.{Option, none, some}
 use lib.ListN.{length, length-map}
 use lib.Seq.{ext-getD}
-use Rattle.cells.specs.Order.{keep, newPlace, newNumber, lastWith, placeOr, renamed, belongs, Old}
+use Rattle.cells.specs.Area.{belongs}
+use Rattle.cells.specs.Order.{keep, newPlace, newNumber, lastWith, placeOr, renamed, Old}
 use Rattle.cells.specs.Cell.{Link, Node, Ref, Cell, nodeAt, noNode, isPedNode, isVehicleNode, numbers, pedFlags, oldNodes, ordered, relink, reref, renode, numberNodes, renumberCell}
 use Rattle.cells.specs.Memory.{Memory}
 use Rattle.cells.specs.CellOf.{cellOf}

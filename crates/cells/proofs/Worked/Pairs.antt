@@ -3,7 +3,8 @@
 use Prim.Native.Nat.{ℕ, _+_, _*_}
 use mathlib.Core.Path.{_≡_, refl}
 use mathlib.Core.List.{List, [], _∷_}
-use Rattle.cells.specs.Order.{keep, rank, parted, newPlace, newPlaces, listed, lastWith, newNumber, renamed, belongs}
+use Rattle.cells.specs.Area.{belongs}
+use Rattle.cells.specs.Order.{keep, rank, parted, newPlace, newPlaces, listed, lastWith, newNumber, renamed}
 use Rattle.cells.specs.NodeWords.{areaOf, numberOf, isPed, numbered, numberFrom, reordered, firstArea, oldOf, relinked}
 use Rattle.cells.specs.Memory.{Memory, memory, shortOf}
 use Rattle.cells.specs.Renumber.{vehicles, peds, renumberLists, recounted, answerOf, newLists, renumberMemory, renumber}

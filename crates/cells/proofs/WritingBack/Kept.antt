@@ -20,7 +20,8 @@ use Rattle.records.specs.Bytes.{byteAt, le16, le32, signed16}
 use Rattle.records.specs.Root.{rootOf, unknownsOf}
 use Rattle.records.specs.Records.{nodeAt, linkAt, junctionAt, refAt}
 use Rattle.cells.specs.Lists.{upTo}
-use Rattle.cells.specs.Order.{keep, lastWith, newPlace, newNumber, placeOr, renamed, belongs, Old, parted}
+use Rattle.cells.specs.Area.{belongs}
+use Rattle.cells.specs.Order.{keep, lastWith, newPlace, newNumber, placeOr, renamed, Old, parted}
 use Rattle.cells.specs.Cell.{Link, Node, Ref, Cell, isPedNode, isVehicleNode, oldNodes, numbers, pedFlags, relink, reref, renode, ordered, renumberCell}
 use Rattle.cells.specs.Lists.{every}
 use Rattle.cells.specs.Words.{pathNode}

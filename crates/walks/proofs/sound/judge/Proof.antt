@@ -8,13 +8,13 @@ use Rattle.walks.proofs.sound.judge.Statement.{statement}
 use Rattle.walks.proofs.sound.judge.Tie as tie
 
 nodes-sound-requires : tie.Need-nodes-sound-requires
-nodes-sound-requires c κs = let s = c .before .before .before .before in (s .pre .0, s .pre .1)
+nodes-sound-requires c κs = let s = c .before .before .before in (s .pre .0, s .pre .1)
 
 differ-requires : tie.Need-differ-requires
-differ-requires c κs = c .before .before .before .before .before .before .pre .0
+differ-requires c κs = c .before .before .before .before .before .pre .0
 
 all-named-requires : tie.Need-all-named-requires
-all-named-requires c κs = let s = c .before .before .before .before .before .before .before .before in (s .pre .0, omega (arith, s .pre .2))
+all-named-requires c κs = let s = c .before .before .before .before .before .before .before in (s .pre .0, omega (arith, s .pre .2))
 
 returns : tie.Need-returns
 returns c =
@@ -23,25 +23,25 @@ returns c =
 
 returns-2 : tie.Need-returns-2
 returns-2 c =
-    let a = c .before .before .before .before .before .before .args in
+    let a = c .before .before .before .before .before .args in
     no-nodes (a .n) (a .l) (a .r) (a .nodes .now) (a .links .now) (a .refs .now)
-    (c .before .before .area-of .result) (c .before .before .area-of .ensures) (c .before .before .before .before .if1 .left)
+    (c .before .before .own-area .result) (c .before .before .own-area .ensures) (c .before .before .before .if1 .left)
     (sym (c .before .nodes-sound .ensures) ∙ not-true _ (c .if2 .taken))
 
 returns-3 : tie.Need-returns-3
 returns-3 c =
-    let a = c .before .before .before .before .before .before .before .before .args in
+    let a = c .before .before .before .before .before .before .before .args in
     no-differ (a .n) (a .l) (a .r) (a .nodes .now) (a .links .now) (a .refs .now)
-    (c .before .before .before .before .area-of .result) (c .before .before .before .before .area-of .ensures) (c .before .before .before .before .before .before .if1 .left)
+    (c .before .before .before .before .own-area .result) (c .before .before .before .before .own-area .ensures) (c .before .before .before .before .before .if1 .left)
     (sym (c .before .before .before .nodes-sound .ensures) ∙ not-false _ (c .before .before .if2 .left))
     (sym (c .before .differ .ensures) ∙ not-true _ (c .if3 .taken))
 
 returns-4 : tie.Need-returns-4
 returns-4 c =
-    let a = c .before .before .before .before .before .before .before .before .before .args in
+    let a = c .before .before .before .before .before .before .before .before .args in
     c .all-named .ensures
     ∙ refs-left (a .n) (a .l) (a .r) (a .nodes .now) (a .links .now) (a .refs .now)
-    (c .before .before .before .before .before .area-of .result) (c .before .before .before .before .before .area-of .ensures) (c .before .before .before .before .before .before .before .if1 .left)
+    (c .before .before .before .before .before .own-area .result) (c .before .before .before .before .before .own-area .ensures) (c .before .before .before .before .before .before .if1 .left)
     (sym (c .before .before .before .before .nodes-sound .ensures) ∙ not-false _ (c .before .before .before .if2 .left))
     (sym (c .before .before .differ .ensures) ∙ not-false _ (c .before .if3 .left))
 
@@ -50,7 +50,6 @@ judge-spec =
     tie.close
     (tie.spec
     returns
-    (λ c. search needs)
     (λ c κs. search needs)
     nodes-sound-requires
     returns-2

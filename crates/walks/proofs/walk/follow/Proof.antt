@@ -3,7 +3,7 @@ use mathlib.Core.Path.{sym, ap, _∙_}
 use mathlib.Core.List.{[]}
 use native.Mathlib.Omega.{arith}
 use lib.ListN.{getD}
-use Rattle.cells.specs.Order.{belongs}
+use Rattle.cells.specs.Area.{belongs}
 use Rattle.cells.specs.LookupCall.{nodeCall}
 use Rattle.walks.specs.WalkParts.{lent, stepTo}
 use Rattle.walks.specs.declared.walk.Step.the-variants.{Stop}
@@ -33,7 +33,7 @@ returns-3 c =
     let st = k .before .before .link-start .ensures in
     let e₀ = f .area-named .ensures ∙ (λ i. getD (getD (a .links .now) (st i + a .b) []) 0 0) in
     let e₁ = c .before .before .before .before .before .before .number-named .ensures ∙ (λ i. getD (getD (a .links .now) (st i + a .b) []) 1 0) in
-    let ar = c .before .before .before .before .area-of .ensures in
+    let ar = c .before .before .before .before .own-area .ensures in
     c .step-to .ensures ∙ ap stepTo (c .before .node .ensures ∙ ap (λ (x : ℕ). nodeCall (a .ynd) (a .nodes .now) x) e₁)
     ∙ next-own (lent (a .ynd) (a .nodes .now) (a .links .now)) (search needs) (search needs) (a .p) (a .b) (search needs) (omega (arith, k .link-count .ensures, f .before .before .before .before .if1 .left))
     (omega (arith, st, f .before .before .if2 .left)) (sym (λ i. belongs (ar i) (e₀ i)) ∙ sym (c .before .before .before .belongs-to .ensures) ∙ c .before .before .if3 .taken)
@@ -46,7 +46,7 @@ returns-4 c =
     let st = k .before .before .link-start .ensures in
     let e₀ = f .area-named .ensures ∙ (λ i. getD (getD (a .links .now) (st i + a .b) []) 0 0) in
     let e₁ = c .before .before .before .before .number-named .ensures ∙ (λ i. getD (getD (a .links .now) (st i + a .b) []) 1 0) in
-    let ar = c .before .before .area-of .ensures in
+    let ar = c .before .before .own-area .ensures in
     (λ i. Stop (Left (e₀ i) (e₁ i)))
     ∙ next-left (lent (a .ynd) (a .nodes .now) (a .links .now)) (search needs) (search needs) (a .p) (a .b) (search needs) (omega (arith, k .link-count .ensures, f .before .before .before .before .if1 .left))
     (omega (arith, st, f .before .before .if2 .left)) (sym (λ i. belongs (ar i) (e₀ i)) ∙ sym (c .before .belongs-to .ensures) ∙ c .if3 .left)

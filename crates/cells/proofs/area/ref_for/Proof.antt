@@ -1,7 +1,7 @@
-use Rattle.cells.specs.Cell.{refFor}
+use Rattle.cells.specs.Area.{refFor}
 use borrow.Author.Needs.{needs}
-use Rattle.cells.proofs.lookup.ref_for.Statement.{statement}
-use Rattle.cells.proofs.lookup.ref_for.Tie as tie
+use Rattle.cells.proofs.area.ref_for.Statement.{statement}
+use Rattle.cells.proofs.area.ref_for.Tie as tie
 
 returns : tie.Need-returns
 unfolding refFor

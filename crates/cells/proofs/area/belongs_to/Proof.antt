@@ -1,7 +1,7 @@
 use borrow.Author.Needs.{needs}
-use Rattle.cells.specs.Order.{belongs}
-use Rattle.cells.proofs.relink.belongs_to.Statement.{statement}
-use Rattle.cells.proofs.relink.belongs_to.Tie as tie
+use Rattle.cells.specs.Area.{belongs}
+use Rattle.cells.proofs.area.belongs_to.Statement.{statement}
+use Rattle.cells.proofs.area.belongs_to.Tie as tie
 
 returns : tie.Need-returns
 unfolding belongs
