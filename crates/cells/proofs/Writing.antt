@@ -1,4 +1,5 @@
 -- Checks 8 to 11, the five arrays and the section.
+pub mod Starts
 pub mod Ranges
 pub mod CheckTurns
 pub mod WriteTotals

@@ -7,7 +7,7 @@ use Rattle.records.specs.Records.{nodeBytes, linkBytes, junctionBytes, refBytes
 use Rattle.records.specs.Layout.{placesOf, sectionBytes}
 use Rattle.records.specs.declared.root.Root.{Root}
 use Rattle.cells.specs.Words.{toNode, toLink, toJunction, toRef}
-use Rattle.cells.specs.Entries.{linksIn, valuesIn, fileNode, fileLink, fileJunction}
+use Rattle.cells.specs.Entries.{linksIn, valuesIn, storedStart, fileNode, fileLink, fileJunction}
 use Rattle.cells.specs.Memory.{Memory}
 
 -- ---- records
@@ -24,7 +24,8 @@ junctionRecord start j = junctionBytes (fileJunction start (toJunction j))
 
 -- with how many links stand before its own
 abbrev pub nodeRecord : List (List ℕ) → ℕ → List ℕ → List ℕ
-nodeRecord links start n = nodeBytes (fileNode start (length (linksIn links n)) (toNode n))
+nodeRecord links before n =
+    nodeBytes (fileNode (storedStart before (length (linksIn links n))) (length (linksIn links n)) (toNode n))
 
 -- ---- arrays
 

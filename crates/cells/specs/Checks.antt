@@ -32,8 +32,12 @@ rootRead s = rootOf s
 abbrev pub refuseIf : Bool → ℕ → ℕ → Answer → Answer
 refuseIf b cause place next = cond b (answer.Refused cause place) next
 
+-- 1: a system section without a whole root
+abbrev pub tooFew : ℕ → Bool
+tooFew s = ltb s 112
+
 unfoldable pub sizesCheck : ℕ → ℕ → Answer
-sizesCheck s g = decided (when (ltb 16777216 s) 2 0 ∷ when (ltb 16777216 g) 2 1 ∷ when (ltb s 112) 1 0 ∷ [])
+sizesCheck s g = decided (when (ltb 16777216 s) 2 0 ∷ when (ltb 16777216 g) 2 1 ∷ when (tooFew s) 1 0 ∷ [])
 
 -- ---- 3: where the arrays lie, in sections of s and g bytes
 

@@ -23,7 +23,8 @@ valuesIn heights j = take (valueCount j) (drop (valueStart j) heights)
 abbrev pub storedStart : ℕ → ℕ → ℕ
 storedStart before count = before
 
--- Section 4: unused words are written as zero, and of flags5 the low three bits are stored. Section 3: coordinates are stored as steps.
+-- A node with `count` links, stored from `start` on. Section 4: unused words are written as zero, and of flags5 the low
+-- three bits are stored. Section 3: coordinates are stored as steps.
 unfoldable pub fileNode : ℕ → ℕ → PathNode → raw-node.Node
 fileNode start count n = record {
   unused0 = 0;
@@ -34,7 +35,7 @@ fileNode start count n = record {
   «node_id» = n .«node_id»;
   «street_name» = n .«street_name»;
   unused4 = 0;
-  «link_id» = storedStart start count;
+  «link_id» = start;
   «position_x» = stepOf 2 (n .position .x);
   «position_y» = stepOf 2 (n .position .y);
   flags0 = n .flags0;

@@ -3,6 +3,7 @@ use Prim.Native.Nat.{ℕ, _+_, _-_, min}
 use mathlib.Core.Bool.{Bool, true, false, cond}
 use mathlib.Core.List.{List, [], _∷_}
 use lib.Dec.{ltb}
+use Rattle.cells.specs.Entries.{storedStart}
 use Rattle.cells.specs.NodeWords.{linkStart, linkCount, valueStart, valueCount}
 use Rattle.cells.specs.declared.count.Total.{Total}
 use Rattle.cells.specs.declared.count.Total.the-variants.{Sum, Refused}
@@ -21,9 +22,9 @@ linksWithin pool n = min (linkCount n) (pool - linkStart n)
 unfoldable pub valuesWithin : ℕ → List ℕ → ℕ
 valuesWithin pool j = min (valueCount j) (pool - valueStart j)
 
--- 9: links before this node over 65,535, even if it has none.
+-- 9: the start that this node stores over 65,535, even if it has no links.
 abbrev pub startOver : ℕ → ℕ → Bool
-startOver before count = ltb 65535 before
+startOver before count = ltb 65535 (storedStart before count)
 
 -- 8 and 9, node by node, 8 first. Else how many links there are in all.
 unfoldable pub checkNodes : (List ℕ → ℕ) → ℕ → ℕ → List (List ℕ) → Total

@@ -10,11 +10,10 @@ use lib.Ieee.{binary32, toBits}
 use Rattle.numbers.specs.Steps.{unstep}
 use Rattle.records.specs.Bytes.{byteAt, numberAt, le16, le32, signed16}
 use Rattle.records.specs.Sections.{located, bytesOf, partBytes, arrayAt}
-use Rattle.records.specs.Root.{rootOf}
 use Rattle.records.specs.Records.{nodeAt, linkAt, junctionAt, refAt}
 use Rattle.cells.specs.Lists.{upTo, joinTo, sumTo}
 use Rattle.cells.specs.Words.{pathNode, pathLink, pathJunction, nodeWords, linkWords, junctionWords, refWords}
-use Rattle.cells.specs.Checks.{sizesCheck, opened, arraysFound, arraysCheck, countsOf, linksAt, valuesAt}
+use Rattle.cells.specs.Checks.{rootRead, sizesCheck, opened, arraysFound, arraysCheck, countsOf, linksAt, valuesAt}
 use Rattle.cells.specs.Memory.{Memory, memory, Left, unless}
 use Rattle.cells.specs.Read.{linksFrom, valuesFrom, nodeIn, linksIn, junctionIn, valuesIn, refIn, roomCheck, cellRead, filled, ifHeld, ifFound, readArrays, readOf}
 use Rattle.cells.specs.NodeWords.{areaOf, numberOf}
@@ -253,7 +252,7 @@ unfolding readOf arraysFound fileCell cellBy arrayAt
 read-cell s g m e = sizes (sizesCheck (length s) (length g)) e
   where
     root : Root
-    root = rootOf s
+    root = rootRead s
 
     reading : Part → Part → Part → Part → Part → Left
     reading n l j h r = readArrays root (bytesOf n s g) (bytesOf l s g) (bytesOf j s g) (bytesOf h s g) (bytesOf r s g) m
@@ -270,8 +269,8 @@ read-cell s g m e = sizes (sizesCheck (length s) (length g)) e
     arrays (At n) (At l) (At j) (At h) Bad t = refused t
     arrays (At n) (At l) (At j) (At h) (At r) t = arrays-cell root (bytesOf n s g) (bytesOf l s g) (bytesOf j s g) (bytesOf h s g) (bytesOf r s g) m t
 
-    sizes : (c : Answer) → unless c m (ifFound (arraysFound (rootOf s) (length s) (length g)) m reading) .answer ≡ Done
-        → cellOf (unless c m (ifFound (arraysFound (rootOf s) (length s) (length g)) m reading) .memory) ≡ fileCell s g
+    sizes : (c : Answer) → unless c m (ifFound (arraysFound (rootRead s) (length s) (length g)) m reading) .answer ≡ Done
+        → cellOf (unless c m (ifFound (arraysFound (rootRead s) (length s) (length g)) m reading) .memory) ≡ fileCell s g
     sizes (Refused a b) t = refused t
     sizes Done t =
         arrays (located (root .nodes) (root .«node_count») 40 (length s) (length g)) (located (root .links) (root .«link_count») 8 (length s) (length g))
@@ -279,8 +278,8 @@ read-cell s g m e = sizes (sizesCheck (length s) (length g)) e
         (located (root .refs) (root .«ref_count») 8 (length s) (length g)) t
 
 -- what holds of whatever five arrays, within the limits of 6, fill the memory with holds after an accepted reading
-module _ (P : Memory → Type 0) (s g : List ℕ) (m : Memory) (each : (n l j h r : List ℕ) → Holds n j r (countsOf n j r) → P (filled (rootOf s) (countsOf n j r) n l j h r m)) where
-  arrays-all : (n l j h r : List ℕ) → readArrays (rootOf s) n l j h r m .answer ≡ Done → P (readArrays (rootOf s) n l j h r m .memory)
+module _ (P : Memory → Type 0) (s g : List ℕ) (m : Memory) (each : (n l j h r : List ℕ) → Holds n j r (countsOf n j r) → P (filled (rootRead s) (countsOf n j r) n l j h r m)) where
+  arrays-all : (n l j h r : List ℕ) → readArrays (rootRead s) n l j h r m .answer ≡ Done → P (readArrays (rootRead s) n l j h r m .memory)
   unfolding readArrays
   arrays-all n l j h r e = go (arraysCheck n l j h r) refl e
     where
@@ -288,11 +287,11 @@ module _ (P : Memory → Type 0) (s g : List ℕ) (m : Memory) (each : (n l j h 
       short k = roomCheck k (length (m .nodes)) (length (m .links)) (length (m .junctions)) (length (m .heights)) (length (m .refs))
 
       fill : Counts → Left
-      fill k = record { answer = Done; memory = filled (rootOf s) k n l j h r m }
+      fill k = record { answer = Done; memory = filled (rootRead s) k n l j h r m }
 
       inner : (k : Counts) (c : Answer) → Holds n j r k → unless c m (fill k) .answer ≡ Done → P (unless c m (fill k) .memory)
       inner k (Refused a b) q t = refused t
-      inner k Done q t = subst (λ (x : Counts). P (filled (rootOf s) x n l j h r m)) (sym (q .counts)) (each n l j h r (record { few-nodes = q .few-nodes; few-junctions = q .few-junctions; counts = refl }))
+      inner k Done q t = subst (λ (x : Counts). P (filled (rootRead s) x n l j h r m)) (sym (q .counts)) (each n l j h r (record { few-nodes = q .few-nodes; few-junctions = q .few-junctions; counts = refl }))
 
       go : (c : Counted) → arraysCheck n l j h r ≡ c → ifHeld c m (λ k. unless (short k) m (fill k)) .answer ≡ Done → P (ifHeld c m (λ k. unless (short k) m (fill k)) .memory)
       go (counted.Refused a b) d t = refused t
@@ -303,7 +302,7 @@ module _ (P : Memory → Type 0) (s g : List ℕ) (m : Memory) (each : (n l j h 
   read-all e = sizes (sizesCheck (length s) (length g)) e
     where
       reading : Part → Part → Part → Part → Part → Left
-      reading n l j h r = readArrays (rootOf s) (bytesOf n s g) (bytesOf l s g) (bytesOf j s g) (bytesOf h s g) (bytesOf r s g) m
+      reading n l j h r = readArrays (rootRead s) (bytesOf n s g) (bytesOf l s g) (bytesOf j s g) (bytesOf h s g) (bytesOf r s g) m
 
       by : Located → Located → Located → Located → Located → Left
       by a b c d f =
@@ -317,9 +316,9 @@ module _ (P : Memory → Type 0) (s g : List ℕ) (m : Memory) (each : (n l j h 
       arrays (At n) (At l) (At j) (At h) Bad t = refused t
       arrays (At n) (At l) (At j) (At h) (At r) t = arrays-all (bytesOf n s g) (bytesOf l s g) (bytesOf j s g) (bytesOf h s g) (bytesOf r s g) t
 
-      sizes : (c : Answer) → unless c m (ifFound (arraysFound (rootOf s) (length s) (length g)) m reading) .answer ≡ Done → P (unless c m (ifFound (arraysFound (rootOf s) (length s) (length g)) m reading) .memory)
+      sizes : (c : Answer) → unless c m (ifFound (arraysFound (rootRead s) (length s) (length g)) m reading) .answer ≡ Done → P (unless c m (ifFound (arraysFound (rootRead s) (length s) (length g)) m reading) .memory)
       sizes (Refused a b) t = refused t
       sizes Done t =
-          arrays (located (rootOf s .nodes) (rootOf s .«node_count») 40 (length s) (length g)) (located (rootOf s .links) (rootOf s .«link_count») 8 (length s) (length g))
-          (located (rootOf s .junctions) (rootOf s .«junction_count») 12 (length s) (length g)) (located (rootOf s .heightmap) (rootOf s .«heightmap_count») 1 (length s) (length g))
-          (located (rootOf s .refs) (rootOf s .«ref_count») 8 (length s) (length g)) t
+          arrays (located (rootRead s .nodes) (rootRead s .«node_count») 40 (length s) (length g)) (located (rootRead s .links) (rootRead s .«link_count») 8 (length s) (length g))
+          (located (rootRead s .junctions) (rootRead s .«junction_count») 12 (length s) (length g)) (located (rootRead s .heightmap) (rootRead s .«heightmap_count») 1 (length s) (length g))
+          (located (rootRead s .refs) (rootRead s .«ref_count») 8 (length s) (length g)) t

@@ -17,7 +17,7 @@ use Rattle.records.specs.declared.section.Part.{Part}
 use Rattle.records.specs.Sections.{extent, sectionOf, bytesOf}
 use Rattle.cells.specs.declared.count.Counts.{Counts}
 use Rattle.cells.specs.Read.{roomCheck}
-use Rattle.cells.specs.Checks.{refuseMore, sizesCheck}
+use Rattle.cells.specs.Checks.{refuseMore, tooFew, sizesCheck}
 use Rattle.records.specs.Bytes.{byteAt}
 use Rattle.records.specs.Records.{nodeAt, linkAt, junctionAt}
 use Rattle.cells.specs.Words.{linkWords, pathLink}
@@ -216,8 +216,8 @@ room k nodes links junctions heights refs e =
 pub small : (s g : ℕ) → sizesCheck s g ≡ Done → (s ≤ 16777216) × (g ≤ 16777216)
 unfolding sizesCheck
 small s g e =
-    let e1 = if-told (ltb 16777216 s) 2 0 (refuseIf (ltb 16777216 g) 2 1 (refuseIf (ltb s 112) 1 0 Done)) e in
-    let e2 = if-told (ltb 16777216 g) 2 1 (refuseIf (ltb s 112) 1 0 Done) (e1 .1) in
+    let e1 = if-told (ltb 16777216 s) 2 0 (refuseIf (ltb 16777216 g) 2 1 (refuseIf (tooFew s) 1 0 Done)) e in
+    let e2 = if-told (ltb 16777216 g) 2 1 (refuseIf (tooFew s) 1 0 Done) (e1 .1) in
     (ltb-false 16777216 s (e1 .0), ltb-false 16777216 g (e2 .0))
 
 -- a part is no longer than both sections

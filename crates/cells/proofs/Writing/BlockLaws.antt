@@ -6,13 +6,18 @@ use mathlib.Core.List.{List, [], _∷_}
 use lib.ListN.{length, length-append}
 use Rattle.records.specs.Put.{joined}
 use Rattle.cells.specs.Words.{toNode, toLink, toJunction, toRef}
-use Rattle.cells.specs.Entries.{linksIn, valuesIn, fileNode, fileLink, fileJunction}
+use Rattle.cells.specs.Entries.{linksIn, valuesIn, storedStart, fileNode, fileLink, fileJunction}
 use Rattle.cells.specs.Blocks.{linkRecord, refRecord, junctionRecord, nodeRecord, linksRecords, refsBlock, junctionsBlock, linksBlock, nodesBlock}
 use Rattle.records.proofs.RecordBack.{node-length, link-length, junction-length, ref-length}
 use Rattle.cells.proofs.Sequences.Joined.{joined-length, laid-length}
 
+pub record-length : (links : List (List ℕ)) (before : ℕ) (n : List ℕ) → length (nodeRecord links before n) ≡ 40
+record-length links before n =
+    let count = length (linksIn links n) in
+    node-length (fileNode (storedStart before count) count (toNode n))
+
 pub nodes-length : (links nodes : List (List ℕ)) → length (nodesBlock links nodes) ≡ 40 * length nodes
-nodes-length links nodes = laid-length (linksIn links) (nodeRecord links) 40 (λ k n. node-length (fileNode k (length (linksIn links n)) (toNode n))) 0 nodes
+nodes-length links nodes = laid-length (linksIn links) (nodeRecord links) 40 (record-length links) 0 nodes
 
 pub links-length : (links nodes : List (List ℕ)) → length (linksBlock links nodes) ≡ 8 * length (joined (linksIn links) nodes)
 unfolding joined

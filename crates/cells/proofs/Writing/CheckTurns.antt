@@ -10,7 +10,8 @@ use borrow.Author.Tests.{lt-ltb, le-ltb, ltb-false}
 use Rattle.records.proofs.Puts.{split}
 use Rattle.cells.specs.declared.count.Total.{Total}
 use Rattle.cells.specs.declared.count.Total.the-variants.{Sum, Refused}
-use Rattle.cells.specs.WriteChecks.{unless, accepted, checkNodes, checkJunctions}
+use Rattle.cells.specs.Entries.{storedStart}
+use Rattle.cells.specs.WriteChecks.{unless, accepted, startOver, checkNodes, checkJunctions}
 
 unless-accepted : (b : Bool) (cause place : ℕ) (next : Total) → accepted (unless b (Refused cause place) next) ≡ true → (b ≡ false) × (accepted next ≡ true)
 unless-accepted true cause place next e = let z : _≡_ {A = ℕ} 0 1 = cc in absurd (omega arith)
@@ -28,18 +29,18 @@ module _ (count : List ℕ → ℕ) (ns : List (List ℕ)) (place before i : ℕ
   module _ (h : i < length ns) where
     nodes-open : checkNodes count place before (drop i ns)
         ≡ unless (ltb 31 (count (getD ns i []))) (Refused 8 place)
-        (unless (ltb 65535 before) (Refused 9 place) (checkNodes count (place + 1) (before + count (getD ns i [])) (drop (i + 1) ns)))
+        (unless (startOver before (count (getD ns i []))) (Refused 9 place) (checkNodes count (place + 1) (before + count (getD ns i [])) (drop (i + 1) ns)))
     unfolding checkNodes
     nodes-open = ap (checkNodes count place before) (split ns i [] h)
 
     pub nodes-8 : 31 < count (getD ns i []) → checkNodes count place before (drop i ns) ≡ Refused 8 place
     nodes-8 t = nodes-open ∙ rw (lt-ltb 31 (count (getD ns i [])) t)
 
-    pub nodes-9 : count (getD ns i []) ≤ 31 → 65535 < before → checkNodes count place before (drop i ns) ≡ Refused 9 place
-    nodes-9 t u = nodes-open ∙ rw (le-ltb 31 (count (getD ns i [])) t, lt-ltb 65535 before u)
+    pub nodes-9 : count (getD ns i []) ≤ 31 → 65535 < storedStart before (count (getD ns i [])) → checkNodes count place before (drop i ns) ≡ Refused 9 place
+    nodes-9 t u = nodes-open ∙ rw (le-ltb 31 (count (getD ns i [])) t, lt-ltb 65535 (storedStart before (count (getD ns i []))) u)
 
-    pub nodes-next : count (getD ns i []) ≤ 31 → before ≤ 65535 → checkNodes count place before (drop i ns) ≡ checkNodes count (place + 1) (before + count (getD ns i [])) (drop (i + 1) ns)
-    nodes-next t u = nodes-open ∙ rw (le-ltb 31 (count (getD ns i [])) t, le-ltb 65535 before u)
+    pub nodes-next : count (getD ns i []) ≤ 31 → storedStart before (count (getD ns i [])) ≤ 65535 → checkNodes count place before (drop i ns) ≡ checkNodes count (place + 1) (before + count (getD ns i [])) (drop (i + 1) ns)
+    nodes-next t u = nodes-open ∙ rw (le-ltb 31 (count (getD ns i [])) t, le-ltb 65535 (storedStart before (count (getD ns i []))) u)
 
     junctions-open : checkJunctions count place before (drop i ns)
         ≡ unless (ltb 65535 before) (Refused 10 place) (checkJunctions count (place + 1) (before + count (getD ns i [])) (drop (i + 1) ns))
@@ -54,11 +55,11 @@ module _ (count : List ℕ → ℕ) (ns : List (List ℕ)) (place before i : ℕ
 
     -- what was accepted from here on: this node is no cause, and the rest is accepted
     pub nodes-inside : accepted (checkNodes count place before (drop i ns)) ≡ true
-        → (count (getD ns i []) ≤ 31) × (before ≤ 65535) × (accepted (checkNodes count (place + 1) (before + count (getD ns i [])) (drop (i + 1) ns)) ≡ true)
+        → (count (getD ns i []) ≤ 31) × (storedStart before (count (getD ns i [])) ≤ 65535) × (accepted (checkNodes count (place + 1) (before + count (getD ns i [])) (drop (i + 1) ns)) ≡ true)
     nodes-inside e =
         let rest = checkNodes count (place + 1) (before + count (getD ns i [])) (drop (i + 1) ns) in
-        let a = unless-accepted (ltb 31 (count (getD ns i []))) 8 place (unless (ltb 65535 before) (Refused 9 place) rest) (ap accepted (sym nodes-open) ∙ e) in
-        let b = unless-accepted (ltb 65535 before) 9 place rest (a .1) in
+        let a = unless-accepted (ltb 31 (count (getD ns i []))) 8 place (unless (startOver before (count (getD ns i []))) (Refused 9 place) rest) (ap accepted (sym nodes-open) ∙ e) in
+        let b = unless-accepted (startOver before (count (getD ns i []))) 9 place rest (a .1) in
         (ltb-false _ _ (a .0), ltb-false _ _ (b .0), b .1)
 
     pub junctions-inside : accepted (checkJunctions count place before (drop i ns)) ≡ true

@@ -9,12 +9,9 @@ use lib.Dec.{ltb}
 use lib.ListN.{length, getD, take, length-append}
 use borrow.Author.Tests.{le-ltb, ltb-false}
 use Rattle.records.specs.Sections.{located, bytesOf}
-use Rattle.records.specs.Root.{rootOf}
 use Rattle.records.specs.Records.{nodeAt, nodeBytes, junctionAt, junctionBytes}
 use Rattle.records.specs.Put.{joined}
-use Rattle.records.specs.Layout.{headerSize, headerBytes, lay, sectionBytes}
 use Rattle.records.proofs.RecordBack.{node-back, node-length, junction-back, junction-length}
-use Rattle.records.proofs.Laid.{header-length}
 use Rattle.records.specs.declared.section.Part.{Part}
 use Rattle.records.specs.declared.section.Located.{Located}
 use Rattle.records.specs.declared.root.Root.{Root}
@@ -22,12 +19,12 @@ use Rattle.numbers.specs.declared.answer.Answer.{Answer}
 use Rattle.numbers.specs.declared.answer.Answer.the-variants.{Done, Refused}
 use Rattle.cells.specs.Lists.{sumTo}
 use Rattle.cells.specs.Words.{toNode, toJunction}
-use Rattle.cells.specs.Checks.{refuseIf, sizesCheck, opened, arraysFound, scan, linksAt, valuesAt, badNode, badJunction, refuseMore, after, nodesScan, junctionsScan, countsOf, arraysCheck}
+use Rattle.cells.specs.Checks.{rootRead, refuseIf, tooFew, sizesCheck, opened, arraysFound, scan, linksAt, valuesAt, badNode, badJunction, refuseMore, after, nodesScan, junctionsScan, countsOf, arraysCheck}
 use Rattle.cells.specs.Memory.{Memory, Left, unless, short}
 use Rattle.cells.specs.Read.{filled, roomCheck, ifHeld, ifFound, readArrays, readOf}
-use Rattle.cells.specs.Entries.{linksIn, valuesIn, fileNode, fileJunction}
+use Rattle.cells.specs.Entries.{linksIn, valuesIn, storedStart, fileNode, fileJunction}
 use Rattle.cells.specs.WriteChecks.{accepted, checkNodes, checkJunctions}
-use Rattle.cells.specs.Blocks.{refsBlock, heightsBlock, junctionRecord, junctionsBlock, nodeRecord, linksBlock, nodesBlock, blocks, rootFor, written}
+use Rattle.cells.specs.Blocks.{refsBlock, heightsBlock, junctionRecord, junctionsBlock, nodeRecord, linksBlock, nodesBlock, written}
 use Rattle.cells.specs.Write.{held, writeCall}
 use Rattle.cells.specs.WriteRead.{ifRead, ifWritten, writeReadOf}
 use Rattle.cells.specs.BackCheck.{then, areaAt, lacks, backCounts, lengths, backTests, backCheck}
@@ -37,10 +34,11 @@ use Rattle.cells.specs.declared.count.Counted.{Counted}
 use Rattle.cells.specs.declared.count.Counted.the-variants as counted
 use Rattle.cells.specs.declared.write.Written.{Written}
 use Rattle.cells.specs.declared.write.Written.the-variants as written
+use Rattle.cells.proofs.Writing.Starts.{start-most}
 use Rattle.cells.proofs.Sequences.Joined.{laid-at}
 use Rattle.cells.proofs.Writing.BlockLaws.{nodes-length, links-length, junctions-length, refs-length}
-use Rattle.cells.proofs.WritingBack.BlocksBack.{nodes-ok, junctions-ok, stands-at, node-in, junction-in}
-use Rattle.cells.proofs.WritingBack.SectionBack.{root-read, nodes-here, links-here, junctions-here, heights-here, refs-here}
+use Rattle.cells.proofs.WritingBack.BlocksBack.{junctions-ok, stands-at, junction-in, startOf, node-record}
+use Rattle.cells.proofs.WritingBack.SectionBack.{long-enough, root-read, nodes-here, links-here, junctions-here, heights-here, refs-here}
 use Rattle.cells.proofs.WritingBack.WrittenBack.{Told, write-told}
 
 -- ---- scans and sums
@@ -82,26 +80,16 @@ module _ (links nodes : List (List ℕ)) (ok : accepted (checkNodes (λ n. lengt
   abbrev block : List ℕ
   block = nodesBlock links nodes
 
-  node-record : (i : ℕ) → i < length nodes → nodeAt block (i * 40) ≡ fileNode (length (joined (linksIn links) (take i nodes))) (length (linksIn links (getD nodes i []))) (toNode (getD nodes i []))
-  node-record i lt =
-      let w = getD nodes i [] in
-      let count = length (linksIn links w) in
-      let start = length (joined (linksIn links) (take i nodes)) in
-      let c = nodes-ok (linksIn links) 0 0 nodes i ok lt in
-      node-back (fileNode start count (toNode w)) (node-in start count w (omega (arith, c .1)) (c .0)) block (i * 40)
-      (stands-at block (nodeBytes (fileNode start count (toNode w))) 40 i (node-length (fileNode start count (toNode w)))
-      (laid-at (linksIn links) (nodeRecord links) 40 (λ s n. node-length (fileNode s (length (linksIn links n)) (toNode n))) 0 nodes i [] lt ∙ ap (λ (s : ℕ). nodeBytes (fileNode s count (toNode w))) (zero-add start)))
-
   count-at : (i : ℕ) → i < length nodes → linksAt block i ≡ length (linksIn links (getD nodes i []))
   unfolding fileNode toNode
-  count-at i lt = ap (λ r. r .«link_count_flags» / 8) (node-record i lt) ∙ high (length (linksIn links (getD nodes i []))) (getD (getD nodes i []) 6 0 / 256 % 256)
+  count-at i lt = ap (λ r. r .«link_count_flags» / 8) (node-record links nodes ok i lt) ∙ high (length (linksIn links (getD nodes i []))) (getD (getD nodes i []) 6 0 / 256 % 256)
     where
       high : (c f : ℕ) → (c * 8 + f % 8) / 8 ≡ c
       high c f = omega arith
 
-  start-at : (i : ℕ) → i < length nodes → nodeAt block (i * 40) .«link_id» ≡ length (joined (linksIn links) (take i nodes))
+  start-at : (i : ℕ) → i < length nodes → nodeAt block (i * 40) .«link_id» ≡ startOf links nodes i
   unfolding fileNode
-  start-at i lt = ap (λ r. r .«link_id») (node-record i lt)
+  start-at i lt = ap (λ r. r .«link_id») (node-record links nodes ok i lt)
 
   size : length block / 40 ≡ length nodes
   size = omega (arith, nodes-length links nodes)
@@ -112,7 +100,7 @@ module _ (links nodes : List (List ℕ)) (ok : accepted (checkNodes (λ n. lengt
       ∙ scan-same 4 (badNode block (length (linksBlock links nodes) / 8)) (λ j. false) 0 (length nodes)
       (λ i h. let lt : i < length nodes = omega arith in
       le-ltb (length (linksBlock links nodes) / 8) (nodeAt block (i * 40) .«link_id» + linksAt block i)
-      (let q : nodeAt block (i * 40) .«link_id» + linksAt block i ≤ length (linksBlock links nodes) / 8 = omega (arith, start-at i lt, count-at i lt, part-ends (linksIn links) nodes i [] lt, links-length links nodes) in q))
+      (let q : nodeAt block (i * 40) .«link_id» + linksAt block i ≤ length (linksBlock links nodes) / 8 = omega (arith, start-at i lt, start-most (length (joined (linksIn links) (take i nodes))) (length (linksIn links (getD nodes i []))), count-at i lt, part-ends (linksIn links) nodes i [] lt, links-length links nodes) in q))
       ∙ scan-none 4 0 (length nodes)
 
   pub links-sum : sumTo (linksAt block) (length block / 40) ≡ length (joined (linksIn links) nodes)
@@ -205,12 +193,8 @@ module _ (h : Memory) (told : Told h) (m : Memory) where
 
 -- ---- from the section
 
--- the section is long enough for a root
-long-enough : (h : Memory) → 112 ≤ length (written h)
-unfolding written sectionBytes
-long-enough h =
-    let r = rootFor h (map length (blocks h)) in
-    omega (arith, length-append (headerBytes r) (lay headerSize (blocks h)), header-length r)
+not-few : (h : Memory) → tooFew (length (written h)) ≡ false
+not-few h = le-ltb (length (written h)) 112 (long-enough h)
 
 -- reading back, after an accepted writing
 pub read-back-done : (h m : Memory) → Told h → readOf (written h) [] m .answer ≡ backCheck h (lengths m)
@@ -221,7 +205,7 @@ read-back-done h m told = go (ltb 16777216 (length (written h))) refl
     w = written h
 
     reading : Part → Part → Part → Part → Part → Left
-    reading n l j t r = readArrays (rootOf w) (bytesOf n w []) (bytesOf l w []) (bytesOf j w []) (bytesOf t w []) (bytesOf r w []) m
+    reading n l j t r = readArrays (rootRead w) (bytesOf n w []) (bytesOf l w []) (bytesOf j w []) (bytesOf t w []) (bytesOf r w []) m
 
     by : Located → Located → Located → Located → Located → Left
     by a b c d f =
@@ -237,7 +221,7 @@ read-back-done h m told = go (ltb 16777216 (length (written h))) refl
         by (located (r .nodes) (r .«node_count») 40 (length w) 0) (located (r .links) (r .«link_count») 8 (length w) 0) (located (r .junctions) (r .«junction_count») 12 (length w) 0)
         (located (r .heightmap) (r .«heightmap_count») 1 (length w) 0) (located (r .refs) (r .«ref_count») 8 (length w) 0)
 
-    found-all : length w ≤ 16777216 → parts (rootOf w) .answer ≡ after-sizes
+    found-all : length w ≤ 16777216 → parts (rootRead w) .answer ≡ after-sizes
     found-all q =
         let a = nodes-here h (told .refs-told) q in
         let b = links-here h (told .refs-told) q in
@@ -246,13 +230,13 @@ read-back-done h m told = go (ltb 16777216 (length (written h))) refl
         let f = refs-here h (told .refs-told) q in
         ap (λ (r : Root). parts r .answer) (root-read h (told .refs-told) q)
         ∙ (λ i. by (a .is-at i) (b .is-at i) (c .is-at i) (d .is-at i) (f .is-at i) .answer)
-        ∙ (λ i. readArrays (rootOf w) (a .bytes i) (b .bytes i) (c .bytes i) (d .bytes i) (f .bytes i) m .answer)
-        ∙ arrays-done h told m (rootOf w)
+        ∙ (λ i. readArrays (rootRead w) (a .bytes i) (b .bytes i) (c .bytes i) (d .bytes i) (f .bytes i) m .answer)
+        ∙ arrays-done h told m (rootRead w)
 
     go : (big : Bool) → ltb 16777216 (length w) ≡ big
-        → unless (refuseIf big 2 0 (refuseIf (ltb 16777216 0) 2 1 (refuseIf (ltb (length w) 112) 1 0 Done))) m (parts (rootOf w)) .answer ≡ refuseIf big 2 0 after-sizes
+        → unless (refuseIf big 2 0 (refuseIf (ltb 16777216 0) 2 1 (refuseIf (tooFew (length w)) 1 0 Done))) m (parts (rootRead w)) .answer ≡ refuseIf big 2 0 after-sizes
     go true e = refl
-    go false e = rw (le-ltb (length w) 112 (long-enough h)) (found-all (ltb-false 16777216 (length w) e))
+    go false e = rw (not-few h) (found-all (ltb-false 16777216 (length w) e))
 
 -- so write-then-read may test first, and write only what will be read back
 pub tested-first : (m : Memory) (s : List ℕ) (n : ℕ) → writeCall m s .answer ≡ written.Wrote n

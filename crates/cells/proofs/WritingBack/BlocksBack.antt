@@ -26,13 +26,14 @@ use Rattle.cells.specs.NodeAccess.{changed}
 use Rattle.cells.specs.CellOf.{marksOf}
 use Rattle.cells.specs.FileCell.{fileLinkOf, fileRefOf, fileBody, fileNodeOf, fileJunctionOf, fileNodes, fileJunctions, fileRefs}
 use Rattle.cells.proofs.WritingBack.KeptCells.{keptStep, keptLink, keptBody, keptNode, isByte, keptJunction, keptRef}
-use Rattle.cells.specs.Entries.{linksIn, valuesIn, fileNode, fileLink, fileJunction}
-use Rattle.cells.specs.WriteChecks.{accepted, checkNodes, checkJunctions}
+use Rattle.cells.specs.Entries.{linksIn, valuesIn, storedStart, fileNode, fileLink, fileJunction}
+use Rattle.cells.specs.WriteChecks.{accepted, startOver, checkNodes, checkJunctions}
 use Rattle.cells.specs.Blocks.{linkRecord, refRecord, junctionRecord, nodeRecord, refsBlock, heightsBlock, junctionsBlock, linksBlock, nodesBlock}
 use Rattle.cells.proofs.Sequences.Tests.{and-left, and-right, by-test, every-at, true-false, map-take, map-drop}
 use Rattle.cells.proofs.Reading.FileRead.{upTo-same}
+use Rattle.cells.proofs.Writing.Starts.{start-some}
 use Rattle.cells.proofs.Sequences.Joined.{joined-at, laid-at, part-back, joined-joined}
-use Rattle.cells.proofs.Writing.BlockLaws.{nodes-length, junctions-length, refs-length}
+use Rattle.cells.proofs.Writing.BlockLaws.{record-length, nodes-length, junctions-length, refs-length}
 
 -- ---- lists by place
 
@@ -57,22 +58,25 @@ no-true : {P : Type 0} → false ≡ true → P
 no-true e = true-false (sym e)
 
 pub nodes-ok : {B : Type 0} (f : List ℕ → List B) (place before : ℕ) (ns : List (List ℕ)) (i : ℕ) → accepted (checkNodes (λ n. length (f n)) place before ns) ≡ true → i < length ns
-    → (length (f (getD ns i [])) ≤ 31) × (before + length (joined f (take i ns)) ≤ 65535)
+    → (length (f (getD ns i [])) ≤ 31) × (storedStart (before + length (joined f (take i ns))) (length (f (getD ns i []))) ≤ 65535)
 unfolding checkNodes joined
 nodes-ok f place before [] i e lt = absurd (omega arith)
 nodes-ok f place before (n ∷ ns) i e lt =
     by-test (ltb 31 (length (f n))) (λ t. no-true (rw t at e)) (λ u.
-    by-test (ltb 65535 before) (λ t. no-true (rw (u, t) at e)) (λ v. go i (λ j d q. nodes-ok f (place + 1) (before + length (f n)) ns j d q) lt (ltb-false _ _ u) (ltb-false _ _ v) (rw (u, v) at e)))
+    by-test (startOver before (length (f n))) (λ t. no-true (rw (u, t) at e)) (λ v. go i (λ j d q. nodes-ok f (place + 1) (before + length (f n)) ns j d q) lt (ltb-false _ _ u) (ltb-false _ _ v) (rw (u, v) at e)))
   where
     go : (i : ℕ)
         → ((j : ℕ) → accepted (checkNodes (λ n. length (f n)) (place + 1) (before + length (f n)) ns) ≡ true → j < length ns
-        → (length (f (getD ns j [])) ≤ 31) × (before + length (f n) + length (joined f (take j ns)) ≤ 65535))
-        → i < suc (length ns) → length (f n) ≤ 31 → before ≤ 65535 → accepted (checkNodes (λ n. length (f n)) (place + 1) (before + length (f n)) ns) ≡ true
-        → (length (f (getD (n ∷ ns) i [])) ≤ 31) × (before + length (joined f (take i (n ∷ ns))) ≤ 65535)
-    go zero ih lt few low d = (few, omega arith)
+        → (length (f (getD ns j [])) ≤ 31) × (storedStart (before + length (f n) + length (joined f (take j ns))) (length (f (getD ns j []))) ≤ 65535))
+        → i < suc (length ns) → length (f n) ≤ 31 → storedStart before (length (f n)) ≤ 65535 → accepted (checkNodes (λ n. length (f n)) (place + 1) (before + length (f n)) ns) ≡ true
+        → (length (f (getD (n ∷ ns) i [])) ≤ 31) × (storedStart (before + length (joined f (take i (n ∷ ns)))) (length (f (getD (n ∷ ns) i []))) ≤ 65535)
+    go zero ih lt few low d =
+        let z : before + 0 ≡ before = omega arith in
+        (few, omega (arith, low, ap (λ (b : ℕ). storedStart b (length (f n))) z))
     go (suc i) ih lt few low d =
         let r = ih i d (omega arith) in
-        (r .0, omega (arith, r .1, length-append (f n) (joined f (take i ns))))
+        let z : before + length (f n ++ joined f (take i ns)) ≡ before + length (f n) + length (joined f (take i ns)) = omega (arith, length-append (f n) (joined f (take i ns))) in
+        (r .0, omega (arith, r .1, ap (λ (b : ℕ). storedStart b (length (f (getD ns i [])))) z))
 
 pub junctions-ok : {B : Type 0} (f : List ℕ → List B) (place before : ℕ) (ns : List (List ℕ)) (i : ℕ) → accepted (checkJunctions (λ n. length (f n)) place before ns) ≡ true → i < length ns
     → before + length (joined f (take i ns)) ≤ 65535
@@ -157,6 +161,17 @@ module _ (links nodes : List (List ℕ)) where
       link-entry (at k) (part-in (linksIn links) nodes i [] [] lt k h) (ap (λ (w : List ℕ). keptLink (linkOf w)) e ∙ kept-at keptLink linkOf own k [] t h) ∙ ap linkOf e)
       ∙ upTo-all linkOf own []
 
+  -- a node without links has none to look up, so that its start does not matter
+  links-stored : (i : ℕ) → i < length nodes → every keptLink (map linkOf (linksIn links (getD nodes i []))) ≡ true
+      → upTo (λ k. fileLinkOf (linkAt (linksBlock links nodes) ((storedStart (length (joined (linksIn links) (take i nodes))) (length (linksIn links (getD nodes i []))) + k) * 8))) (length (linksIn links (getD nodes i [])))
+      ≡ map linkOf (linksIn links (getD nodes i []))
+  links-stored i lt t =
+      let count = length (linksIn links (getD nodes i [])) in
+      let before = length (joined (linksIn links) (take i nodes)) in
+      upTo-same (λ k. fileLinkOf (linkAt (linksBlock links nodes) ((storedStart before count + k) * 8))) (λ k. fileLinkOf (linkAt (linksBlock links nodes) ((before + k) * 8))) count
+      (λ k h. ap (λ (b : ℕ). fileLinkOf (linkAt (linksBlock links nodes) ((b + k) * 8))) (start-some before count (omega arith)))
+      ∙ links-entry i lt t
+
 -- ---- nodes
 
 body-back : (start count : ℕ) (w : List ℕ) → keptBody (bodyOf w) ≡ true → fileBody (fileNode start count (toNode w)) ≡ bodyOf w
@@ -197,6 +212,27 @@ node-in start count w h few = record {
   flags4 = omega arith;
 }
 
+-- where the record says that the links of node i start
+abbrev pub startOf : List (List ℕ) → List (List ℕ) → ℕ → ℕ
+startOf links nodes i = storedStart (length (joined (linksIn links) (take i nodes))) (length (linksIn links (getD nodes i [])))
+
+-- the record of node i, read back
+pub node-record : (links nodes : List (List ℕ)) → accepted (checkNodes (λ n. length (linksIn links n)) 0 0 nodes) ≡ true
+    → (i : ℕ) → i < length nodes
+    → nodeAt (nodesBlock links nodes) (i * 40)
+    ≡ fileNode (startOf links nodes i) (length (linksIn links (getD nodes i []))) (toNode (getD nodes i []))
+node-record links nodes ok i lt =
+    let w = getD nodes i [] in
+    let count = length (linksIn links w) in
+    let before = length (joined (linksIn links) (take i nodes)) in
+    let block = nodesBlock links nodes in
+    let f = fileNode (storedStart before count) count (toNode w) in
+    let from : storedStart (0 + before) count ≡ storedStart before count = ap (λ (b : ℕ). storedStart b count) (zero-add before) in
+    let c = nodes-ok (linksIn links) 0 0 nodes i ok lt in
+    node-back f (node-in (storedStart before count) count w (omega (arith, c .1, from)) (c .0)) block (i * 40)
+    (stands-at block (nodeRecord links before w) 40 i (record-length links before w)
+    (laid-at (linksIn links) (nodeRecord links) 40 (record-length links) 0 nodes i [] lt ∙ ap (λ (b : ℕ). nodeRecord links b w) (zero-add before)))
+
 module _ (links nodes : List (List ℕ)) (ok : accepted (checkNodes (λ n. length (linksIn links n)) 0 0 nodes) ≡ true) (t : every keptNode (map (nodeWith (map linkOf links)) nodes) ≡ true) where
   abbrev block : List ℕ
   block = nodesBlock links nodes
@@ -206,19 +242,16 @@ module _ (links nodes : List (List ℕ)) (ok : accepted (checkNodes (λ n. lengt
   node-entry i lt =
       let w = getD nodes i [] in
       let count = length (linksIn links w) in
-      let start = length (joined (linksIn links) (take i nodes)) in
-      let c = nodes-ok (linksIn links) 0 0 nodes i ok lt in
+      let start = startOf links nodes i in
       let k : keptNode (nodeWith (map linkOf links) w) ≡ true = kept-at keptNode (nodeWith (map linkOf links)) nodes i [] t lt in
-      let zero-start : 0 + start ≡ start = zero-add start in
       let same : take (getD w 6 0 / 65536 % 256) (drop (getD w 7 0) (map linkOf links)) ≡ map linkOf (linksIn links w) =
       ap (take (getD w 6 0 / 65536 % 256)) (map-drop linkOf (getD w 7 0) links) ∙ map-take linkOf (getD w 6 0 / 65536 % 256) (drop (getD w 7 0) links) in
       let kl : every keptLink (map linkOf (linksIn links w)) ≡ true = ap (every keptLink) (sym same) ∙ and-right (keptBody (bodyOf w)) _ k in
-      let bytes = laid-at (linksIn links) (nodeRecord links) 40 (λ s n. node-length (fileNode s (length (linksIn links n)) (toNode n))) 0 nodes i [] lt ∙ ap (λ (s : ℕ). nodeBytes (fileNode s count (toNode w))) zero-start in
-      ap (fileNodeOf (linksBlock links nodes)) (node-back (fileNode start count (toNode w)) (node-in start count w (omega (arith, c .1)) (c .0)) block (i * 40) (stands-at block (nodeBytes (fileNode start count (toNode w))) 40 i (node-length (fileNode start count (toNode w))) bytes))
+      ap (fileNodeOf (linksBlock links nodes)) (node-record links nodes ok i lt)
       ∙ (λ j. record {
         area = getD w 0 0 % 65536;
         number = getD w 0 0 / 65536 % 65536;
-        links = (ap (upTo (λ q. fileLinkOf (linkAt (linksBlock links nodes) ((start + q) * 8)))) (high count (getD w 6 0 / 256 % 256)) ∙ links-entry links nodes i lt kl ∙ sym same) j;
+        links = (ap (upTo (λ q. fileLinkOf (linkAt (linksBlock links nodes) ((start + q) * 8)))) (high count (getD w 6 0 / 256 % 256)) ∙ links-stored links nodes i lt kl ∙ sym same) j;
         body = body-back start count w (and-left _ _ k) j;
       })
     where

@@ -5,22 +5,31 @@ use mathlib.Core.Path.{_≡_, refl, sym, ap, _∙_}
 use mathlib.Core.Bool.{Bool, true, false, cond}
 use mathlib.Core.List.{List, [], _∷_, _++_, map, append-nil}
 use lib.Dec.{eqb}
-use lib.ListN.{length, getD}
+use lib.ListN.{length, getD, length-append}
 use Rattle.records.specs.Bytes.{numberBytes, bytes16, bytes32, bytes64}
 use Rattle.records.specs.Put.{joined}
 use Rattle.records.specs.Sections.{located, bytesOf, partBytes, arrayAt}
 use Rattle.records.specs.Root.{rootOf, rootBytes, pagesAddress}
-use Rattle.records.specs.Layout.{headerSize, headerBytes, offset, address, placesOf, sectionBytes}
+use Rattle.records.specs.Layout.{headerSize, headerBytes, lay, offset, address, placesOf, sectionBytes}
 use Rattle.records.specs.declared.root.Root.{Root}
 use Rattle.records.specs.declared.section.Part.{Part}
 use Rattle.records.specs.declared.section.Located.{Located}
 use Rattle.records.specs.declared.section.Located.the-variants.{At}
+use Rattle.records.proofs.Laid.{header-length}
 use Rattle.records.proofs.RootBack.{RootFits}
 use Rattle.records.proofs.SectionBack as section
+use Rattle.cells.specs.Checks.{rootRead}
 use Rattle.cells.specs.Memory.{Memory}
 use Rattle.cells.specs.Entries.{linksIn}
 use Rattle.cells.specs.Blocks.{refsBlock, heightsBlock, junctionsBlock, linksBlock, nodesBlock, arrays, blocks, rootFor, written}
 use Rattle.cells.proofs.Writing.BlockLaws.{nodes-length, links-length, junctions-length, refs-length}
+
+-- the section is long enough for a root
+pub long-enough : (h : Memory) → 112 ≤ length (written h)
+unfolding written sectionBytes
+long-enough h =
+    let r = rootFor h (map length (blocks h)) in
+    omega (arith, length-append (headerBytes r) (lay headerSize (blocks h)), header-length r)
 
 -- ---- the root's own words are stored in 32 bits
 
@@ -159,9 +168,9 @@ module _ (h : Memory) (few : length (h .refs) ≤ 65535) (small : length (writte
         seven = refl;
       }
 
-  pub root-read : rootOf (written h) ≡ storedRoot root
+  pub root-read : rootRead (written h) ≡ storedRoot root
   unfolding written
-  root-read = ap rootOf (same-section root (blocks h) ∙ sym (append-nil (sectionBytes (storedRoot root) (blocks h)))) ∙ section.root-in (storedRoot root) (blocks h) [] root-in
+  root-read = ap rootRead (same-section root (blocks h) ∙ sym (append-nil (sectionBytes (storedRoot root) (blocks h)))) ∙ section.root-in (storedRoot root) (blocks h) [] root-in
 
   pub nodes-here : Here (root .nodes) (root .«node_count») 40 (written h) (nodesBlock (h .links) (h .nodes))
   unfolding rootFor placesOf arrays

@@ -8,13 +8,12 @@ use lib.Dec.{eqb, ltb}
 use lib.ListN.{length, take, drop}
 use lib.Seq.{take-append-seam}
 use borrow.Author.Tests.{eqb-true, ltb-true, ltb-false}
-use Rattle.records.specs.Root.{rootOf}
 use Rattle.records.specs.Sections.{bytesOf}
 use Rattle.records.specs.declared.root.Root.{Root}
 use Rattle.numbers.specs.declared.answer.Answer.{Answer}
 use Rattle.numbers.specs.declared.answer.Answer.the-variants as answer
 use Rattle.cells.specs.Lists.{every}
-use Rattle.cells.specs.Checks.{sizesCheck, arraysFound}
+use Rattle.cells.specs.Checks.{rootRead, sizesCheck, arraysFound}
 use Rattle.cells.specs.Memory.{Memory, unless, short}
 use Rattle.cells.specs.Read.{ifFound, readArrays, readOf}
 use Rattle.cells.specs.Cell.{Cell}
@@ -183,7 +182,7 @@ unfolding readOf
 read-few s g m e = go (sizesCheck (length s) (length g)) refl e
   where
     go : (c : Answer) → sizesCheck (length s) (length g) ≡ c
-        → unless c m (ifFound (arraysFound (rootOf s) (length s) (length g)) m λ n l j h r. readArrays (rootOf s) (bytesOf n s g) (bytesOf l s g) (bytesOf j s g) (bytesOf h s g) (bytesOf r s g) m) .answer ≡ answer.Done
+        → unless c m (ifFound (arraysFound (rootRead s) (length s) (length g)) m λ n l j h r. readArrays (rootRead s) (bytesOf n s g) (bytesOf l s g) (bytesOf j s g) (bytesOf h s g) (bytesOf r s g) m) .answer ≡ answer.Done
         → length s ≤ 16777216
     go (answer.Refused a b) d t = let z : _≡_ {A = ℕ} 0 1 = cc in absurd (omega arith)
     go answer.Done d t = small (length s) (length g) d .0

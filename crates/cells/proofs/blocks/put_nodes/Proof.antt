@@ -6,9 +6,9 @@ use mathlib.Core.List.{[]}
 use lib.ListN.{length, getD, drop}
 use Rattle.records.specs.Put.{put}
 use Rattle.records.specs.Records.{nodeBytes}
-use Rattle.records.proofs.RecordBack.{node-length}
+use Rattle.cells.proofs.Writing.BlockLaws.{record-length}
 use Rattle.cells.specs.Words.{toNode}
-use Rattle.cells.specs.Entries.{linksIn, fileNode}
+use Rattle.cells.specs.Entries.{linksIn, storedStart, fileNode}
 use Rattle.cells.specs.WriteChecks.{linksWithin, accepted, checkNodes}
 use Rattle.cells.specs.Blocks.{laid, nodeRecord, nodesBlock}
 use Rattle.cells.proofs.Writing.CheckTurns.{nodes-inside}
@@ -27,7 +27,7 @@ Inv-loop section₀ at nodes links before₀ i₀ section before i =
 abbrev μ-loop : tie.MeasureT-loop
 μ-loop section₀ at nodes links before₀ i₀ section before i = length nodes - i
 
-open-turn : (c : tie.In-loop Inv-loop μ-loop) → (linksWithin (length (c .before .before .before .args .links .now)) (getD (c .before .before .before .args .nodes .now) (c .before .loop .i) []) ≤ 31) × (c .before .loop .before ≤ 65535)
+open-turn : (c : tie.In-loop Inv-loop μ-loop) → (linksWithin (length (c .before .before .before .args .links .now)) (getD (c .before .before .before .args .nodes .now) (c .before .loop .i) []) ≤ 31) × (storedStart (c .before .loop .before) (linksWithin (length (c .before .before .before .args .links .now)) (getD (c .before .before .before .args .nodes .now) (c .before .loop .i) [])) ≤ 65535)
     × (accepted (checkNodes (linksWithin (length (c .before .before .before .args .links .now))) (c .before .loop .i + 1) (c .before .loop .before + linksWithin (length (c .before .before .before .args .links .now)) (getD (c .before .before .before .args .nodes .now) (c .before .loop .i) [])) (drop (c .before .loop .i + 1) (c .before .before .before .args .nodes .now))) ≡ true)
 open-turn c =
     let at-loop = c .before in
@@ -77,13 +77,13 @@ loop-again c =
     let e = after-links-within .links-within .ensures in
     let n = getD ns (l .i) [] in
     let longer = e ∙ sym (link-count ls n) in
-    let size = node-length (fileNode (l .before) (length (linksIn ls n)) (toNode n)) in (
+    let size = record-length ls (l .before) n in (
       omega arith,
       omega (arith, f .kept),
       ap (λ (k : ℕ). accepted (checkNodes (linksWithin (length ls)) (l .i + 1) (l .before + k) (drop (l .i + 1) ns))) e ∙ (open-turn in-loop) .2,
       ap (λ (k : ℕ). put (f .last .0) (a .at + 40 * (l .i + 1)) (laid (linksIn ls) (nodeRecord ls) (l .before + k) (drop (l .i + 1) ns))) longer
           ∙ laid-turn (linksIn ls) (nodeRecord ls) (a .section .now) (l .section) _ (nodesBlock ls ns) (a .at) (a .at + 40 * l .i) (a .at + 40 * (l .i + 1)) (l .before) ns (l .i) [] (omega arith) (l .inv .3)
-          (put-inside (l .section) _ (nodeRecord ls (l .before) n) _ (a .at + 40 * l .i) (f .ensures) (after-node-record .node-record .ensures ∙ ap (λ (k : ℕ). nodeBytes (fileNode (l .before) k (toNode n))) longer) (omega (arith, size)))
+          (put-inside (l .section) _ (nodeRecord ls (l .before) n) _ (a .at + 40 * l .i) (f .ensures) (after-node-record .node-record .ensures ∙ ap (λ (k : ℕ). nodeBytes (fileNode (storedStart (l .before) k) k (toNode n))) longer) (omega (arith, size)))
           (omega (arith, size)) (omega arith),
     )
 
