@@ -1,5 +1,5 @@
-// The library's calls as a caller has them: each function is one call, its contract the call's own definition.
-// The edits of must-fail/ put a worthless body under the unchanged contract (document 01, "Contracts and their sham rivals").
+// The library's calls as a caller has them: each function is one call, its contract the call's own definition. The
+// edits of must-fail/ put a worthless body under the unchanged contract (document 01, "Contracts and their sham rivals").
 ghost use mathlib.Core.Path.{_≡_};
 ghost use lib.ListN.{length};
 ghost use Rattle.cells.specs.Memory.{memory, left};
@@ -15,6 +15,8 @@ use cells::ynd::Outcome;
 use cells::ynd::Ynd;
 use numbers::answer::Answer;
 
+pub mod controls;
+
 // Reading.
 pub fn reads<'a>(
     ynd: Ynd,
@@ -26,9 +28,11 @@ pub fn reads<'a>(
     heights: &mut [u8],
     refs: &mut [RefWords],
 ) -> Outcome
-    ensures { λ a. ⌜ left a (now (nodes .exit)) (now (links .exit)) (now (junctions .exit)) (now (heights .exit)) (now (refs .exit))
+    ensures { λ a. ⌜ left a (now (nodes .exit)) (now (links .exit)) (now (junctions .exit)) (now (heights .exit))
+        (now (refs .exit))
         ≡ readOf (now (system .entry)) (now (graphics .entry))
-        (memory ynd (now (nodes .entry)) (now (links .entry)) (now (junctions .entry)) (now (heights .entry)) (now (refs .entry))) ⌝ }
+        (memory ynd (now (nodes .entry)) (now (links .entry)) (now (junctions .entry)) (now (heights .entry))
+        (now (refs .entry))) ⌝ }
 {
     cells::read::read(
         ynd,
@@ -53,8 +57,12 @@ pub fn renumbers(
     scratch: &mut [u32],
     places: &mut [u32],
 ) -> Outcome
-    ensures { λ r. ⌜ renumberedBy r (now (nodes .exit)) (now (links .exit)) (now (junctions .entry)) (now (heights .entry)) (now (refs .exit)) (now (places .exit))
-        ≡ renumber (memory ynd (now (nodes .entry)) (now (links .entry)) (now (junctions .entry)) (now (heights .entry)) (now (refs .entry))) (length (now (scratch .entry))) (now (places .entry)) ⌝ }
+    ensures { λ r. ⌜ renumberedBy r (now (nodes .exit)) (now (links .exit)) (now (junctions .entry))
+        (now (heights .entry)) (now (refs .exit)) (now (places .exit))
+        ≡ renumber
+        (memory ynd (now (nodes .entry)) (now (links .entry)) (now (junctions .entry)) (now (heights .entry))
+        (now (refs .entry)))
+        (length (now (scratch .entry))) (now (places .entry)) ⌝ }
 {
     cells::renumber::recalculate_node_indices(
         ynd,
@@ -79,7 +87,10 @@ pub fn writes(
     section: &mut [u8],
 ) -> Written
     ensures { λ w. ⌜ writeLeft w (now (section .exit))
-        ≡ writeCall (memory ynd (now (nodes .entry)) (now (links .entry)) (now (junctions .entry)) (now (heights .entry)) (now (refs .entry))) (now (section .entry)) ⌝ }
+        ≡ writeCall
+        (memory ynd (now (nodes .entry)) (now (links .entry)) (now (junctions .entry)) (now (heights .entry))
+        (now (refs .entry)))
+        (now (section .entry)) ⌝ }
 {
     cells::write::write(ynd, nodes, links, junctions, heights, refs, section)
 }
