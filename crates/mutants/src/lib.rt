@@ -1,5 +1,6 @@
 // The library's calls as a caller has them: each function is one call, its contract the call's own definition. The
-// edits of must-fail/ put a worthless body under the unchanged contract (document 01, "Contracts and their sham rivals").
+// edits of must-fail/ put a worthless body under the unchanged contract (document 01, "Contracts and their sham
+// rivals").
 ghost use mathlib.Core.Path.{_≡_};
 ghost use lib.ListN.{length};
 ghost use Rattle.cells.specs.Memory.{memory, left};
