@@ -17,7 +17,7 @@ use Rattle.records.specs.Records.{nodeAt, nodeBytes, linkAt, linkBytes, junctio
 use Rattle.cells.specs.Area.{belongs, refFor}
 use Rattle.cells.specs.Lists.{upTo, joinTo, sumTo, every}
 use Rattle.cells.specs.Words.{pathNode, pathLink, pathJunction, nodeWords, linkWords, junctionWords, refWords, toNode, toLink, toJunction, toRef}
-use Rattle.cells.specs.Cell.{LinkBody, Junction, Cell}
+use Rattle.cells.specs.Cell.{LinkBody, Junction, Node, Cell, noBody}
 use Rattle.cells.specs.Cell as held-cell
 use Rattle.cells.specs.Memory.{Memory, memory, shortOf}
 use Rattle.cells.specs.CellOf.{junctionsOf, refsOf, cellOf, bodyOf, nodesOf}
@@ -27,6 +27,8 @@ use Rattle.cells.specs.Renumber.{renumber, vehicles, peds, renumberLists, recou
 use Rattle.cells.specs.WriteRead.{writeReadOf}
 use Rattle.walks.specs.Walk.{Seen, next, see, walkIn, walk}
 use Rattle.walks.specs.Calls.{Call, after, run, anyRenumbers, renumbering, write-read, renumbers, moved}
+use Rattle.walks.specs.WalkCall.{route, walkLeft, walkCall}
+use Rattle.walks.specs.declared.walk.Walked.the-variants.{Ended}
 use Rattle.walks.specs.Claim.{shown, followed, SameWalk, Unnoticed}
 use Rattle.walks.specs.declared.walk.End.the-variants.{NoLink}
 use Rattle.walks.proofs.Demand.{demand-3}
@@ -133,3 +135,33 @@ one-accepted = refl
 
 pub numbers-places : (q : ℕ) → q < length (cellOf (run first calls) .nodes) → held-cell.nodeAt (cellOf (run first calls) .nodes) q .number ≡ q
 numbers-places = on-example .numbered one-accepted
+
+-- ---- the check and the call
+
+-- one node, number 7 of area 5, without links
+abbrev alone : Node
+alone = record { area = 5; number = 7; links = []; body = noBody }
+
+-- a ref of the own area to a number that no node has
+pub ref-to-nobody : sound (record {
+  nodes = alone ∷ [];
+  junctions = [];
+  refs = record { area = 5; number = 8; junction = 0; unk0 = 0 } ∷ [];
+  vehicles = 0;
+  peds = 0;
+  vft = 0;
+  words = [];
+}) ≡ false
+unfolding sound differing firstWith every belongs
+ref-to-nobody = refl
+
+-- a visited list that is just full is enough, and a choice that is not followed visits no place
+abbrev bare : Memory
+bare =
+    memory
+    (record { vft = 0; «vehicle_node_count» = 0; «ped_node_count» = 0; unknowns = []; «node_count» = 1; «link_count» = 0; «junction_count» = 0; «heightmap_count» = 0; «ref_count» = 0 })
+    ((458757 ∷ []) ∷ []) [] [] [] []
+
+pub just-full : walkCall bare (0 ∷ []) 0 (9 ∷ []) ≡ walkLeft (Ended NoLink 1) (0 ∷ [])
+unfolding walkCall route next nodesOf
+just-full = refl
