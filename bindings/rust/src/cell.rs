@@ -142,7 +142,7 @@ impl Cell {
         Ok(section)
     }
 
-    /// Writes the cell and reads it back; returns the section. Refused as [`Cell::write`] is, and over 16,777,216 bytes (2).
+    /// Writes the cell and reads it back; returns the section. Refused as [`Cell::write`] is.
     pub fn write_then_read(&mut self) -> Result<Vec<u8>, Refusal> {
         let (mut section, mut length) = (vec![0; self.written_length()], 0);
         answered(|place| unsafe {

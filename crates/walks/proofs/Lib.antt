@@ -17,4 +17,5 @@ pub mod WalksAlike
 pub mod Demand
 pub mod WritesAlike
 pub mod Example
+pub mod ClaimFacts
 pub mod StarredPairs
