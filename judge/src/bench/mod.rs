@@ -42,6 +42,7 @@ impl Wanted {
 }
 
 pub fn bench(only: Option<String>) {
+    crate::port::lent::measure();
     let wanted = Wanted(only);
     println!("| Call | Nodes | Rust, ns | Port, ns | Ratio | Goal |");
     println!("|---|---|---|---|---|---|");

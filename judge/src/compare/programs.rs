@@ -1,13 +1,15 @@
 //! The programs as processes, where they are built: what each writes for its standard input.
 use super::files::generate;
 use super::run::Run;
-use super::{same, seen, Mismatch, Verdict, MODEL, PORT, RUST};
+use super::seen::{self, Call};
+use super::{same, Mismatch, Verdict, MODEL, PORT, RUST};
 use crate::inputs::files::File;
 use crate::inputs::limits;
 use crate::inputs::rng::Rng;
 use crate::inputs::shrink::smaller_file;
 use crate::model::{read, Answer, Refused};
 use crate::rust;
+use crate::slips;
 use crate::ynd::{area_id_from_file_name, cell_file_name, cell_for_position, cell_of_area, PathLink, PathNode};
 use std::fs;
 use std::io::Write;
@@ -68,7 +70,7 @@ fn sections() -> Vec<(String, File)> {
 fn sum(f: &File) -> Verdict {
     let model = read::count(&f.system, &[]);
     let long = f.system.len() > MOST;
-    if !long { seen::note(&model); }
+    if !long { seen::note(Call::Program, &model); }
     let expected = if long { "too long\n".into() } else { line(&model) };
     same("what cellsum writes", PORT, &written("cellsum", &f.system)?, MODEL, &(expected, true))?;
     if long || matches!(model, Err(Refused(2 | 6, _))) { return Ok(()); }
@@ -122,7 +124,7 @@ fn judged_pairs() -> String {
 /// The vectors program on the vectors that the repository has.
 fn vectors(run: &Run) {
     run.list("vectors", &[(String::new(), ())], |_| {
-        let input = fs::read("crates/vectors/stdin").unwrap_or_default();
+        let input = slips::vectors::taken(fs::read("crates/vectors/stdin").unwrap_or_default());
         let expected = fs::read_to_string("crates/vectors/stdout").unwrap_or_default();
         same("what vectors writes", PORT, &written("vectors", &input)?, MODEL, &(expected, true))
     });

@@ -19,9 +19,9 @@ pub fn any(r: &mut Rng) -> (Memory, u64) {
         m.nodes[i][6] = m.nodes[i][6] & 0xFF00_FFFF | count << 16;
         m.nodes[i][7] = if r.once_in(9) { r.u32() } else { r.below(lent[1] + 2) as u32 };
     }
-    for w in m.links.iter_mut().chain(&mut m.refs) { let [area, number] = name(r); (w[0], w[1]) = (area, number); }
-    for w in &mut m.refs { w[2] = r.below(lent[2] + 1) as u16; }
-    for w in &mut m.junctions {
+    for w in m.links.iter_mut().chain(m.refs.iter_mut()) { let [area, number] = name(r); (w[0], w[1]) = (area, number); }
+    for w in m.refs.iter_mut() { w[2] = r.below(lent[2] + 1) as u16; }
+    for w in m.junctions.iter_mut() {
         w[4] = w[4] & 0xFFFF_0000 | r.below(4) as u32 | (r.below(4) as u32) << 8;
         w[5] = if r.once_in(9) { r.u32() } else { r.below(lent[3] + 2) as u32 };
     }

@@ -74,7 +74,7 @@ fn area(r: &mut Rng, cell: &Cell) -> u16 { if r.once_in(4) { r.u16() } else { ce
 
 fn number(r: &mut Rng, cell: &Cell) -> u16 { if r.once_in(5) { r.u16() } else { r.below(cell.nodes.len() + 3) as u16 } }
 
-fn link(r: &mut Rng, cell: &Cell) -> Link {
+pub fn link(r: &mut Rng, cell: &Cell) -> Link {
     Link { area_id: area(r, cell), node_id: number(r, cell), flags: [r.u8(), r.u8(), r.u8()], length: r.u8() }
 }
 
@@ -99,7 +99,7 @@ fn turned(r: &mut Rng, cell: &Cell) -> Junction {
 }
 
 /// Now and then its values are one too few or too many.
-fn junction(r: &mut Rng) -> Junction {
+pub fn junction(r: &mut Rng) -> Junction {
     let (width, height) = (r.below(5) as u8, r.below(5) as u8);
     let right = width as usize * height as usize;
     let count = r.pick(&[right, right, right, right, right + 1, right.saturating_sub(1)]);

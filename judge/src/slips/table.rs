@@ -1,0 +1,108 @@
+//! Every slip: its name, the family that has to catch it, and what is wrong with it.
+
+#[derive(Clone, Copy, PartialEq, Eq, Debug)]
+#[repr(u8)]
+pub enum Slip {
+    FlooredSteps, WrappedSteps, NanSteps, ExactGrid, GridTo32, WholeRoot, FusedSum, OtherOrder, LateThreshold,
+    EarlyThreshold, NanLength, WrappingName, NoZeros, IslandInCell, BoundsTurned, DensityWhole,
+    GraphicsAt7, HighBits, EndBefore, ReadsAt7, StartOnlyWithLinks, FirstRefCount, Flags5Whole, HeightsExchanged,
+    CornerExchanged, LastShortList, JunctionsFirst,
+    FirstOfEqual, Ped18, RefsStay, AreaLowBits, PlacesTurned, RefusedCounts, HeightsTouched, ScratchTouched,
+    LaterBytes, GapsKept, NineWithLinks, TenAt65535, ElevenLate, RootCounts, LinkStart15, Numbers15, RawFloored,
+    NotReadBack, Links16, Values16, SignedStart,
+    NoNodeAsNoLink, PlacePerChoice, HereArea, FullListRefused, WalkTouches, PastTheEnd, WithoutRefs, AnyAreas,
+    FirstNode, LookupTouches,
+    LinkFirst, RefusedEdit, PutTakesRange, PutInSteps, SevenBeforeTwelve, Limit254,
+    KeptStreet, KeptLinkCount, KeptLength, KeptRef, KeptJunction, KeptValue, KeptPlace, KeptCount, KeptSection,
+    VectorHeights, VectorCorner, VectorSize,
+}
+use Slip::*;
+
+const SQUARES: &str = "lengths next to squares";
+const FILES: &str = "files";
+const RECORDS: &str = "sections and records";
+const CELLS: &str = "cells around limits";
+const LARGE: &str = "large cells";
+const FAR: &str = "far ranges";
+const SCRIPTS: &str = "scripts";
+const LISTS: &str = "lists of calls on sound cells";
+const VECTORS: &str = "vectors";
+
+pub const SLIPS: &[(Slip, &str, &str, &str)] = &[
+    (FlooredSteps, "floored-steps", "steps", "negative steps are floored, not cut"),
+    (WrappedSteps, "wrapped-steps", "steps", "steps over the limits wrap to 16 bits"),
+    (NanSteps, "nan-steps", "steps", "NaN stores the upper limit"),
+    (ExactGrid, "exact-grid", "grid", "x + 8192 is not rounded to f32"),
+    (GridTo32, "grid-to-32", "grid", "the cell is limited to 0..32"),
+    (WholeRoot, "whole-root", SQUARES, "the root is cut without being rounded to f32"),
+    (FusedSum, "fused-sum", SQUARES, "products are added without being rounded first"),
+    (OtherOrder, "other-order", SQUARES, "y and z are added before x"),
+    (LateThreshold, "late-threshold", SQUARES, "each threshold is one pattern late"),
+    (EarlyThreshold, "early-threshold", SQUARES, "each threshold is one pattern early"),
+    (NanLength, "nan-length", "lengths", "NaN has length 0"),
+    (WrappingName, "wrapping-name", "names of parts", "a number over 32 bits wraps"),
+    (NoZeros, "no-zeros", "names with a middle", "leading zeros give none"),
+    (IslandInCell, "island-in-cell", "areas", "same_cell compares the island's bit too"),
+    (BoundsTurned, "bounds-turned", "grid cells", "cell_bounds gives y before x"),
+    (DensityWhole, "density-whole", "accessors", "set_density clears the upper bits of flags4"),
+    (GraphicsAt7, "graphics-at-7", RECORDS, "0x70000000 is located in graphics"),
+    (HighBits, "high-bits", RECORDS, "an address's bits 32 to 63 are not looked at"),
+    (EndBefore, "end-before", RECORDS, "a part that ends at the section's end is bad"),
+    (ReadsAt7, "reads-at-7", FILES, "reading takes 0x70000000 as graphics"),
+    (StartOnlyWithLinks, "start-only-with-links", FILES, "the link start is tested only for nodes with links"),
+    (FirstRefCount, "first-ref-count", FILES, "the first of the two ref counts is read"),
+    (Flags5Whole, "flags5-whole", FILES, "flags5 keeps the link count's bits"),
+    (HeightsExchanged, "heights-exchanged", FILES, "min_z and max_z are exchanged, read and written"),
+    (CornerExchanged, "corner-exchanged", FILES, "a junction's x and y are exchanged, read and written"),
+    (LastShortList, "last-short-list", FILES, "7 names the last list that is too short"),
+    (JunctionsFirst, "junctions-first", FILES, "5 is asked before 4"),
+    (FirstOfEqual, "first-of-equal", FILES, "of equal numbers the first node counts"),
+    (Ped18, "ped-18", FILES, "kind 18 is no ped node"),
+    (RefsStay, "refs-stay", FILES, "refs are not renumbered"),
+    (AreaLowBits, "area-low-bits", FILES, "links are own by the area's low ten bits"),
+    (PlacesTurned, "places-turned", FILES, "new places are told by new place, not by old"),
+    (RefusedCounts, "refused-counts", FILES, "a refused renumbering has set the counts"),
+    (HeightsTouched, "heights-touched", FILES, "renumbering writes a heightmap value, which it was lent to read"),
+    (ScratchTouched, "scratch-touched", FILES, "a refused renumbering has used the scratch"),
+    (LaterBytes, "later-bytes", FILES, "bytes behind the last block are zeroed"),
+    (GapsKept, "gaps-kept", FILES, "gaps between blocks are not zeroed"),
+    (NineWithLinks, "nine-with-links", CELLS, "9 is asked only of nodes with links"),
+    (TenAt65535, "ten-at-65535", CELLS, "10 comes at 65,535 heightmap bytes"),
+    (ElevenLate, "eleven-late", CELLS, "65,536 refs are written"),
+    (RootCounts, "root-counts", FILES, "the root's two node counts are exchanged on writing"),
+    (LinkStart15, "link-start-15", LARGE, "a written link start is limited to 32,767"),
+    (Numbers15, "numbers-15", LARGE, "a new number is limited to 32,767"),
+    (RawFloored, "raw-floored", SCRIPTS, "writing floors raw coordinates"),
+    (NotReadBack, "not-read-back", SCRIPTS, "write-then-read writes and does not read"),
+    (Links16, "links-16", FAR, "a node's link start in memory is taken as 16 bits"),
+    (Values16, "values-16", FAR, "a heightmap's start in memory is taken as 16 bits"),
+    (SignedStart, "signed-start", FAR, "a start in the upper half of 32 bits is taken as 0"),
+    (NoNodeAsNoLink, "no-node-as-no-link", FILES, "no-node is told as no-link"),
+    (PlacePerChoice, "place-per-choice", FILES, "a walk counts one place a choice, made or not"),
+    (HereArea, "here-area", FILES, "a link is own by the area of the node where the walk stands"),
+    (FullListRefused, "full-list-refused", FILES, "a visited list that is just long enough is refused"),
+    (WalkTouches, "walk-touches", FILES, "a walk writes a node, which it was lent to read"),
+    (PastTheEnd, "past-the-end", FILES, "a walk writes one entry past the visited list"),
+    (WithoutRefs, "without-refs", FILES, "soundness does not look at refs"),
+    (AnyAreas, "any-areas", FILES, "soundness does not look at the nodes' areas"),
+    (FirstNode, "first-node", FILES, "node takes the first with the number, not the one at its place"),
+    (LookupTouches, "lookup-touches", FILES, "junction_of writes a ref, which it was lent to read"),
+    (LinkFirst, "link-first", SCRIPTS, "a new link comes first of its node's"),
+    (RefusedEdit, "refused-edit", SCRIPTS, "a refused add_link has changed a link"),
+    (PutTakesRange, "put-takes-range", SCRIPTS, "put_node takes the range that it is given"),
+    (PutInSteps, "put-in-steps", SCRIPTS, "put_node stores a raw position in steps"),
+    (SevenBeforeTwelve, "seven-before-twelve", SCRIPTS, "add_junction asks 7 before 12"),
+    (Limit254, "limit-254", "scripts around limits", "14 comes at 254 links"),
+    (KeptStreet, "kept-street", LISTS, "an accepted call changes a street"),
+    (KeptLinkCount, "kept-link-count", LISTS, "an accepted call changes a link count"),
+    (KeptLength, "kept-length", LISTS, "an accepted call changes a link's length"),
+    (KeptRef, "kept-ref", LISTS, "an accepted call changes a ref's junction"),
+    (KeptJunction, "kept-junction", LISTS, "an accepted call changes a junction's height"),
+    (KeptValue, "kept-value", LISTS, "an accepted call changes a heightmap value"),
+    (KeptPlace, "kept-place", LISTS, "an accepted renumbering tells a wrong new place"),
+    (KeptCount, "kept-count", LISTS, "a refused call changes a count"),
+    (KeptSection, "kept-section", LISTS, "write-then-read writes a later byte of the section"),
+    (VectorHeights, "vector-heights", VECTORS, "min_z and max_z are exchanged, read and written"),
+    (VectorCorner, "vector-corner", VECTORS, "a junction's x and y are exchanged, read and written"),
+    (VectorSize, "vector-size", VECTORS, "width and height are exchanged, read and written"),
+];
