@@ -28,7 +28,7 @@ fn main() {
         Some("diff") => compare::diff::diff(seed, option("--seconds").unwrap_or(100.0), full, word("--only")),
         Some("soak") => compare::diff::soak(seed, option("--lists").unwrap_or(1e6) as u64),
         Some("slips") => slips::run::slips(seed, word("--only")),
-        Some("families") => print!("{}", compare::families::page()),
+        Some("families") => print!("{}", compare::page::page()),
         Some("bench") => bench::bench(word("--only")),
         Some("vectors") if args.len() == 2 => vectors::write(&args[1]),
         _ => { eprintln!("{USE}"); std::process::exit(2); }

@@ -8,7 +8,8 @@ use std::hint::black_box;
 
 type Measured = fn(&[[f32; 3]], &'static str) -> Row;
 
-const CALLS: [(&str, Measured); 3] = [("cell_for_position", grid), ("length_between", lengths), ("set_position's steps", steps)];
+const CALLS: [(&str, Measured); 3] = [("cell_for_position", grid), ("length_between", lengths),
+    ("set_position's steps", steps)];
 
 pub fn rows(wanted: &Wanted) -> Vec<Row> {
     let calls = CALLS.into_iter().filter(|(call, _)| wanted.has(call));

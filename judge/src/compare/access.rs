@@ -81,7 +81,9 @@ pub fn check(b: u8, v: u8) -> Verdict {
     (n.flags0, n.flags1, n.flags2, n.flags3, n.flags4, n.flags5) = (flags0, flags1, flags2, flags3, flags4, flags5);
     let range = |w: [u32; 8]| { let mut w = w; w[6] |= 3 << 16; w };
     let words = range(words::node_words(&rust::node_of(&n), 5));
-    for ((name, get), judged) in NODE_GETTERS.iter().zip(RUST_NODE_GETTERS) { same(name, PORT, &get(&words), RUST, &judged(&n))?; }
+    for ((name, get), judged) in NODE_GETTERS.iter().zip(RUST_NODE_GETTERS) {
+        same(name, PORT, &get(&words), RUST, &judged(&n))?;
+    }
     for ((name, set), judged) in NODE_SETTERS.iter().zip(RUST_NODE_SETTERS) {
         let (mut after, mut m) = (words, n.clone());
         set(&mut after, v);
@@ -91,7 +93,9 @@ pub fn check(b: u8, v: u8) -> Verdict {
     same("a kind of ped node", PORT, &special_is_ped(v), RUST, &NodeSpecial::from_value(v).is_ped())?;
     let l = PathLink { area_id: 489, node_id: 7, flags0, flags1, flags2, length: flags3 };
     let words = words::link_words(&rust::link_of(&l));
-    for ((name, get), judged) in LINK_GETTERS.iter().zip(RUST_LINK_GETTERS) { same(name, PORT, &get(&words), RUST, &judged(&l))?; }
+    for ((name, get), judged) in LINK_GETTERS.iter().zip(RUST_LINK_GETTERS) {
+        same(name, PORT, &get(&words), RUST, &judged(&l))?;
+    }
     for ((name, set), judged) in LINK_SETTERS.iter().zip(RUST_LINK_SETTERS) {
         let (mut after, mut m) = (words, l.clone());
         set(&mut after, v);
@@ -106,5 +110,6 @@ pub fn new_ones(area_id: u16, node_id: u16) -> Verdict {
     let empty = Memory { ynd: new(), ..Memory::default() };
     same("the empty cell", PORT, &empty.cell(), RUST, &rust::cell_of(&Ynd::new()))?;
     same("the empty cell's counts", PORT, &empty.counts(), RUST, &[0; 5])?;
-    same("a link to a node", PORT, &link_to(area_id, node_id), RUST, &words::link_words(&rust::link_of(&PathLink::to(area_id, node_id))))
+    same("a link to a node", PORT, &link_to(area_id, node_id), RUST,
+        &words::link_words(&rust::link_of(&PathLink::to(area_id, node_id))))
 }

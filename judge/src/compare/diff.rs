@@ -2,7 +2,7 @@
 use super::numbers::{area, cell_for_position, file_name, grid_cell, lane_offset, length_between, metres};
 use super::numbers::{next_to_square, position, steps_of};
 use super::run::Run;
-use super::{access, cells, far, families, files, large, programs, records, scripts, soak, Mismatch, MODEL};
+use super::{access, cells, far, files, large, page, programs, records, scripts, soak, Mismatch, MODEL};
 use crate::inputs::{self, floats, limits, memories, names, rng::Rng, shrink, squares};
 use crate::model::length;
 
@@ -35,7 +35,7 @@ pub fn diff(seed: u64, seconds: f64, full: bool, only: Option<String>) {
     lists(&run, of(LISTS));
     run.random("scripts", seconds * 0.25, inputs::scripts::script, scripts::check, inputs::scripts::smaller);
     programs::programs(&run);
-    families::held_to_page();
+    page::held_to_page();
     run.report.close();
 }
 
@@ -54,14 +54,16 @@ fn numbers(run: &Run, seconds: f64, pairs: u64) {
     let thresholds = &length::thresholds();
     run.sweep("steps", 1 << 32, [61, 1], |i| steps_of(i as u32));
     run.sweep("grid", 1 << 32, [61, 1], |i| cell_for_position(i as u32, (i as u32).wrapping_mul(0x9E37_79B1)));
-    // All f32 from 2^-24 up, the infinite ones and those that are no number too; below, squares that are subnormal cost
-    // most of the time.
+    // All f32 from 2^-24 up, the infinite ones and those that are no number too; below, squares that are subnormal
+    // cost most of the time.
     let along = |i: u64| length_between(thresholds, [[0; 3], [0, (SMALL + i) as u32, 0]]);
     run.sweep("lengths along an axis", 0x8000_0000 - SMALL, [401, 1], along);
     run.sweep("lengths next to squares", squares::TARGETS * pairs, [1, 1], |i| {
         let r = &mut Rng::for_input(run.seed, "lengths next to squares", i);
         let (target, from) = squares::target(i);
-        let none = || Mismatch { what: "no pair of positions".into(), sides: [(MODEL, format!("s {target:#x}")), (MODEL, "".into())] };
+        let none = || Mismatch {
+            what: "no pair of positions".into(), sides: [(MODEL, format!("s {target:#x}")), (MODEL, "".into())]
+        };
         next_to_square(thresholds, squares::pair(target, r).ok_or_else(none)?, from)
     });
     run.sweep("metres", 1 << 16, [1, 1], |i| metres(i as u16 as i16));

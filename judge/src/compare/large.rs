@@ -14,7 +14,8 @@ pub fn check((cell, aux): &(Cell, u64)) -> Verdict {
     let counts = cell.counts();
     let before_last = counts[1] - cell.nodes.last().map_or(0, |n| n.links.len());
     for (is, what) in [
-        (counts[0] >= 2_000, Met::Many), (counts[0] == 65_536, Met::MostNodes), (before_last == 65_535, Met::MostLinks),
+        (counts[0] >= 2_000, Met::Many), (counts[0] == 65_536, Met::MostNodes),
+        (before_last == 65_535, Met::MostLinks),
         (counts[2] == 4_096, Met::MostJunctions), (counts[4] == 65_535, Met::MostRefs),
     ] { seen::met_if(is, what); }
     let bytes = written(&Memory::of(r, cell, counts), cell, &rust::ynd_of(cell), r)?;

@@ -10,7 +10,8 @@ use crate::port::words::{junction, link, link_range, node, value_range};
 
 pub fn lookups(memory: &Memory, r: &mut Rng) -> Verdict {
     let cell = memory.cell();
-    let short = |lists: &[usize]| lists.iter().find(|&&i| memory.lent()[i] < memory.counts()[i]).map(|&i| Refused(7, i));
+    let short = |lists: &[usize]| lists.iter().find(|&&i| memory.lent()[i] < memory.counts()[i])
+        .map(|&i| Refused(7, i));
     let or_short = |lists: &[usize], found: Option<usize>| match short(lists) { Some(e) => Err(e), None => Ok(found) };
     let area = match short(&[0]) { Some(e) => Err(e), None => Ok(cell.nodes.first().map(|n| n.area_id as u32)) };
     same("the cell's area", PORT, &memory.area(), MODEL, &(area, true))?;
@@ -35,7 +36,10 @@ pub fn lookups(memory: &Memory, r: &mut Rng) -> Verdict {
 /// The entry at a place of each list, and the k-th link and value there.
 pub fn entries(memory: &Memory, at: usize, k: usize) -> Verdict {
     let (counts, lent) = (memory.counts(), memory.lent());
-    let at_list = |i: usize| -> Answer<()> { refuse_if(at >= counts[i], 13, 0)?; refuse_if(lent[i] < counts[i], 7, i) };
+    let at_list = |i: usize| -> Answer<()> {
+        refuse_if(at >= counts[i], 13, 0)?;
+        refuse_if(lent[i] < counts[i], 7, i)
+    };
     let got = memory.get_node(at);
     let expected = at_list(0).map(|_| {
         let w = memory.nodes[at];

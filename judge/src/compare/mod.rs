@@ -9,6 +9,7 @@ pub mod large;
 pub mod lookups;
 pub mod memory;
 pub mod numbers;
+pub mod page;
 pub mod programs;
 pub mod records;
 pub mod report;

@@ -14,14 +14,7 @@ pub fn steps_of(bits: u32) -> Verdict {
     // Steps over the scale are exact, so the stored steps are the position times the scale.
     let judged = [(n.position.x * 4.0) as i32 as i16, (n.position.z * 32.0) as i32 as i16];
     let model = [steps::steps(bits, steps::XY), steps::steps(bits, steps::Z)];
-    let x = f32::from_bits(bits);
-    met(match x {
-        x if x.is_nan() => Met::Nan,
-        x if x >= 8192.0 => Met::High,
-        x if x < -8192.0 => Met::Low,
-        x if x < 0.0 && x * 4.0 != (x * 4.0).trunc() => Met::Cut,
-        _ => Met::Done,
-    });
+    note_steps(bits);
     same("steps", MODEL, &model, RUST, &judged)?;
     let [by_float, by_bits] = port::numbers::steps(bits);
     same("steps", PORT, &by_float, RUST, &judged)?;
@@ -30,8 +23,20 @@ pub fn steps_of(bits: u32) -> Verdict {
     same("float_of", PORT, &one_nan(port::numbers::float_of(bits).to_bits()), MODEL, &one_nan(bits))
 }
 
+/// Which of the cases of a stored step a pattern is.
+fn note_steps(bits: u32) {
+    match f32::from_bits(bits) {
+        x if x.is_nan() => met(Met::Nan),
+        x if x >= 8192.0 => met(Met::High),
+        x if x < -8192.0 => met(Met::Low),
+        x if x < 0.0 && x * 4.0 != (x * 4.0).trunc() => met(Met::Cut),
+        _ => {}
+    }
+}
+
 /// A position stored and read, its steps, and nodes at it.
 pub fn position(p: [u32; 3]) -> Verdict {
+    note_steps(p[0]);
     let mut n = PathNode { flags0: p[0] as u8, flags5: p[1] as u8, street_name: p[2], ..PathNode::default() };
     let mut words = node_words(&rust::node_of(&n), 5);
     n.set_position(rust::vec3(p));
@@ -45,7 +50,8 @@ pub fn position(p: [u32; 3]) -> Verdict {
     port::access::node_set_position(&mut words, floats);
     same("a node's set_position", PORT, &words, RUST, &node_words(&rust::node_of(&n), 5))?;
     let new = PathNode::new(p[0] as u16, p[1] as u16, rust::vec3(p));
-    same("a new node", PORT, &port::access::node_new(p[0] as u16, p[1] as u16, floats), RUST, &node_words(&rust::node_of(&new), 0))
+    same("a new node", PORT, &port::access::node_new(p[0] as u16, p[1] as u16, floats), RUST,
+        &node_words(&rust::node_of(&new), 0))
 }
 
 /// All i16, read.

@@ -1,5 +1,6 @@
 //! What a run says: a line a family, the table of what was met, the sums; and whether it fails.
 use super::families::{Family, DOMAINS};
+use super::page::grouped;
 use super::{seen, Mismatch};
 use std::sync::atomic::{AtomicU64, Ordering::Relaxed};
 use std::sync::Mutex;
@@ -46,7 +47,8 @@ impl Report {
         }
         let scarcest = must.min_by_key(|(_, least, met)| met * 1_000 / least.max(&1));
         let kinds = scarcest.map_or(String::new(), |(kind, least, met)| {
-            format!(": {} of {} kinds; {kind} {met} ({least})", row.must.len() - short.len(), row.must.len())
+            let (met, least) = (grouped(met), grouped(least));
+            format!(": {} of {} kinds; {kind}: {met} ({least})", row.must.len() - short.len(), row.must.len())
         });
         println!("{:>8.1} {count:>12}  {}{kinds}", self.began.elapsed().as_secs_f64(), row.name);
         if self.full { let all = counts.account(); if !all.is_empty() { println!("{:>22} {all}", ""); } }
@@ -55,7 +57,7 @@ impl Report {
     /// The end of a run in which all sides agree: fails where a kind was met too seldom.
     pub fn close(&self) {
         let sums = self.sums.lock().expect("one thread reports");
-        let parts: Vec<String> = DOMAINS.iter().zip(sums.0).map(|(name, n)| format!("{n} {name}")).collect();
+        let parts: Vec<String> = DOMAINS.iter().zip(sums.0).map(|(name, n)| format!("{} {name}", grouped(n))).collect();
         println!("seed {}: {} compared, all agree", self.seed, parts.join(", "));
         for line in &sums.1 { println!("MET TOO SELDOM: {line}"); }
         if !sums.1.is_empty() { std::process::exit(1); }

@@ -25,12 +25,14 @@ const LOOK_EVERY: u64 = 256;
 const PATIENCE: f64 = 10.0;
 
 impl Run {
-    pub fn new(seed: u64, full: bool, only: Option<String>) -> Self { Run { seed, full, only, report: Report::new(seed, full) } }
+    pub fn new(seed: u64, full: bool, only: Option<String>) -> Self {
+        Run { seed, full, only, report: Report::new(seed, full) }
+    }
 
     fn skips(&self, name: &str) -> bool { self.only.as_deref().is_some_and(|o| o != name) }
 
-    /// Every so many of `total` numbers, with one stride for a short run and one for a full run; the seed says where it
-    /// starts. An input that agrees costs no memory.
+    /// Every so many of `total` numbers, with one stride for a short run and one for a full run; the seed says where
+    /// it starts. An input that agrees costs no memory.
     pub fn sweep(&self, name: &str, total: u64, strides: [u64; 2], check: impl Fn(u64) -> Verdict + Sync) {
         if self.skips(name) { return; }
         let stride = strides[self.full as usize];
@@ -108,7 +110,8 @@ impl Run {
 
     /// Shows a mismatch on the smallest input found. Of a slip it is enough that it was caught.
     fn smallest<I: Clone + Debug>(
-        &self, name: &str, index: u64, input: I, m: Mismatch, check: &impl Fn(&I) -> Verdict, smaller: &impl Fn(&I) -> Vec<I>,
+        &self, name: &str, index: u64, input: I, m: Mismatch, check: &impl Fn(&I) -> Verdict,
+        smaller: &impl Fn(&I) -> Vec<I>,
     ) {
         if slips::any() { return self.report.fail(name, &format!("index {index}"), m); }
         let least = shrink(input, smaller, |i| judged(check, i).is_err());

@@ -1,4 +1,5 @@
-//! The renumbering scratch: one a thread, with what earlier calls left in it, and guards behind the entries that are lent.
+//! The renumbering scratch: one a thread, with what earlier calls left in it, and guards behind the entries that are
+//! lent.
 use crate::port::lent::{hold, Entry};
 use std::cell::RefCell;
 

@@ -33,7 +33,8 @@ pub fn step(
     let what = format!("the cell after {op:?}, answered {answer:?}");
     same(&what, MODEL, cell, RUST, &rust::cell_of(ynd))?;
     same(&format!("the answer of {op:?}"), PORT, &port, MODEL, &answer)?;
-    if answer.is_ok() { memory::holds(&what, &before, memory, cell) } else { memory::unchanged(&what, &before, memory) }
+    if answer.is_err() { return memory::unchanged(&what, &before, memory); }
+    memory::holds(&what, &before, memory, cell)
 }
 
 /// The cell that a script leaves, written by all sides.

@@ -1,5 +1,5 @@
-//! How often each kind of answer and each edge was met: a family that never meets one says nothing of it. Each thread counts for
-//! itself and adds what it has to the family's sums now and then.
+//! How often each kind of answer and each edge was met: a family that never meets one says nothing of it. Each thread
+//! counts for itself and adds what it has to the family's sums now and then.
 use crate::model::walk::End;
 use crate::model::Answer;
 use crate::port::lent;
@@ -12,7 +12,8 @@ use std::sync::Mutex;
 pub enum Call { Read, Renumber, Write, WriteRead, Lookup, Entry, Edit, Walk, Soundness, Shown, Grid, Program }
 
 const CALLS: [&str; 12] = [
-    "reading", "renumbering", "writing", "write-then-read", "lookups", "entries", "edits", "walks", "soundness", "shown",
+    "reading", "renumbering", "writing", "write-then-read", "lookups", "entries", "edits", "walks", "soundness",
+    "shown",
     "grid", "cellsum",
 ];
 const NUMBERS: usize = 20;
@@ -44,8 +45,8 @@ impl Display for Kind {
     fn fmt(&self, f: &mut Formatter) -> Result {
         match *self {
             Kind::Yes(c) => write!(f, "{} accepted", CALLS[c as usize]),
-            Kind::No(c, n) => write!(f, "{} {n}", CALLS[c as usize]),
-            Kind::At(c, n, p) => write!(f, "{} {n} at {p}", CALLS[c as usize]),
+            Kind::No(c, n) => write!(f, "{} refused {n}", CALLS[c as usize]),
+            Kind::At(c, n, p) => write!(f, "{} refused {n} at {p}", CALLS[c as usize]),
             Kind::Edge(m) => f.write_str(METS[m as usize]),
         }
     }
@@ -104,7 +105,12 @@ pub fn met_if(is: bool, what: Met) { if is { met(what); } }
 pub fn met_times(what: Met, times: u64) { HERE.with_borrow_mut(|c| c.met[what as usize] += times); }
 
 pub fn note_end(end: &End) {
-    met(match end { End::Done => Met::Done, End::NoLink => Met::NoLink, End::Left(..) => Met::Left, End::NoNode => Met::NoNode });
+    met(match end {
+        End::Done => Met::Done,
+        End::NoLink => Met::NoLink,
+        End::Left(..) => Met::Left,
+        End::NoNode => Met::NoNode,
+    });
 }
 
 /// Adds what this thread has to the family's sums.
@@ -123,4 +129,7 @@ pub fn enough(must: &[(Kind, u64)]) -> bool {
 }
 
 /// The family's sums, which start again.
-pub fn take() -> Counts { give(); std::mem::replace(&mut SUMS.lock().expect("no thread ends while it counts"), Counts::NONE) }
+pub fn take() -> Counts {
+    give();
+    std::mem::replace(&mut SUMS.lock().expect("no thread ends while it counts"), Counts::NONE)
+}

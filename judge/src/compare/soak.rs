@@ -1,5 +1,5 @@
-//! Demand 3 as a test of its statement: a list of renumberings and write-then-reads, refused ones too, on a sound cell as read; then every
-//! place's walks, held to the walks of the cell that document 01 defines for the bytes first read.
+//! Demand 3 as a test of its statement: a list of renumberings and write-then-reads, refused ones too, on a sound cell
+//! as read; then every place's walks, held to the walks of the cell that document 01 defines for the bytes first read.
 use super::scratch::with_scratch;
 use super::seen::{self, Call, Met};
 use super::{memory, same, Verdict, MODEL, PORT};
@@ -42,7 +42,8 @@ impl List<'_> {
         let any = r.below(65_536);
         let scratch = r.pick(&[65_536, 65_536, 65_536, 65_536, 65_537, 70_000, 65_535, 0, any]);
         let any = r.below(n + 1);
-        let places: Vec<u32> = (0..r.pick(&[n, n, n, n + 1, n + 5, n.saturating_sub(1), any])).map(|_| r.u32()).collect();
+        let places: Vec<u32> = (0..r.pick(&[n, n, n, n + 1, n + 5, n.saturating_sub(1), any])).map(|_| r.u32())
+            .collect();
         let (before, mut after) = (self.memory.clone(), places.clone());
         let answer = with_scratch(scratch, |s| { disturb(s, &before, r); self.memory.renumber(s, &mut after) });
         let model = room(6, &[65_536, n], &[scratch, places.len()]);
@@ -83,7 +84,8 @@ impl List<'_> {
     fn numbers(&self) -> Verdict {
         same("soundness after calls", PORT, &with_scratch(65_536, |s| self.memory.sound(s)), MODEL, &Ok(true))?;
         if !self.renumbered { return Ok(()); }
-        let numbers: Vec<usize> = self.memory.nodes[..self.order.len()].iter().map(|w| (w[0] >> 16) as usize).collect();
+        let numbers: Vec<usize> = self.memory.nodes[..self.order.len()].iter().map(|w| (w[0] >> 16) as usize)
+            .collect();
         same("numbers after renumbering", PORT, &numbers, MODEL, &(0..self.order.len()).collect())
     }
 
@@ -99,14 +101,16 @@ impl List<'_> {
             let count = shown.places.len();
             seen::note_end(&shown.end);
             seen::met_times(Met::Followed, count as u64 - 1);
-            let visited = r.pick(&[choices.len() + 1, choices.len() + 1, count, count + 1, count - 1, choices.len() / 2]);
+            let visited = r.pick(
+                &[choices.len() + 1, choices.len() + 1, count, count + 1, count - 1, choices.len() / 2]);
             let then = room(8, &[count], &[visited]).map(|_| shown);
             seen::note(Call::Walk, &then);
             same("a walk at first", PORT, &walked(at_first, start, &choices, visited)?, MODEL, &then)?;
             let now = then.map(|w| Walk { places: w.places.iter().map(|&p| moved[p]).collect(), ..w });
             same("a walk after calls", PORT, &walked(&self.memory, moved[start], &choices, visited)?, MODEL, &now)?;
         }
-        same("a walk from no place", PORT, &walked(&self.memory, n + r.below(3), &[0], r.below(3))?, MODEL, &walk(self.first, n, &[]))
+        same("a walk from no place", PORT, &walked(&self.memory, n + r.below(3), &[0], r.below(3))?, MODEL,
+            &walk(self.first, n, &[]))
     }
 }
 
@@ -116,7 +120,9 @@ fn choices(cell: &Cell, start: usize, r: &mut Rng) -> Vec<u8> {
     let length = r.below(16);
     (0..length).map(|_| {
         let links = here.map_or(&[][..], |p| &cell.nodes[p].links);
-        let choice = if links.is_empty() || r.once_in(16) { r.pick(&[0, 1, 2, 31, 255]) } else { r.below(links.len()) as u8 };
+        let choice = if links.is_empty() || r.once_in(16) { r.pick(&[0, 1, 2, 31, 255]) } else {
+            r.below(links.len()) as u8
+        };
         here = links.get(choice as usize).filter(|l| l.area_id == cell.area()).and_then(|l| cell.node(l.node_id));
         choice
     }).collect()
@@ -125,7 +131,9 @@ fn choices(cell: &Cell, start: usize, r: &mut Rng) -> Vec<u8> {
 /// Rubbish in the scratch that could be taken for places: at the numbers that links and refs name, and anywhere.
 fn disturb(scratch: &mut [u32], m: &Memory, r: &mut Rng) {
     for w in m.links.iter().chain(m.refs.iter()) {
-        if let Some(x) = scratch.get_mut(w[1] as usize) { *x = if r.once_in(4) { r.u32() } else { r.below(m.nodes.len() + 1) as u32 }; }
+        if let Some(x) = scratch.get_mut(w[1] as usize) {
+            *x = if r.once_in(4) { r.u32() } else { r.below(m.nodes.len() + 1) as u32 };
+        }
     }
     for _ in 0..8 { let at = r.below(scratch.len()); if let Some(x) = scratch.get_mut(at) { *x = r.u32(); } }
 }
@@ -136,7 +144,8 @@ fn walked(m: &Memory, start: usize, choices: &[u8], visited: usize) -> Result<An
     let mut places = vec![BEYOND; visited];
     let (answer, kept) = m.walk(start, choices, &mut places);
     let count = answer.as_ref().map_or(0, |a| a.1);
-    same("what a walk leaves as it was", PORT, &(kept, places[count..].iter().all(|&p| p == BEYOND)), MODEL, &(true, true))?;
+    same("what a walk leaves as it was", PORT, &(kept, places[count..].iter().all(|&p| p == BEYOND)), MODEL,
+        &(true, true))?;
     Ok(answer.map(|(end, _)| {
         let places: Vec<usize> = places[..count].iter().map(|&p| p as usize).collect();
         let seen = places.iter().map(|&p| see(m, p)).collect();

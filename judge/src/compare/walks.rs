@@ -41,8 +41,8 @@ fn unnoticed(first: &Cell, r: &mut Rng) -> Verdict {
     Ok(())
 }
 
-/// The same of the port: renumberings and write-then-reads, refused ones too, each on what the last one left; then a walk from
-/// every place of a small cell, or from some of a larger one, with equal lists for the places.
+/// The same of the port: renumberings and write-then-reads, refused ones too, each on what the last one left; then a
+/// walk from every place of a small cell, or from some of a larger one, with equal lists for the places.
 fn unnoticed_by_the_port(first: &Memory, r: &mut Rng) -> Verdict {
     let n = first.counts()[0];
     let mut memory = first.clone();
@@ -87,7 +87,9 @@ fn call(memory: &mut Memory, n: usize, r: &mut Rng) -> Result<Option<Vec<u32>>, 
 }
 
 /// A walk by the port, and what the nodes and links on its way show.
-fn shown(memory: &Memory, cell: &Cell, start: usize, choices: &[u8], visited: usize) -> Result<Answer<Walk>, super::Mismatch> {
+fn shown(
+    memory: &Memory, cell: &Cell, start: usize, choices: &[u8], visited: usize,
+) -> Result<Answer<Walk>, super::Mismatch> {
     let mut places = vec![0xA5A5_A5A5; visited];
     let (answer, _) = memory.walk(start, choices, &mut places);
     let all = walk(cell, start, choices).expect("a node");
@@ -95,7 +97,9 @@ fn shown(memory: &Memory, cell: &Cell, start: usize, choices: &[u8], visited: us
         Ok((end, count)) => {
             let places: Vec<usize> = places[..count].iter().map(|&p| p as usize).collect();
             same("a walk", PORT, &(end, &places), MODEL, &(all.end, &all.places))?;
-            for (k, &p) in places.iter().enumerate() { super::shown::showing(memory, cell, p, choices.get(k).copied().unwrap_or(0))?; }
+            for (k, &p) in places.iter().enumerate() {
+                super::shown::showing(memory, cell, p, choices.get(k).copied().unwrap_or(0))?;
+            }
             Ok(all)
         }
         Err(e) => Err(e),

@@ -1,5 +1,5 @@
-//! Links and heightmap values that start past 65,535 in memory, where no file's start reaches: pools of more entries than that, and
-//! starts made by hand, also in the upper half of 32 bits.
+//! Links and heightmap values that start past 65,535 in memory, where no file's start reaches: pools of more entries
+//! than that, and starts made by hand, also in the upper half of 32 bits.
 use super::rng::Rng;
 use super::scripts::{self, Op};
 use crate::model::cell::{Cell, Junction, Link, Node};
@@ -53,7 +53,9 @@ fn cell(r: &mut Rng) -> Cell {
         area_id: 489,
         node_id: i as u16,
         flags: [0, r.pick(&[0, 80]), 0, 0, 0, r.u8() % 8],
-        links: (0..each).map(|k| Link { area_id: 489, node_id: ((i + k) % nodes) as u16, length: k as u8, ..Link::default() }).collect(),
+        links: (0..each)
+            .map(|k| Link { area_id: 489, node_id: ((i + k) % nodes) as u16, length: k as u8, ..Link::default() })
+            .collect(),
         ..Node::default()
     };
     let junction = |r: &mut Rng, width: u8, height: u8| {
@@ -73,7 +75,9 @@ pub fn script(r: &mut Rng) -> (Cell, Vec<Op>, u64) {
     let ops = (0..many).map(|_| {
         let place = last - r.below(4);
         match r.below(9) {
-            0..=2 => Op::AddLink { place: if r.once_in(4) { r.below(last) } else { place }, link: scripts::link(r, &cell) },
+            0..=2 => Op::AddLink {
+                place: if r.once_in(4) { r.below(last) } else { place }, link: scripts::link(r, &cell)
+            },
             3 | 4 => Op::PutLink { place, index: r.below(260), link: scripts::link(r, &cell) },
             5 => Op::PutValue { place: r.below(5), index: r.below(13), value: r.u8() },
             6 => Op::AddJunction(scripts::junction(r)),

@@ -60,7 +60,8 @@ pub fn sound(r: &mut Rng) -> File {
     lay(r, arrays)
 }
 
-/// The five arrays' bytes. Numbers repeat, areas differ, links and refs name nodes that are there and nodes that aren't.
+/// The five arrays' bytes. Numbers repeat, areas differ, links and refs name nodes that are there and nodes that
+/// aren't.
 pub fn arrays(r: &mut Rng, shape: Shape) -> [Vec<u8>; 5] {
     let sound = r.once_in(3);
     arrays_of(r, shape, sound)
@@ -74,7 +75,9 @@ fn arrays_of(r: &mut Rng, Shape([nodes, links, junctions, values, refs]): Shape,
     let named = |r: &mut Rng| {
         let any = r.u16();
         let area = if r.once_in(if sound { 6 } else { 3 }) { r.pick(&[own ^ 1, own ^ 1024, any]) } else { own };
-        let number = if numbers.is_empty() || (!sound && r.once_in(5)) { r.pick(&[0, 1, 0xFFFF, any ^ 0x5555]) } else { r.pick(&numbers) };
+        let number = if numbers.is_empty() || (!sound && r.once_in(5)) { r.pick(&[0, 1, 0xFFFF, any ^ 0x5555]) } else {
+            r.pick(&numbers)
+        };
         (area, number)
     };
     let mut out: [Vec<u8>; 5] = Default::default();
@@ -99,7 +102,9 @@ fn arrays_of(r: &mut Rng, Shape([nodes, links, junctions, values, refs]): Shape,
     }
     for _ in 0..junctions {
         let mut b = r.bytes(12);
-        let (mut width, mut height) = (r.below(5), r.below(5));
+        // Now and then over 255 values.
+        let most = if r.once_in(6) { 40 } else { 5 };
+        let (mut width, mut height) = (r.below(most), r.below(most));
         if width * height > values { (width, height) = r.pick(&[(0, 3), (255, 0), (0, 0)]); }
         put_le(&mut b, 8, 2, r.below(values - width * height + 1) as u64);
         (b[10], b[11]) = (width as u8, height as u8);
@@ -146,7 +151,9 @@ pub fn lay(r: &mut Rng, arrays: [Vec<u8>; 5]) -> File {
         sections[which].extend(&arrays[i]);
         // An empty array may have any address with no count, or no address with any count.
         let any = r.next();
-        places[i] = if count > 0 { (address, count) } else { r.pick(&[(0, 0), (address, 0), (any, 0), (0, any >> 33)]) };
+        places[i] = if count > 0 { (address, count) } else {
+            r.pick(&[(0, 0), (address, 0), (any, 0), (0, any >> 33)])
+        };
     }
     if r.once_in(3) { let n = r.below(60); let tail = r.bytes(n); sections[r.below(2)].extend(tail); }
     let [mut system, graphics] = sections;

@@ -1,5 +1,5 @@
-//! Pairs of positions whose s stands at the threshold of a length, or up to three patterns before or after it: random positions almost
-//! never come so near to a square.
+//! Pairs of positions whose s stands at the threshold of a length, or up to three patterns before or after it: random
+//! positions almost never come so near to a square.
 use super::rng::Rng;
 use crate::model::length::{least_square, square};
 

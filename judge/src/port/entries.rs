@@ -32,7 +32,9 @@ pub type Got<T> = (Answer<T>, bool);
 
 impl Memory {
     /// A call that is lent lists for reading only: `lists` and the struct are held to what they were.
-    fn only_read<T>(&self, call: &'static str, lists: u8, ask: impl FnOnce(*const u32, &mut usize) -> T) -> (T, usize) {
+    fn only_read<T>(
+        &self, call: &'static str, lists: u8, ask: impl FnOnce(*const u32, &mut usize) -> T,
+    ) -> (T, usize) {
         let (kept, mut ynd, mut place) = (self.keep(lists), Shown::of(&self.ynd), KEPT_PLACE);
         let given = ask(ynd.ptr(), &mut place);
         ynd.stays(call, "struct");

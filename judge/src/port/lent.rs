@@ -1,5 +1,5 @@
-//! What is lent to a call: entries between guards that no call may touch. A call that changes a guard, or a list that it was lent for
-//! reading only, is noted; the run asks after each input (`spoilt`).
+//! What is lent to a call: entries between guards that no call may touch. A call that changes a guard, or a list that
+//! it was lent for reading only, is noted; the run asks after each input (`spoilt`).
 use std::cell::Cell;
 use std::fmt::{Debug, Formatter, Result};
 use std::ops::{Deref, DerefMut};

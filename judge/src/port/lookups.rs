@@ -26,7 +26,7 @@ extern "C" {
 pub fn new() -> Words {
     let mut ynd = [KEPT; 15];
     unsafe { ynd_new(&mut ynd) };
-    ynd
+    slips::numbers::new(ynd)
 }
 
 /// A lookup's answer, and whether what was lent for it stayed where nothing was found.

@@ -159,4 +159,6 @@ fn whole(ranges: impl Iterator<Item = (usize, usize)>, count: usize) -> bool {
 }
 
 /// A range of start and count, cut to a list's length.
-fn cut((start, count): (usize, usize), length: usize) -> Range<usize> { start.min(length)..(start + count).min(length) }
+fn cut((start, count): (usize, usize), length: usize) -> Range<usize> {
+    start.min(length)..(start + count).min(length)
+}

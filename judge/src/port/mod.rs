@@ -1,5 +1,5 @@
-//! The port's calls, as a C program makes them, in the model's words. What is lent is watched (lent.rs); where a slip is on, its wrong
-//! program answers in the port's place (slips/).
+//! The port's calls, as a C program makes them, in the model's words. What is lent is watched (lent.rs); where a slip
+//! is on, its wrong program answers in the port's place (slips/).
 pub mod access;
 pub mod cells;
 pub mod edits;

@@ -36,7 +36,9 @@ pub fn steps(bits: u32) -> [[i16; 2]; 2] {
     slips::numbers::steps(bits, [by_float, by_bits])
 }
 
-pub fn metres(n: i16) -> [u32; 2] { unsafe { [ynd_metres_xy(n).to_bits(), ynd_metres_z(n).to_bits()] } }
+pub fn metres(n: i16) -> [u32; 2] {
+    slips::numbers::metres(unsafe { [ynd_metres_xy(n).to_bits(), ynd_metres_z(n).to_bits()] })
+}
 
 pub fn bits_of(x: f32) -> u32 { unsafe { ynd_bits_of(x) } }
 
@@ -45,7 +47,7 @@ pub fn float_of(bits: u32) -> f32 { unsafe { ynd_float_of(bits) } }
 pub fn stored_position([x, y, z]: [f32; 3]) -> [u32; 3] {
     let mut stored = [0.0; 3];
     unsafe { ynd_stored_position(x, y, z, &mut stored) };
-    stored.map(f32::to_bits)
+    slips::numbers::stored_position(stored.map(f32::to_bits))
 }
 
 pub fn quantise([x, y, z]: [f32; 3]) -> [i16; 3] {
@@ -66,7 +68,7 @@ pub fn length_between(a: [f32; 3], b: [f32; 3]) -> u8 {
 }
 
 pub fn lane_offset(offset_value: u8, negative: bool) -> u32 {
-    unsafe { ynd_lane_offset(offset_value, negative).to_bits() }
+    slips::numbers::lane_offset(unsafe { ynd_lane_offset(offset_value, negative).to_bits() })
 }
 
 pub fn cell_for_position(x: f32, y: f32) -> [u32; 2] {
@@ -88,7 +90,9 @@ pub fn cell_of_area(area: u32) -> [u32; 2] {
     cell
 }
 
-pub fn is_island_area(area: u32) -> bool { unsafe { ynd_is_island_area(area) } }
+pub fn is_island_area(area: u32) -> bool {
+    slips::numbers::is_island_area(area, unsafe { ynd_is_island_area(area) })
+}
 
 pub fn same_cell(a: u32, b: u32) -> bool { slips::numbers::same_cell(a, b, unsafe { ynd_same_cell(a, b) }) }
 

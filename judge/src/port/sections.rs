@@ -64,7 +64,8 @@ pub fn record(array: usize, section: &[u8], at: u32) -> Vec<u8> {
     bytes
 }
 
-/// From the counts of nodes, links, junctions, heightmap bytes and refs: their addresses in that order, and the length.
+/// From the counts of nodes, links, junctions, heightmap bytes and refs: their addresses in that order, and the
+/// length.
 pub fn lay_out([nodes, links, junctions, heightmap, refs]: [u32; 5]) -> ([u64; 5], usize) {
     let (mut a, mut total) = ([0; 5], 0);
     unsafe { ynd_lay_out(refs, heightmap, junctions, links, nodes, &mut a, &mut total) };

@@ -52,8 +52,8 @@ impl Memory {
         (answer(number, place, shown), number == 0 || shown == [KEPT; 6])
     }
 
-    /// The heightmap values, in a lent list of so many entries; the second part says that what lies behind them stayed,
-    /// or all where it was refused.
+    /// The heightmap values, in a lent list of so many entries; the second part says that what lies behind them
+    /// stayed, or all where it was refused.
     pub fn shown_values(&self, at: usize, room: usize) -> (Answer<Vec<u8>>, bool) {
         let (mut values, mut count, mut place) = (vec![KEPT as u8; room], KEPT_PLACE, KEPT_PLACE);
         let (kept, mut ynd) = (self.keep(JUNCTIONS | HEIGHTS), Shown::of(&self.ynd));

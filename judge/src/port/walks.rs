@@ -13,8 +13,9 @@ extern "C" {
         count: &mut usize, place: &mut usize,
     ) -> u32;
     fn ynd_sound(
-        ynd: *const u32, nodes: *const Node, node_count: usize, links: *const Link, link_count: usize, refs: *const Ref,
-        ref_count: usize, scratch: *mut u32, scratch_count: usize, sound: &mut bool, place: &mut usize,
+        ynd: *const u32, nodes: *const Node, node_count: usize, links: *const Link, link_count: usize,
+        refs: *const Ref, ref_count: usize, scratch: *mut u32, scratch_count: usize, sound: &mut bool,
+        place: &mut usize,
     ) -> u32;
 }
 
@@ -54,7 +55,7 @@ impl Memory {
     }
 
     pub fn sound(&self, scratch: &mut [u32]) -> Answer<bool> {
-        if let Some(wrong) = slips::walks::judged(self) { return wrong.sound_right(scratch); }
+        if slips::any() { return slips::walks::sound(self, scratch); }
         self.sound_right(scratch)
     }
 

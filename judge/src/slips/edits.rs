@@ -12,6 +12,7 @@ pub fn link_added(before: Option<Memory>, m: &mut Memory, at: usize, answer: Ans
     }
     let (start, count) = link_range(&m.nodes[at]);
     if on(Slip::LinkFirst) { m.links[start..start + count].rotate_right(1); }
+    if on(Slip::FarAdd) { for w in m.nodes.iter_mut().skip(at + 1) { w[7] &= 0xFFFF; } }
     if on(Slip::Limit254) && count > 254 {
         *m = before;
         return Err(Refused(14, 0));

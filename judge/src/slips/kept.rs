@@ -1,4 +1,5 @@
-//! What a wrong renumbering or write-then-read leaves changed: the slips that the lists of calls on sound cells are tried with.
+//! What a wrong renumbering or write-then-read leaves changed: the slips that the lists of calls on sound cells are
+//! tried with.
 use super::{on, Slip};
 use crate::port::memory::Memory;
 

@@ -1,8 +1,10 @@
-//! Slips: believable wrong programs, each with one rule made wrong. A slip answers in the port's place, from the port's own calls on a
-//! changed input or with a changed answer, and the family that claims its rule has to catch it (`make slips`).
+//! Slips: believable wrong programs, each with one rule made wrong. A slip answers in the port's place, from the
+//! port's own calls on a changed input or with a changed answer, and the family that claims its rule has to catch it
+//! (`make slips`).
 pub mod edits;
 pub mod kept;
 pub mod numbers;
+pub mod programs;
 pub mod ranges;
 pub mod reading;
 pub mod renumbering;

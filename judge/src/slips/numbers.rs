@@ -1,5 +1,6 @@
 //! Wrong numbers: steps, grid, lengths, names, areas, bounds, density.
 use super::{any, on, Slip};
+use crate::inputs::squares;
 use crate::model::length;
 
 pub fn steps(bits: u32, right: [[i16; 2]; 2]) -> [[i16; 2]; 2] {
@@ -35,6 +36,8 @@ pub fn length_between(a: [f32; 3], b: [f32; 3], right: u8) -> u8 {
     if on(Slip::LateThreshold) && near { return root(f32::from_bits(s.to_bits() - 1)); }
     if on(Slip::EarlyThreshold) && near { return root(f32::from_bits(s.to_bits() + 1)); }
     if on(Slip::NanLength) && s.is_nan() { return 0; }
+    if on(Slip::OneSquare) && s.to_bits() + 2 == squares::threshold(200) { return 200; }
+    if on(Slip::Most254) { return right.min(254); }
     right
 }
 
@@ -44,6 +47,8 @@ pub fn area_id_from_file_name(name: &[u8], right: (Option<u32>, bool)) -> (Optio
     let Some(digits) = base.strip_prefix(b"nodes").and_then(|b| b.strip_suffix(b".ynd")) else { return right };
     let number = std::str::from_utf8(digits).ok().and_then(|d| d.parse::<u128>().ok());
     if on(Slip::WrappingName) { if let Some(n) = number { return (Some(n as u32), true); } }
+    if on(Slip::CaseMatters) && name.iter().any(u8::is_ascii_uppercase) { return (None, true); }
+    if on(Slip::FirstSlash) && name.iter().filter(|&&c| c == b'/' || c == b'\\').count() > 1 { return (None, true); }
     if on(Slip::NoZeros) && digits.len() > 1 && digits[0] == b'0' { return (None, true); }
     right
 }
@@ -58,4 +63,20 @@ pub fn cell_bounds([x0, y0, x1, y1]: [u32; 4]) -> [u32; 4] {
 
 pub fn set_density(node: &mut [u32; 8], v: u8) {
     if on(Slip::DensityWhole) { node[6] = node[6] & !0xFF | (v & 15) as u32; }
+}
+
+pub fn stored_position([x, y, z]: [u32; 3]) -> [u32; 3] {
+    let quarters = |w: u32| ((f32::from_bits(w) * 4.0).trunc() / 4.0).to_bits();
+    [x, y, if on(Slip::ZInQuarters) { quarters(z) } else { z }]
+}
+
+pub fn metres([xy, z]: [u32; 2]) -> [u32; 2] { [xy, if on(Slip::MetresZ) { xy } else { z }] }
+
+pub fn lane_offset(right: u32) -> u32 { if on(Slip::LaneUnsigned) { right & 0x7FFF_FFFF } else { right } }
+
+pub fn is_island_area(area: u32, right: bool) -> bool { if on(Slip::IslandBit) { area & 2048 != 0 } else { right } }
+
+pub fn new(mut ynd: [u32; 15]) -> [u32; 15] {
+    if on(Slip::NewUnknowns) { ynd[3..10].fill(0); }
+    ynd
 }

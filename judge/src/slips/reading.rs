@@ -20,6 +20,15 @@ pub fn section(system: &[u8]) -> Option<Vec<u8>> {
         let from = address.wrapping_sub(SYSTEM) as usize;
         if address & !0x0FFF_FFFF != SYSTEM || from + 40 * count > system.len() { return None; }
         for b in wrong[from..from + 40 * count].chunks_mut(40) { if b[37] < 8 { b[26..28].fill(0); } }
+    } else if on(Slip::ValueStartOnly) || on(Slip::Product8) {
+        let (address, count) = (le(system, ADDRESS_AT[2], 8), le(system, COUNT_AT[2], 4) as usize);
+        let from = address.wrapping_sub(SYSTEM) as usize;
+        if address & !0x0FFF_FFFF != SYSTEM || from + 12 * count > system.len() { return None; }
+        for b in wrong[from..from + 12 * count].chunks_mut(12) {
+            let values = b[10] as usize * b[11] as usize;
+            if on(Slip::ValueStartOnly) && values == 0 { b[8..10].fill(0); }
+            if on(Slip::Product8) && values > 255 { (b[10], b[11]) = ((values % 256) as u8, 1); }
+        }
     } else {
         return None;
     }
@@ -29,6 +38,7 @@ pub fn section(system: &[u8]) -> Option<Vec<u8>> {
 pub fn read(m: &mut Memory, system: &[u8], graphics: &[u8]) -> Answer<()> {
     let wrong = section(system);
     let system = wrong.as_deref().unwrap_or(system);
+    if let Some(early) = at_limit(system, graphics) { return Err(early); }
     let answer = m.read_right(system, graphics);
     let [n, _, j, _, _] = m.held();
     match &answer {
@@ -47,6 +57,15 @@ pub fn read(m: &mut Memory, system: &[u8], graphics: &[u8]) -> Answer<()> {
         Err(_) => {}
     }
     answer
+}
+
+/// A refusal by a program that takes a limit as one too many.
+fn at_limit(system: &[u8], graphics: &[u8]) -> Option<Refused> {
+    let [nodes, _, junctions, ..] = count_right(system, graphics).0.ok()?;
+    if on(Slip::SixAtNodes) && nodes == 65_536 { return Some(Refused(6, 0)); }
+    if on(Slip::SixAtJunctions) && junctions == 4_096 { return Some(Refused(6, 1)); }
+    if on(Slip::TwoAtLimit) && system.len() == 16_777_216 { return Some(Refused(2, 0)); }
+    None
 }
 
 /// Fields that a wrong program exchanges when it reads, and again when it writes.

@@ -1,14 +1,14 @@
 //! Wrong walks, lookups and verdicts of soundness.
 use super::{any, on, ranges, Slip};
 use crate::model::walk::End;
-use crate::model::Refused;
+use crate::model::{Answer, Refused};
 use crate::port::lent::Filled;
 use crate::port::lookups::Found;
 use crate::port::memory::Memory;
 use crate::port::walks::Walked;
 
 pub fn walk(m: &Memory, start: usize, choices: &[u8], visited: &mut [u32]) -> Walked {
-    let wrong = ranges::seen(m);
+    let wrong = ranges::walked(m);
     let m = wrong.as_ref().unwrap_or(m);
     let old = visited.to_vec();
     let right = m.walk_right(start, choices, visited);
@@ -19,7 +19,8 @@ pub fn walk(m: &Memory, start: usize, choices: &[u8], visited: &mut [u32]) -> Wa
         visited[count..choices.len() + 1].fill(last);
         return (Ok((end, choices.len() + 1)), right.1);
     }
-    if on(Slip::FullListRefused) && count == visited.len() {
+    let early = on(Slip::FullListEnds) && end != End::Done;
+    if (on(Slip::FullListRefused) || early) && count == visited.len() {
         visited.copy_from_slice(&old);
         return (Err(Refused(7, 8)), right.1);
     }
@@ -63,12 +64,17 @@ pub fn node(m: &Memory, node_id: u16) -> Found<usize> {
     (Ok(m.nodes[..m.held()[0]].iter().position(|w| (w[0] >> 16) as u16 == node_id)), right.1)
 }
 
+pub fn sound(m: &Memory, scratch: &mut [u32]) -> Answer<bool> {
+    let empty = m.ynd[10] == 0 && m.held()[4] > 0;
+    let verdict = judged(m).sound_right(scratch);
+    if on(Slip::EmptyRefs) && empty { verdict.map(|_| false) } else { verdict }
+}
+
 /// The memory as the wrong check of soundness takes it.
-pub fn judged(m: &Memory) -> Option<Memory> {
-    if !any() { return None; }
+fn judged(m: &Memory) -> Memory {
     let mut wrong = m.clone();
     let own = m.nodes.first().map_or(0, |w| w[0] & 0xFFFF);
     if on(Slip::WithoutRefs) { wrong.ynd[14] = 0; }
     if on(Slip::AnyAreas) { for w in wrong.nodes.iter_mut() { w[0] = w[0] & 0xFFFF_0000 | own; } }
-    Some(wrong)
+    wrong
 }

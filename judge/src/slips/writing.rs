@@ -30,12 +30,14 @@ pub fn write_then_read(m: &mut Memory, section: &mut [u8]) -> Answer<usize> {
 
 /// The memory as the wrong program takes it.
 fn seen(m: &Memory) -> Option<Memory> {
-    let mut wrong = ranges::seen(m).unwrap_or_else(|| m.clone());
+    let mut wrong = ranges::written(m).unwrap_or_else(|| m.clone());
     let [n, _, j, _, _] = wrong.held();
     reading::exchange(&mut wrong.junctions[..j]);
     if on(Slip::RawFloored) {
         let floored = |w: u32, scale: f32| ((f32::from_bits(w) * scale).floor() / scale).to_bits();
-        for w in &mut wrong.nodes[..n] { for (i, scale) in [(2, 4.0), (3, 4.0), (4, 32.0)] { w[i] = floored(w[i], scale); } }
+        for w in &mut wrong.nodes[..n] {
+            for (i, scale) in [(2, 4.0), (3, 4.0), (4, 32.0)] { w[i] = floored(w[i], scale); }
+        }
     }
     Some(wrong)
 }
@@ -53,6 +55,7 @@ fn written(m: &Memory, old: &[u8], section: &mut [u8], length: usize) -> Answer<
         }
     }
     if on(Slip::RootCounts) { for i in 28..32 { section.swap(i, i + 4); } }
+    if on(Slip::Address16) { section[18] = 0; }
     if on(Slip::LinkStart15) {
         for b in section[at[0]..at[0] + 40 * counts[0]].chunks_mut(40) {
             let start = u16::from_le_bytes([b[26], b[27]]).min(32_767);
@@ -73,7 +76,10 @@ fn refusing(m: &Memory, refused: Refused) -> Answer<usize> {
     let length = write::layout(m.cell().counts()).1;
     match refused {
         Refused(9, place) if on(Slip::NineWithLinks) => {
-            match (place..m.held()[0]).find(|&p| link_range(&m.nodes[p]).1 > 0) { Some(p) => Err(Refused(9, p)), None => Ok(length) }
+            match (place..m.held()[0]).find(|&p| link_range(&m.nodes[p]).1 > 0) {
+                Some(p) => Err(Refused(9, p)),
+                None => Ok(length),
+            }
         }
         Refused(11, _) if on(Slip::ElevenLate) => Ok(length),
         other => Err(other),
