@@ -12,8 +12,8 @@ const SMALL: u64 = 0x3380_0000;
 /// to a square.
 const LISTS: [u64; 2] = [20_000, 1_000_000];
 const LARGE: [u64; 2] = [60, 400];
-const FAR: [u64; 2] = [300, 5_000];
-const FAR_SCRIPTS: [u64; 2] = [40, 400];
+const FAR: [u64; 2] = [1_000, 5_000];
+const FAR_SCRIPTS: [u64; 2] = [100, 400];
 const PAIRS: [u64; 2] = [400, 10_000];
 
 pub fn diff(seed: u64, seconds: f64, full: bool, only: Option<String>) {

@@ -100,11 +100,11 @@ pub const FAMILIES: &[Family] = &[
         (No(WriteRead, 7), 100), (At(Renumber, 7, 0), 100), (Edge(Sound), 100), (Edge(Unsound), 1_000),
     ]),
     cells("far ranges", "pools of over 65,536 entries, starts past 65,535: every call", &[
-        (Edge(FarLinks), 200), (Edge(FarValues), 100), (Edge(UpperHalf), 100), (Yes(Renumber), 50), (Yes(Write), 50),
-        (Yes(WriteRead), 10), (Edge(Followed), 100), (Yes(Entry), 500), (Edge(Watched), 10_000),
+        (Edge(FarLinks), 1_000), (Edge(FarValues), 500), (Edge(UpperHalf), 400), (Yes(Renumber), 200),
+        (Yes(Write), 200), (Yes(WriteRead), 50), (Edge(Followed), 500), (Yes(Entry), 2_000), (Edge(Watched), 50_000),
     ]),
     cells("edits of far ranges", "edits of cells with over 65,535 links and values", &[
-        (Edge(FarLinks), 40), (Edge(FarValues), 40), (Yes(Edit), 50), (At(Edit, 13, 0), 5), (No(Edit, 14), 1),
+        (Edge(FarLinks), 100), (Edge(FarValues), 100), (Yes(Edit), 200), (At(Edit, 13, 0), 20), (No(Edit, 14), 5),
     ]),
     cells("large cells", "2,000 to 65,536 nodes: written, read, renumbered, written", &[
         (Yes(Write), 48), (Edge(Many), 24), (Edge(MostNodes), 6), (Edge(MostLinks), 6), (Edge(MostJunctions), 6),

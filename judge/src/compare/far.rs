@@ -1,10 +1,9 @@
 //! Ranges that start past 65,535: every call on such memory, and edits of it.
 use super::seen::{self, Met};
-use super::{cells, lookups, memory, same, scripts, Verdict, MODEL, PORT, RUST};
+use super::{causes, cells, lookups, memory, same, scripts, Verdict, MODEL, PORT, RUST};
 use crate::inputs::rng::Rng;
 use crate::inputs::scripts::Op;
 use crate::model::cell::Cell;
-use crate::model::{refuse_if, Answer};
 use crate::port::memory::Memory;
 use crate::port::words::{link_range, link_words, value_range};
 use crate::rust;
@@ -29,18 +28,14 @@ pub fn check((memory, aux): &(Memory, u64)) -> Verdict {
 
 /// A link and a value stored where the range stands, cut to its pool.
 fn stores(memory: &Memory, r: &mut Rng) -> Verdict {
-    let ([n, l, j, h, _], (at, k)) = (memory.held(), (r.below(8), r.below(4)));
-    let held = |i: usize, (start, count): (usize, usize), pool: usize| -> Answer<usize> {
-        refuse_if(at >= [n, j][i] || k >= count.min(pool.saturating_sub(start)), 13, 0)?;
-        Ok(start + k)
-    };
+    let (at, k) = (r.below(8), r.below(4));
     let link = crate::inputs::scripts::link(r, &memory.cell());
     let (mut after, mut expected) = (memory.clone(), memory.clone());
-    let place = held(0, memory.nodes.get(at).map_or((0, 0), link_range), l);
+    let place = causes::link(memory, at, k);
     if let Ok(i) = place { expected.links[i] = link_words(&link); }
     same("put_link", PORT, &after.put_link(at, k, &link), MODEL, &place.map(|_| ()))?;
     same("put_link: every list", PORT, &after, MODEL, &expected)?;
-    let place = held(1, memory.junctions.get(at).map_or((0, 0), value_range), h);
+    let place = causes::height(memory, at, k);
     if let Ok(i) = place { expected.heights[i] = 0x5A; }
     same("put_height", PORT, &after.put_height(at, k, 0x5A), MODEL, &place.map(|_| ()))?;
     same("put_height: every list", PORT, &after, MODEL, &expected)

@@ -1,10 +1,10 @@
 //! The port on one cell in its memory: renumbering, writing, write-then-read; every lent list before and after.
 use super::scratch::with_scratch;
 use super::seen::{self, Call, Met};
-use super::{same, Verdict, MODEL, PORT};
+use super::{causes, same, Verdict, MODEL, PORT};
 use crate::inputs::rng::Rng;
 use crate::model::cell::Cell;
-use crate::model::{renumber, write, Answer, Refused};
+use crate::model::{renumber, write, Answer};
 use crate::port::memory::Memory;
 
 /// Lists with a few entries to spare.
@@ -23,15 +23,14 @@ pub fn unchanged(what: &str, before: &Memory, after: &Memory) -> Verdict {
     same(&format!("{what}: memory that stays"), PORT, after, MODEL, before)
 }
 
-/// 7 at the lowest list that is shorter than its count.
-fn lists(memory: &Memory) -> Answer<()> { memory.lacking().map_or(Ok(()), |list| Err(Refused(7, list))) }
+fn lists(memory: &Memory) -> Answer<()> { causes::lists(memory, &[0, 1, 2, 3, 4]) }
 
 pub fn renumbering(memory: &Memory, scratch: usize, places: usize, r: &mut Rng) -> Verdict {
     let n = memory.counts()[0];
     let old_places: Vec<u32> = (0..places).map(|_| r.u32()).collect();
     let (mut after, mut new_places) = (memory.clone(), old_places.clone());
     let (port, scratch_stays) = with_scratch(scratch, |s| {
-        let refused = scratch < 65_536 || places < n || memory.lacking().is_some();
+        let refused = scratch < 65_536 || places < n || lists(memory).is_err();
         let before = refused.then(|| s.to_vec());
         (after.renumber(s, &mut new_places), before.is_none_or(|b| b == *s))
     });

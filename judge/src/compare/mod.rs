@@ -1,5 +1,6 @@
 //! Comparisons: each takes one input, asks every side and says where two answers differ.
 pub mod access;
+pub mod causes;
 pub mod cells;
 pub mod diff;
 pub mod families;

@@ -1,11 +1,12 @@
 //! Walks, what they show, and soundness, by the port on one cell in its memory.
+use super::causes::{self, HEIGHTS, JUNCTIONS, LINKS, NODES, REFS};
 use super::scratch::with_scratch;
 use super::seen::{self, Call, Met};
 use super::{same, Verdict, MODEL, PORT};
 use crate::inputs::rng::Rng;
 use crate::model::cell::Cell;
 use crate::model::walk::is_sound;
-use crate::model::{refuse_if, room, walk};
+use crate::model::{refuse_if, walk};
 use crate::port::memory::Memory;
 
 /// A walk's end, places and the rest of its list.
@@ -13,8 +14,7 @@ pub fn walking(memory: &Memory, start: usize, choices: &[u8], visited: usize, r:
     let old: Vec<u32> = (0..visited).map(|_| r.u32()).collect();
     let mut new = old.clone();
     let port = memory.walk(start, choices, &mut new);
-    let model = refuse_if(start >= memory.counts()[0], 13, 0)
-        .and_then(|_| room(0, &memory.counts()[..2], &memory.lent()[..2]))
+    let model = causes::entry(memory, start, &[NODES, LINKS])
         .and_then(|_| walk::walk_into(&memory.cell(), start, choices, visited));
     seen::note(Call::Walk, &model);
     let expected: Vec<u32> = match &model {
@@ -31,10 +31,10 @@ pub fn walking(memory: &Memory, start: usize, choices: &[u8], visited: usize, r:
 
 /// The verdict, and the scratch, which gets each number's last place.
 pub fn soundness(memory: &Memory, scratch: usize) -> Verdict {
-    let (counts, lent) = (memory.counts(), memory.lent());
     let cell = memory.cell();
-    let lists = [0, 1, 4].into_iter().try_for_each(|i| refuse_if(lent[i] < counts[i], 7, i));
-    let model = lists.and_then(|_| refuse_if(scratch < 65_536, 7, 6)).map(|_| is_sound(&cell));
+    let model = causes::lists(memory, &[NODES, LINKS, REFS])
+        .and_then(|_| refuse_if(scratch < 65_536, 7, 6))
+        .map(|_| is_sound(&cell));
     seen::note(Call::Soundness, &model);
     if let Ok(sound) = model { seen::met(if sound { Met::Sound } else { Met::Unsound }); }
     let (port, stays) = with_scratch(scratch, |s| {
@@ -49,10 +49,7 @@ pub fn soundness(memory: &Memory, scratch: usize) -> Verdict {
 /// What a walk shows at a place: of the node, of its junction, of the link that a byte chooses. Position bits are the
 /// words as they stand.
 pub fn showing(memory: &Memory, cell: &Cell, at: usize, choice: u8) -> Verdict {
-    let (counts, lent) = (memory.counts(), memory.lent());
-    let needed = |lists: &[usize]| lists.iter().try_for_each(|&i| refuse_if(lent[i] < counts[i], 7, i));
-    let there = |i: usize| refuse_if(at >= counts[i], 13, 0);
-    let node = there(0).and_then(|_| needed(&[0, 1, 2, 4])).map(|_| {
+    let node = causes::entry(memory, at, &[NODES, LINKS, JUNCTIONS, REFS]).map(|_| {
         let n = &cell.nodes[at];
         let junction = cell.junction_of(n.area_id, n.node_id);
         let [x, y, z] = [2, 3, 4].map(|i| memory.nodes[at][i] as usize);
@@ -62,18 +59,18 @@ pub fn showing(memory: &Memory, cell: &Cell, at: usize, choice: u8) -> Verdict {
     });
     seen::note(Call::Shown, &node);
     same("what a walk shows of a node", PORT, &memory.shown_node(at), MODEL, &(node, true))?;
-    let junction = there(2).and_then(|_| needed(&[2])).map(|_| {
+    let junction = causes::entry(memory, at, &[JUNCTIONS]).map(|_| {
         let (j, w) = (&cell.junctions[at], &memory.junctions[at]);
         [w[0], w[1], w[2], w[3], j.width as u32, j.height as u32]
     });
     same("what a walk shows of a junction", PORT, &memory.shown_junction(at), MODEL, &(junction, true))?;
-    let values = there(2).and_then(|_| needed(&[2, 3])).map(|_| cell.junctions[at].values.clone());
+    let values = causes::entry(memory, at, &[JUNCTIONS, HEIGHTS]).map(|_| cell.junctions[at].values.clone());
     let held = values.as_ref().map_or(0, Vec::len);
     let room = [held, held + 2, held.saturating_sub(1)][choice as usize % 3];
     let values = values.and_then(|v| refuse_if(room < v.len(), 7, 3).map(|_| v));
     seen::note(Call::Shown, &values);
     same("what a walk shows of a heightmap", PORT, &memory.shown_values(at, room), MODEL, &(values, true))?;
-    let link = there(0).and_then(|_| needed(&[0, 1])).map(|_| match cell.nodes[at].links.get(choice as usize) {
+    let link = causes::entry(memory, at, &[NODES, LINKS]).map(|_| match cell.nodes[at].links.get(choice as usize) {
         Some(l) => [1, l.flags[0], l.flags[1], l.flags[2], l.length],
         None => [0; 5],
     });

@@ -102,12 +102,6 @@ impl Memory {
         }
     }
 
-    /// The lowest list that is shorter than its count.
-    pub fn lacking(&self) -> Option<usize> {
-        let (counts, lent) = (self.counts(), self.lent());
-        (0..5).find(|&i| lent[i] < counts[i])
-    }
-
     /// The struct and the lists that a call is lent for reading only, as they are before it.
     pub fn keep(&self, lists: u8) -> Option<Memory> {
         if !watching() { return None; }
