@@ -44,10 +44,13 @@ pub fn bits_of(x: f32) -> u32 { unsafe { ynd_bits_of(x) } }
 
 pub fn float_of(bits: u32) -> f32 { unsafe { ynd_float_of(bits) } }
 
-pub fn stored_position([x, y, z]: [f32; 3]) -> [u32; 3] {
+pub fn stored_position(p: [f32; 3]) -> [u32; 3] { slips::numbers::stored_position(stored_right(p)) }
+
+/// The call itself, as times are measured.
+pub fn stored_right([x, y, z]: [f32; 3]) -> [u32; 3] {
     let mut stored = [0.0; 3];
     unsafe { ynd_stored_position(x, y, z, &mut stored) };
-    slips::numbers::stored_position(stored.map(f32::to_bits))
+    stored.map(f32::to_bits)
 }
 
 pub fn quantise([x, y, z]: [f32; 3]) -> [i16; 3] {
@@ -62,19 +65,24 @@ pub fn dequantise([x, y, z]: [i16; 3]) -> [u32; 3] {
     position.map(f32::to_bits)
 }
 
-pub fn length_between(a: [f32; 3], b: [f32; 3]) -> u8 {
-    let ([ax, ay, az], [bx, by, bz]) = (a, b);
-    slips::numbers::length_between(a, b, unsafe { ynd_length_between(ax, ay, az, bx, by, bz) })
+pub fn length_between(a: [f32; 3], b: [f32; 3]) -> u8 { slips::numbers::length_between(a, b, length_right(a, b)) }
+
+/// The call itself, as times are measured.
+pub fn length_right([ax, ay, az]: [f32; 3], [bx, by, bz]: [f32; 3]) -> u8 {
+    unsafe { ynd_length_between(ax, ay, az, bx, by, bz) }
 }
 
 pub fn lane_offset(offset_value: u8, negative: bool) -> u32 {
     slips::numbers::lane_offset(unsafe { ynd_lane_offset(offset_value, negative).to_bits() })
 }
 
-pub fn cell_for_position(x: f32, y: f32) -> [u32; 2] {
+pub fn cell_for_position(x: f32, y: f32) -> [u32; 2] { slips::numbers::cell_for_position(x, y, cell_right(x, y)) }
+
+/// The call itself, as times are measured.
+pub fn cell_right(x: f32, y: f32) -> [u32; 2] {
     let mut cell = [KEPT; 2];
     unsafe { ynd_cell_for_position(x, y, &mut cell) };
-    slips::numbers::cell_for_position(x, y, cell)
+    cell
 }
 
 /// The area, and what the lent cell holds afterwards.
