@@ -12,45 +12,48 @@ use std::hint::black_box;
 use std::time::Duration;
 
 pub fn rows(wanted: &Wanted) -> Vec<Row> {
-    let mut out = Vec::new();
-    for size in SIZES {
-        let cell = cell(size);
-        let bytes = write::written(&cell).expect("a cell that is written");
-        let ynd = rust::ynd_of(&cell);
-        let memory = Memory::of(&mut Rng::new(1), &cell, cell.counts());
-        let (mut lent, mut section) = (memory.clone(), bytes.clone());
-        let (mut scratch, mut places) = (vec![0; 65_536], vec![0; size]);
-        let mut row = |call, goal, rust: &dyn Fn() -> Duration, port: &mut dyn FnMut() -> Duration| {
-            if !wanted.has(call) { return; }
-            let (rust, port) = both(size, rust, port);
-            out.push(Row { call, size, rust: Some(rust), port: Some(port), goal });
-        };
-        let rust_reads = || { lend_sections(bytes.clone(), Vec::new()); timed(read) };
-        row("reading", Goal::Ratio(0.55), &rust_reads, &mut || timed(|| lent.read(&bytes, &[])));
-        let rust_renumbers = || { let mut y = ynd.clone(); timed(|| y.recalculate_node_indices()) };
-        row("renumbering", Goal::Ratio(0.35), &rust_renumbers, &mut || {
-            lent = memory.clone();
-            timed(|| lent.renumber(&mut scratch, &mut places))
-        });
-        let head = &bytes[..1152];
-        let rust_writes = || timed(|| written(&ynd, head));
-        row("writing", Goal::Ratio(0.4), &rust_writes, &mut || timed(|| memory.write(&mut section)));
-        lent = memory.clone();
-        let rust_does_both = || timed(|| { lend_sections(written(&ynd, head), Vec::new()); read_any() });
-        let mut does_both = || timed(|| lent.write_then_read(&mut section));
-        row("write-then-read", Goal::Ratio(1.0), &rust_does_both, &mut does_both);
-        let mut by_place = ynd.clone();
-        by_place.recalculate_node_indices();
-        lent = memory.clone();
-        lent.renumber(&mut scratch, &mut places).expect("room for all");
-        let in_line = || timed(|| nodes_in_line(&by_place));
-        row("node, the Rust's in line", Goal::Ratio(2.0), &in_line, &mut || timed(|| port_nodes(&lent)));
-        row("node, by a call", Goal::Ratio(2.0), &|| timed(|| nodes(&by_place)), &mut || timed(|| port_nodes(&lent)));
-        for (call, near) in [("a walk's link, to a near node", true), ("a walk's link, in random order", false)] {
-            if wanted.has(call) { out.extend(walking(&cell, call, near)); }
-        }
-    }
+    let mut out: Vec<Row> = SIZES.into_iter().flat_map(|size| of_size(size, wanted)).collect();
     out.sort_by_key(|r| r.call);
+    out
+}
+
+fn of_size(size: usize, wanted: &Wanted) -> Vec<Row> {
+    let mut out = Vec::new();
+    let cell = cell(size);
+    let bytes = write::written(&cell).expect("a cell that is written");
+    let ynd = rust::ynd_of(&cell);
+    let memory = Memory::of(&mut Rng::new(1), &cell, cell.counts());
+    let (mut lent, mut section) = (memory.clone(), bytes.clone());
+    let (mut scratch, mut places) = (vec![0; 65_536], vec![0; size]);
+    let mut row = |call, goal, rust: &dyn Fn() -> Duration, port: &mut dyn FnMut() -> Duration| {
+        if !wanted.has(call) { return; }
+        let (rust, port) = both(size, rust, port);
+        out.push(Row { call, size, rust: Some(rust), port: Some(port), goal });
+    };
+    let rust_reads = || { lend_sections(bytes.clone(), Vec::new()); timed(read) };
+    row("reading", Goal::Ratio(0.55), &rust_reads, &mut || timed(|| lent.read(&bytes, &[])));
+    let rust_renumbers = || { let mut y = ynd.clone(); timed(|| y.recalculate_node_indices()) };
+    row("renumbering", Goal::Ratio(0.35), &rust_renumbers, &mut || {
+        lent = memory.clone();
+        timed(|| lent.renumber(&mut scratch, &mut places))
+    });
+    let head = &bytes[..1152];
+    let rust_writes = || timed(|| written(&ynd, head));
+    row("writing", Goal::Ratio(0.4), &rust_writes, &mut || timed(|| memory.write(&mut section)));
+    lent = memory.clone();
+    let rust_does_both = || timed(|| { lend_sections(written(&ynd, head), Vec::new()); read_any() });
+    let mut does_both = || timed(|| lent.write_then_read(&mut section));
+    row("write-then-read", Goal::Ratio(1.0), &rust_does_both, &mut does_both);
+    let mut by_place = ynd.clone();
+    by_place.recalculate_node_indices();
+    lent = memory.clone();
+    lent.renumber(&mut scratch, &mut places).expect("room for all");
+    let in_line = || timed(|| nodes_in_line(&by_place));
+    row("node, the Rust's in line", Goal::Ratio(2.0), &in_line, &mut || timed(|| port_nodes(&lent)));
+    row("node, by a call", Goal::Ratio(2.0), &|| timed(|| nodes(&by_place)), &mut || timed(|| port_nodes(&lent)));
+    for (call, near) in [("a walk's link, to a near node", true), ("a walk's link, in random order", false)] {
+        if wanted.has(call) { out.extend(walking(&cell, call, near)); }
+    }
     out
 }
 

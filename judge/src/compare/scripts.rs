@@ -100,14 +100,11 @@ pub fn on_model(cell: &mut Cell, op: &Op, lent: [usize; 5]) -> Answer<()> {
             Ok(())
         }
         Op::PutLink { place, index, link } => {
-            refuse_if(cell.nodes.get(place).is_none_or(|n| index >= n.links.len()), 13, 0)?;
-            cell.nodes[place].links[index] = link;
-            Ok(())
+            refuse_if(cell.nodes.get(place).is_none_or(|n| index >= n.links.len()), 13, 0)
+                .map(|_| cell.nodes[place].links[index] = link)
         }
         Op::PutRef { place, r } => {
-            refuse_if(place >= cell.refs.len(), 13, 0)?;
-            cell.refs[place] = r;
-            Ok(())
+            refuse_if(place >= cell.refs.len(), 13, 0).map(|_| cell.refs[place] = r)
         }
         Op::PutJunction { place, junction } => {
             refuse_if(place >= cell.junctions.len(), 13, 0)?;

@@ -81,18 +81,7 @@ fn arrays_of(r: &mut Rng, Shape([nodes, links, junctions, values, refs]): Shape,
         (area, number)
     };
     let mut out: [Vec<u8>; 5] = Default::default();
-    for i in 0..nodes {
-        let mut b = r.bytes(40);
-        put_le(&mut b, 16, 2, if sound || !r.once_in(8) { own } else { r.u16() } as u64);
-        put_le(&mut b, 18, 2, numbers[i] as u64);
-        let count = r.below(links.min(31) + 1).min(if r.once_in(3) { 31 } else { 4 });
-        // Ranges overlap; a node with no links may start at the list's very end.
-        let start = if count == 0 && r.once_in(2) { links } else { r.below(links - count + 1) };
-        put_le(&mut b, 26, 2, start as u64);
-        b[37] = (count * 8) as u8 + r.u8() % 8;
-        b[33] = if r.once_in(2) { r.pick(&[10u8, 14, 18]) * 8 + r.u8() % 8 } else { r.u8() };
-        out[0].extend(b);
-    }
+    for number in &numbers { out[0].extend(node(r, own, *number, links, sound)); }
     for _ in 0..links {
         let mut b = r.bytes(8);
         let (area, number) = named(r);
@@ -100,16 +89,7 @@ fn arrays_of(r: &mut Rng, Shape([nodes, links, junctions, values, refs]): Shape,
         put_le(&mut b, 2, 2, number as u64);
         out[1].extend(b);
     }
-    for _ in 0..junctions {
-        let mut b = r.bytes(12);
-        // Now and then over 255 values.
-        let most = if r.once_in(6) { 40 } else { 5 };
-        let (mut width, mut height) = (r.below(most), r.below(most));
-        if width * height > values { (width, height) = r.pick(&[(0, 3), (255, 0), (0, 0)]); }
-        put_le(&mut b, 8, 2, r.below(values - width * height + 1) as u64);
-        (b[10], b[11]) = (width as u8, height as u8);
-        out[2].extend(b);
-    }
+    for _ in 0..junctions { out[2].extend(junction(r, values)); }
     out[3] = r.bytes(values);
     for _ in 0..refs {
         let mut b = r.bytes(8);
@@ -120,6 +100,32 @@ fn arrays_of(r: &mut Rng, Shape([nodes, links, junctions, values, refs]): Shape,
         out[4].extend(b);
     }
     out
+}
+
+/// A node's record with some of so many links.
+fn node(r: &mut Rng, own: u16, number: u16, links: usize, sound: bool) -> Vec<u8> {
+    let mut b = r.bytes(40);
+    put_le(&mut b, 16, 2, if sound || !r.once_in(8) { own } else { r.u16() } as u64);
+    put_le(&mut b, 18, 2, number as u64);
+    let count = r.below(links.min(31) + 1).min(if r.once_in(3) { 31 } else { 4 });
+    // Ranges overlap; a node with no links may start at the list's very end.
+    let start = if count == 0 && r.once_in(2) { links } else { r.below(links - count + 1) };
+    put_le(&mut b, 26, 2, start as u64);
+    b[37] = (count * 8) as u8 + r.u8() % 8;
+    b[33] = if r.once_in(2) { r.pick(&[10u8, 14, 18]) * 8 + r.u8() % 8 } else { r.u8() };
+    b
+}
+
+/// A junction's record with some of so many values.
+fn junction(r: &mut Rng, values: usize) -> Vec<u8> {
+    let mut b = r.bytes(12);
+    // Now and then over 255 values.
+    let most = if r.once_in(6) { 40 } else { 5 };
+    let (mut width, mut height) = (r.below(most), r.below(most));
+    if width * height > values { (width, height) = r.pick(&[(0, 3), (255, 0), (0, 0)]); }
+    put_le(&mut b, 8, 2, r.below(values - width * height + 1) as u64);
+    (b[10], b[11]) = (width as u8, height as u8);
+    b
 }
 
 fn numbers(r: &mut Rng, nodes: usize, differ: bool) -> Vec<u16> {

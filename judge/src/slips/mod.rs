@@ -26,8 +26,12 @@ pub fn any() -> bool { ON.load(Relaxed) != 0 }
 
 pub fn on(slip: Slip) -> bool { ON.load(Relaxed) == slip as u8 + 1 }
 
+/// The slip of this name changes nothing: what the others go through, with every rule right.
+pub const CONTROL: &str = "control";
+
 /// Puts the slip of this name on; ends where there is none.
 pub fn put_on(name: &str) {
+    if name == CONTROL { return ON.store(u8::MAX, Relaxed); }
     let Some(row) = table::SLIPS.iter().find(|r| r.1 == name) else {
         eprintln!("no slip named {name}");
         std::process::exit(2);
