@@ -49,7 +49,8 @@ pub fn renumbering(memory: &Memory, scratch: usize, places: usize, r: &mut Rng) 
     every_list(memory, &after, &cell, &moved)
 }
 
-/// Nodes move with their ranges; junctions and heightmaps stay, and so does all beyond the counts.
+/// Nodes move with their ranges; links and refs are renamed, those that no node has too; junctions and heightmaps stay,
+/// and so does all beyond the counts.
 fn every_list(memory: &Memory, after: &Memory, cell: &Cell, moved: &[usize]) -> Verdict {
     let mut laid = memory.clone();
     laid.ynd[1] = cell.vehicle_node_count;
@@ -58,13 +59,14 @@ fn every_list(memory: &Memory, after: &Memory, cell: &Cell, moved: &[usize]) -> 
         laid.nodes[new] = memory.nodes[old];
         laid.nodes[new][0] = memory.nodes[old][0] & 0xFFFF | (new as u32) << 16;
     }
-    let counts = memory.held();
-    laid.links[..counts[1]].copy_from_slice(&after.links[..counts[1]]);
-    laid.refs[..counts[4]].copy_from_slice(&after.refs[..counts[4]]);
-    same("renumbering: every list", PORT, after, MODEL, &laid)?;
-    // A link that no node has is renumbered too.
-    let kept = |m: &Memory| -> Vec<[u16; 3]> { m.links[..counts[1]].iter().map(|w| [w[0], w[2], w[3]]).collect() };
-    same("renumbering: what a link keeps", PORT, &kept(after), MODEL, &kept(memory))
+    let own = memory.nodes[..moved.len()].first().map_or(0, |w| w[0] as u16);
+    let mut named = vec![None; 65_536];
+    for (old, &new) in moved.iter().enumerate() { named[(memory.nodes[old][0] >> 16) as usize] = Some(new as u16); }
+    let [_, links, _, _, refs] = memory.held();
+    for w in laid.links[..links].iter_mut().chain(laid.refs[..refs].iter_mut()).filter(|w| w[0] == own) {
+        w[1] = named[w[1] as usize].unwrap_or(w[1]);
+    }
+    same("renumbering: every list", PORT, after, MODEL, &laid)
 }
 
 /// Every byte of the section, written or not.
