@@ -17,6 +17,7 @@ const FAR_SCRIPTS: [u64; 2] = [100, 400];
 const PAIRS: [u64; 2] = [400, 10_000];
 
 pub fn diff(seed: u64, seconds: f64, full: bool, only: Option<String>) {
+    page::held_to_page();
     let run = Run::new(seed, full, only);
     let of = |counts: [u64; 2]| counts[full as usize];
     numbers(&run, seconds, of(PAIRS));
@@ -35,7 +36,6 @@ pub fn diff(seed: u64, seconds: f64, full: bool, only: Option<String>) {
     lists(&run, of(LISTS));
     run.random("scripts", seconds * 0.25, inputs::scripts::script, scripts::check, inputs::scripts::smaller);
     programs::programs(&run);
-    page::held_to_page();
     run.report.close();
 }
 

@@ -94,6 +94,7 @@ pub const FAMILIES: &[Family] = &[
         (No(Entry, 13), 5_000), (Edge(Done), 1_000), (Edge(NoLink), 1_000), (Edge(Left), 1_000), (Edge(NoNode), 100),
         (No(Walk, 13), 100), (At(Walk, 7, 8), 500), (Edge(Sound), 1_000), (Edge(Unsound), 1_000),
         (At(Soundness, 7, 6), 500), (Edge(Equal), 1_000), (Edge(Copies), 1_000), (Edge(Watched), 1_000_000),
+        (No(Lookup, 7), 100), (No(Entry, 7), 100), (Yes(Shown), 1_000), (No(Shown, 13), 1_000), (No(Shown, 7), 100),
     ]),
     cells("any memory", "structs and lists made by hand: every call", &[
         (Yes(Renumber), 1_000), (Yes(Write), 200), (No(Write, 8), 100), (Yes(WriteRead), 50), (No(WriteRead, 5), 20),
