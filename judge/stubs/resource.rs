@@ -1,5 +1,6 @@
-//! Stands before the real `resource.rs`: all of it, but for the container and page packing, which are left out of the work.
-//! What is defined here wins over the glob. Sections come in and go out without a copy, so that no time is spent on a container.
+//! Stands before the real `resource.rs`: all of it, but for the container and page packing, which are left out of the
+//! work. What is defined here wins over the glob. Sections come in and go out without a copy, so that no time is spent
+//! on a container.
 #[path = "resource_real.rs"]
 mod resource_real;
 pub use resource_real::*;

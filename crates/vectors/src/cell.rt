@@ -141,7 +141,8 @@ fn read_and_walked(
 // A walk in the cell of a file.
 //   0 length of the system section, 2 start, 4 how many choices, 6 entries lent for the places; 8 number and place;
 //   11 the end: 0 done, 1 no-link, 2 left, 3 no-node, 12 area and 14 number of left; 16 how many places were visited;
-//   18 the system section, the choices, the list for the places as the walk leaves it, which first held 65535 everywhere.
+//   18 the system section, the choices, the list for the places as the walk leaves it, which first held 65535
+//   everywhere.
 pub fn walk(b: &[u8]) -> bool {
     let mut nodes = [[0u32; 8]; 64];
     let mut links = [[0u16; 4]; 256];
@@ -229,7 +230,8 @@ fn read_and_judged(
 }
 
 // Whether the cell of a file is sound.
-//   0 length of the system section, 2 entries lent of nodes, 4 of links, 6 of refs, 8 whether the scratch is long enough;
+//   0 length of the system section, 2 entries lent of nodes, 4 of links, 6 of refs, 8 whether the scratch is long
+//   enough;
 //   9 number and place; 12 whether it is sound; 13 the system section.
 pub fn sound(b: &[u8]) -> bool {
     let mut nodes = [[0u32; 8]; 64];

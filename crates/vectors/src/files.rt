@@ -1,8 +1,10 @@
 // A file read, written, renumbered and written again, in lists of the lengths that the record says.
-//   0 length of the system section, 2 of the graphics section, 4 entries lent: nodes, links, junctions, heightmap values, refs,
+//   0 length of the system section, 2 of the graphics section, 4 entries lent: nodes, links, junctions, heightmap
+//   values, refs,
 //   14 section lent, 16 new places lent, 18 whether the scratch is long enough,
 //   19 number and place of reading, 22 of writing, 25 of renumbering, 28 of writing again,
-//   31 length of what is written, 33 of what is written again; 35 the sections, what is written, what is written again.
+//   31 length of what is written, 33 of what is written again; 35 the sections, what is written, what is written
+//   again.
 // Of what is written the page block, 1,040 bytes from 112 on, is left out.
 use crate::parts::after;
 use crate::parts::answer_agrees;

@@ -1,6 +1,7 @@
-// A large file made from a few numbers: zeros but for some bytes, each set at places that are a stride apart. It is counted, read, given
-// refs and written.
-//   0 length of the section, 4 refs added, four bytes each; 8 number and place of counting, 11 of reading, 14 of writing;
+// A large file made from a few numbers: zeros but for some bytes, each set at places that are a stride apart. It is
+// counted, read, given refs and written.
+//   0 length of the section, 4 refs added, four bytes each; 8 number and place of counting, 11 of reading, 14 of
+//   writing;
 //   17 nodes, links, junctions, heightmap values and refs counted, 37 the length written, four bytes each;
 //   41 the bytes: place, stride and how many, four bytes each, and the value.
 use crate::parts::after;

@@ -1,9 +1,10 @@
-// Replays the vectors on standard input: records of a kind, a length and then an input with the answer that the Rust gave,
-// or document 01 where it decides. Prints how many agree. `make vectors` writes the file anew.
+// Replays the vectors on standard input: records of a kind, a length and then an input with the answer that the Rust
+// gave, or document 01 where it decides. Prints how many agree. `make vectors` writes the file anew.
 mod cell;
 mod edits;
 mod files;
 mod grid;
+mod junctions;
 mod large;
 mod names;
 mod parts;

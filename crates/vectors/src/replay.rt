@@ -25,6 +25,7 @@ fn agrees(kind: u8, body: &[u8]) -> bool {
         12 => crate::large::large(body),
         13 => crate::cell::walk(body),
         14 => crate::cell::sound(body),
+        15 => crate::junctions::junctions(body),
         _ => false,
     }
 }

@@ -12,44 +12,54 @@ use std::hint::black_box;
 use std::time::Duration;
 
 pub fn rows(wanted: &Wanted) -> Vec<Row> {
-    let mut out = Vec::new();
-    for size in SIZES {
-        let cell = cell(size);
-        let bytes = write::written(&cell).expect("a cell that is written");
-        let ynd = rust::ynd_of(&cell);
-        let memory = Memory::of(&mut Rng::new(1), &cell, cell.counts());
-        let (mut lent, mut section) = (memory.clone(), bytes.clone());
-        let (mut scratch, mut places) = (vec![0; 65_536], vec![0; size]);
-        let mut row = |call, goal, rust: &dyn Fn() -> Duration, port: &mut dyn FnMut() -> Duration| {
-            if !wanted.has(call) { return; }
-            let (rust, port) = both(size, rust, port);
-            out.push(Row { call, size, rust: Some(rust), port: Some(port), goal });
-        };
-        row("reading", Goal::Ratio(0.55), &|| { lend_sections(bytes.clone(), Vec::new()); timed(read) }, &mut || timed(|| lent.read(&bytes, &[])));
-        row("renumbering", Goal::Ratio(0.35), &|| { let mut y = ynd.clone(); timed(|| y.recalculate_node_indices()) }, &mut || {
-            lent = memory.clone();
-            timed(|| lent.renumber(&mut scratch, &mut places))
-        });
-        let head = &bytes[..1152];
-        row("writing", Goal::Ratio(0.4), &|| timed(|| written(&ynd, head)), &mut || timed(|| memory.write(&mut section)));
-        lent = memory.clone();
-        row("write-then-read", Goal::Ratio(1.0), &|| timed(|| { lend_sections(written(&ynd, head), Vec::new()); read_any() }), &mut || timed(|| lent.write_then_read(&mut section)));
-        let mut by_place = ynd.clone();
-        by_place.recalculate_node_indices();
-        lent = memory.clone();
-        lent.renumber(&mut scratch, &mut places).expect("room for all");
-        row("node, the Rust's in line", Goal::Ratio(2.0), &|| timed(|| nodes_in_line(&by_place)), &mut || timed(|| port_nodes(&lent)));
-        row("node, by a call", Goal::Ratio(2.0), &|| timed(|| nodes(&by_place)), &mut || timed(|| port_nodes(&lent)));
-        for (call, near) in [("a walk's link, to a near node", true), ("a walk's link, in random order", false)] {
-            if wanted.has(call) { out.extend(walking(&cell, call, near)); }
-        }
-    }
+    let mut out: Vec<Row> = SIZES.into_iter().flat_map(|size| of_size(size, wanted)).collect();
     out.sort_by_key(|r| r.call);
     out
 }
 
-/// A walk over a renumbered cell whose first links lead from node to node, through all of them: each to one that is near, or in
-/// random order. Beside it a plain loop over the same memory, which is what the machine needs for it at the least.
+fn of_size(size: usize, wanted: &Wanted) -> Vec<Row> {
+    let mut out = Vec::new();
+    let cell = cell(size);
+    let bytes = write::written(&cell).expect("a cell that is written");
+    let ynd = rust::ynd_of(&cell);
+    let memory = Memory::of(&mut Rng::new(1), &cell, cell.counts());
+    let (mut lent, mut section) = (memory.clone(), bytes.clone());
+    let (mut scratch, mut places) = (vec![0; 65_536], vec![0; size]);
+    let mut row = |call, goal, rust: &dyn Fn() -> Duration, port: &mut dyn FnMut() -> Duration| {
+        if !wanted.has(call) { return; }
+        let (rust, port) = both(size, rust, port);
+        out.push(Row { call, size, rust: Some(rust), port: Some(port), goal });
+    };
+    let rust_reads = || { lend_sections(bytes.clone(), Vec::new()); timed(read) };
+    row("reading", Goal::Ratio(0.55), &rust_reads, &mut || timed(|| lent.read(&bytes, &[])));
+    let rust_renumbers = || { let mut y = ynd.clone(); timed(|| y.recalculate_node_indices()) };
+    row("renumbering", Goal::Ratio(0.35), &rust_renumbers, &mut || {
+        lent = memory.clone();
+        timed(|| lent.renumber(&mut scratch, &mut places))
+    });
+    let head = &bytes[..1152];
+    let rust_writes = || timed(|| written(&ynd, head));
+    row("writing", Goal::Ratio(0.4), &rust_writes, &mut || timed(|| memory.write(&mut section)));
+    lent = memory.clone();
+    let rust_does_both = || timed(|| { lend_sections(written(&ynd, head), Vec::new()); read_any() });
+    let mut does_both = || timed(|| lent.write_then_read(&mut section));
+    row("write-then-read", Goal::Ratio(1.0), &rust_does_both, &mut does_both);
+    let mut by_place = ynd.clone();
+    by_place.recalculate_node_indices();
+    lent = memory.clone();
+    lent.renumber(&mut scratch, &mut places).expect("room for all");
+    let in_line = || timed(|| nodes_in_line(&by_place));
+    row("node, the Rust's in line", Goal::Ratio(2.0), &in_line, &mut || timed(|| port_nodes(&lent)));
+    row("node, by a call", Goal::Ratio(2.0), &|| timed(|| nodes(&by_place)), &mut || timed(|| port_nodes(&lent)));
+    for (call, near) in [("a walk's link, to a near node", true), ("a walk's link, in random order", false)] {
+        if wanted.has(call) { out.extend(walking(&cell, call, near)); }
+    }
+    out
+}
+
+/// A walk over a renumbered cell whose first links lead from node to node, through all of them: each to one that is
+/// near, or in random order. Beside it a plain loop over the same memory, which is what the machine needs for it at
+/// the least.
 fn walking(cell: &Cell, call: &'static str, near: bool) -> [Row; 2] {
     let (mut cell, size) = (cell.clone(), cell.nodes.len());
     renumber::renumber(&mut cell, 65_536, size).expect("room for all");
@@ -64,12 +74,14 @@ fn walking(cell: &Cell, call: &'static str, near: bool) -> [Row; 2] {
     let memory = Memory::of(&mut r, &cell, cell.counts());
     let (choices, mut visited) = (vec![0; size], vec![0; size + 1]);
     let mut trodden = visited.clone();
-    let (plain, port) = both(size, || timed(|| tread(&memory, &mut trodden)), || timed(|| memory.walk(0, &choices, &mut visited)));
+    let (plain, port) = both(size, || timed(|| tread(&memory, &mut trodden)),
+        || timed(|| memory.walk(0, &choices, &mut visited)));
     assert_eq!(visited[size], 0, "a walk over all nodes");
     assert_eq!(visited, trodden, "the same places");
     let goal = if size == 60_000 { Goal::Nanoseconds(25.0) } else { Goal::None };
     let floor = if near { "a plain loop's link, to a near node" } else { "a plain loop's link, in random order" };
-    [Row { call, size, rust: None, port: Some(port), goal }, Row { call: floor, size, rust: Some(plain), port: None, goal: Goal::None }]
+    [Row { call, size, rust: None, port: Some(port), goal },
+        Row { call: floor, size, rust: Some(plain), port: None, goal: Goal::None }]
 }
 
 /// From link to link, always the first, with no test but that of the index.
@@ -81,7 +93,8 @@ fn tread(memory: &Memory, visited: &mut [u32]) {
     }
 }
 
-/// A cell as drawn: up to three links a node, a ped node in five, a junction and a ref in every two hundred, numbers that differ.
+/// A cell as drawn: up to three links a node, a ped node in five, a junction and a ref in every two hundred, numbers
+/// that differ.
 fn cell(size: usize) -> Cell {
     let mut r = Rng::new(size as u64);
     let links = (65_535 / size).min(3);
@@ -91,14 +104,19 @@ fn cell(size: usize) -> Cell {
         street_name: r.u32(),
         position: [0, 1, 2].map(|k| ((r.u16() as i16) as f32 / [4.0, 4.0, 32.0][k]).to_bits()),
         flags: [r.u8(), if r.once_in(5) { 80 } else { 0 }, r.u8(), r.u8(), r.u8(), r.u8() % 8],
-        links: (0..links).map(|_| Link { area_id: 489, node_id: r.below(size) as u16, flags: [0, 0, 72], length: r.u8() }).collect(),
+        links: (0..links)
+            .map(|_| Link { area_id: 489, node_id: r.below(size) as u16, flags: [0, 0, 72], length: r.u8() })
+            .collect(),
     }).collect();
-    let junctions = (0..size / 200).map(|_| Junction { width: 4, height: 4, values: r.bytes(16), ..Junction::default() }).collect();
-    let refs = (0..size / 200).map(|i| Ref { area_id: 489, node_id: r.below(size) as u16, junction_id: i as u16, unk0: 0 }).collect();
+    let junctions = (0..size / 200)
+        .map(|_| Junction { width: 4, height: 4, values: r.bytes(16), ..Junction::default() }).collect();
+    let refs = (0..size / 200)
+        .map(|i| Ref { area_id: 489, node_id: r.below(size) as u16, junction_id: i as u16, unk0: 0 }).collect();
     Cell { vft: 1, unknowns: [0, 0, 1, 0, 0, 0, 0], nodes, junctions, refs, ..Cell::default() }
 }
 
-/// Reads the sections lent. `Reader::open` takes them from the container, which is left out, so no copy of them is timed.
+/// Reads the sections lent. `Reader::open` takes them from the container, which is left out, so no copy of them is
+/// timed.
 fn read() -> Ynd { read_any().expect("a valid file") }
 
 fn read_any() -> Option<Ynd> { Ynd::from_dictionary(&parse_node_dictionary(&[]).ok()?).ok() }
@@ -106,7 +124,8 @@ fn read_any() -> Option<Ynd> { Ynd::from_dictionary(&parse_node_dictionary(&[]).
 /// `to_dictionary`, then the `Pod` writers, without the block graph's copies; root and page block come ready.
 fn written(ynd: &Ynd, head: &[u8]) -> Vec<u8> {
     let d = ynd.to_dictionary().ok().expect("a cell that is written");
-    let size = 1152 + d.junction_refs.len() * 8 + d.junction_heightmap_bytes.len() + d.junctions.len() * 12 + d.links.len() * 8 + d.nodes.len() * 40;
+    let small = d.junction_refs.len() * 8 + d.junction_heightmap_bytes.len() + d.junctions.len() * 12;
+    let size = 1152 + small + d.links.len() * 8 + d.nodes.len() * 40;
     let mut w = Writer::new(0, size + 64);
     w.bytes(head);
     block(&mut w, &d.junction_refs);

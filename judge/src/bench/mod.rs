@@ -30,7 +30,8 @@ impl Row {
         };
         let shown = |n: Option<f64>, digits: usize| n.map_or("-".into(), |n| format!("{n:.digits$}"));
         let missed = if met { "" } else { " (missed)" };
-        format!("| {} | {} | {} | {} | {}{missed} | {goal} |", self.call, self.size, shown(self.rust, 1), shown(self.port, 1), shown(ratio, 2))
+        format!("| {} | {} | {} | {} | {}{missed} | {goal} |", self.call, self.size, shown(self.rust, 1),
+            shown(self.port, 1), shown(ratio, 2))
     }
 }
 
@@ -42,24 +43,31 @@ impl Wanted {
 }
 
 pub fn bench(only: Option<String>) {
+    crate::port::lent::measure();
     let wanted = Wanted(only);
     println!("| Call | Nodes | Rust, ns | Port, ns | Ratio | Goal |");
     println!("|---|---|---|---|---|---|");
     for row in numbers::rows(&wanted).into_iter().chain(cells::rows(&wanted)) { println!("{}", row.line()); }
     println!();
-    println!("Nanoseconds a node, or a call for steps, grid and lengths; the fastest of {TURNS} turns, each side in turn. Inputs are made once.");
-    println!("Steps, grid and lengths are called on both sides through a function pointer, one call an input, so that neither is inlined.");
-    println!("A walk's link: a walk through all nodes of a renumbered cell; near is within 16 places. The Rust has no walks; the plain loop is Rust");
-    println!("that goes the same way over the same memory by `links[nodes[p][7]][1]`, with no test but that of the index, and stores the places.");
-    println!("node: by a call on both sides, or with the Rust's put in line in the loop that asks, as a caller in Rust has it.");
-    println!("The Rust's memory is its own, allocated in the call as it does; the port's is lent, not cleared first, and has been used before.");
+    print!("Nanoseconds a node, or a call for steps, grid and lengths; the fastest of {TURNS} turns, ");
+    println!("each side in turn. Inputs are made once.\n{NOTES}");
 }
 
 const TURNS: usize = 41;
 
-/// Nanoseconds an element on each side, the fastest of some turns, so that other work on the machine counts least. The sides
-/// take turns, so that both meet the same machine;
-/// each says how long its own part took, so that making its input is not counted.
+const NOTES: &str = "\
+Steps, grid and lengths are called on both sides through a function pointer, one call an input, so that neither is
+inlined.
+A walk's link: a walk through all nodes of a renumbered cell; near is within 16 places. The Rust has no walks; the
+plain loop is Rust that goes the same way over the same memory by `links[nodes[p][7]][1]`, with no test but that of
+the index, and stores the places.
+node: by a call on both sides, or with the Rust's put in line in the loop that asks, as a caller in Rust has it.
+The Rust's memory is its own, allocated in the call as it does; the port's is lent, not cleared first, and has been
+used before.";
+
+/// Nanoseconds an element on each side, the fastest of some turns, so that other work on the machine counts least. The
+/// sides take turns, so that both meet the same machine; each says how long its own part took, so that making its
+/// input is not counted.
 pub fn both(count: usize, mut rust: impl FnMut() -> Duration, mut port: impl FnMut() -> Duration) -> (f64, f64) {
     let (mut a, mut b) = (Vec::new(), Vec::new());
     let rounds = (20_000 / count.max(1)).max(1);

@@ -8,7 +8,8 @@ use std::hint::black_box;
 
 type Measured = fn(&[[f32; 3]], &'static str) -> Row;
 
-const CALLS: [(&str, Measured); 3] = [("cell_for_position", grid), ("length_between", lengths), ("set_position's steps", steps)];
+const CALLS: [(&str, Measured); 3] =
+    [("cell_for_position", grid), ("length_between", lengths), ("set_position's steps", steps)];
 
 pub fn rows(wanted: &Wanted) -> Vec<Row> {
     let calls = CALLS.into_iter().filter(|(call, _)| wanted.has(call));
@@ -31,7 +32,7 @@ fn rust_steps(p: [f32; 3]) -> [f32; 3] {
     [n.position.x, n.position.y, n.position.z]
 }
 
-fn port_steps(p: [f32; 3]) -> [f32; 3] { port::numbers::stored_position(p).map(f32::from_bits) }
+fn port_steps(p: [f32; 3]) -> [f32; 3] { port::numbers::stored_right(p).map(f32::from_bits) }
 
 fn rust_grid(x: f32, y: f32) -> [u32; 2] { ynd::cell_for_position(x, y).into() }
 
@@ -47,14 +48,14 @@ fn steps(points: &[[f32; 3]], call: &'static str) -> Row {
 }
 
 fn grid(points: &[[f32; 3]], call: &'static str) -> Row {
-    let (f, g) = (black_box(rust_grid as fn(_, _) -> _), black_box(port::numbers::cell_for_position as fn(_, _) -> _));
+    let (f, g) = (black_box(rust_grid as fn(_, _) -> _), black_box(port::numbers::cell_right as fn(_, _) -> _));
     let run = |f: fn(f32, f32) -> [u32; 2]| for p in points { black_box(f(p[0], p[1])); };
     let (rust, port) = both(points.len(), || timed(|| run(f)), || timed(|| run(g)));
     Row { call, size: points.len(), rust: Some(rust), port: Some(port), goal: Goal::Ratio(2.0) }
 }
 
 fn lengths(points: &[[f32; 3]], call: &'static str) -> Row {
-    let (f, g) = (black_box(rust_length as fn(_, _) -> _), black_box(port::numbers::length_between as fn(_, _) -> _));
+    let (f, g) = (black_box(rust_length as fn(_, _) -> _), black_box(port::numbers::length_right as fn(_, _) -> _));
     let run = |f: fn([f32; 3], [f32; 3]) -> u8| for p in points.windows(2) { black_box(f(p[0], p[1])); };
     let (rust, port) = both(points.len() - 1, || timed(|| run(f)), || timed(|| run(g)));
     Row { call, size: points.len(), rust: Some(rust), port: Some(port), goal: Goal::Ratio(2.0) }

@@ -1,8 +1,9 @@
 //! Every accessor over all values of each byte, against the Rust.
 use super::{same, Verdict, PORT, RUST};
 use crate::port::access::{link_to, special_is_ped, LINK_GETTERS, LINK_SETTERS, NODE_GETTERS, NODE_SETTERS};
-use crate::port::cells::new;
-use crate::port::memory::{self, Memory};
+use crate::port::lookups::new;
+use crate::port::memory::Memory;
+use crate::port::words;
 use crate::rust;
 use crate::ynd::{NodeSpecial, NodeSpeed, PathLink, PathNode, Ynd};
 
@@ -79,31 +80,36 @@ pub fn check(b: u8, v: u8) -> Verdict {
     let mut n = PathNode::new(489, 7, rust::vec3([0x4120_0000, 0xC120_0000, 0x3F80_0000]));
     (n.flags0, n.flags1, n.flags2, n.flags3, n.flags4, n.flags5) = (flags0, flags1, flags2, flags3, flags4, flags5);
     let range = |w: [u32; 8]| { let mut w = w; w[6] |= 3 << 16; w };
-    let words = range(memory::node_words(&rust::node_of(&n), 5));
-    for ((name, get), judged) in NODE_GETTERS.iter().zip(RUST_NODE_GETTERS) { same(name, PORT, &get(&words), RUST, &judged(&n))?; }
+    let words = range(words::node_words(&rust::node_of(&n), 5));
+    for ((name, get), judged) in NODE_GETTERS.iter().zip(RUST_NODE_GETTERS) {
+        same(name, PORT, &get(&words), RUST, &judged(&n))?;
+    }
     for ((name, set), judged) in NODE_SETTERS.iter().zip(RUST_NODE_SETTERS) {
         let (mut after, mut m) = (words, n.clone());
         set(&mut after, v);
         judged(&mut m, v);
-        same(name, PORT, &after, RUST, &range(memory::node_words(&rust::node_of(&m), 5)))?;
+        same(name, PORT, &after, RUST, &range(words::node_words(&rust::node_of(&m), 5)))?;
     }
     same("a kind of ped node", PORT, &special_is_ped(v), RUST, &NodeSpecial::from_value(v).is_ped())?;
     let l = PathLink { area_id: 489, node_id: 7, flags0, flags1, flags2, length: flags3 };
-    let words = memory::link_words(&rust::link_of(&l));
-    for ((name, get), judged) in LINK_GETTERS.iter().zip(RUST_LINK_GETTERS) { same(name, PORT, &get(&words), RUST, &judged(&l))?; }
+    let words = words::link_words(&rust::link_of(&l));
+    for ((name, get), judged) in LINK_GETTERS.iter().zip(RUST_LINK_GETTERS) {
+        same(name, PORT, &get(&words), RUST, &judged(&l))?;
+    }
     for ((name, set), judged) in LINK_SETTERS.iter().zip(RUST_LINK_SETTERS) {
         let (mut after, mut m) = (words, l.clone());
         set(&mut after, v);
         judged(&mut m, v);
-        same(name, PORT, &after, RUST, &memory::link_words(&rust::link_of(&m)))?;
+        same(name, PORT, &after, RUST, &words::link_words(&rust::link_of(&m)))?;
     }
     Ok(())
 }
 
 /// The empty cell, and a new link.
 pub fn new_ones(area_id: u16, node_id: u16) -> Verdict {
-    let empty = Memory { ynd: new(), nodes: Vec::new(), links: Vec::new(), junctions: Vec::new(), heights: Vec::new(), refs: Vec::new() };
+    let empty = Memory { ynd: new(), ..Memory::default() };
     same("the empty cell", PORT, &empty.cell(), RUST, &rust::cell_of(&Ynd::new()))?;
     same("the empty cell's counts", PORT, &empty.counts(), RUST, &[0; 5])?;
-    same("a link to a node", PORT, &link_to(area_id, node_id), RUST, &memory::link_words(&rust::link_of(&PathLink::to(area_id, node_id))))
+    same("a link to a node", PORT, &link_to(area_id, node_id), RUST,
+        &words::link_words(&rust::link_of(&PathLink::to(area_id, node_id))))
 }

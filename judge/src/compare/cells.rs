@@ -1,5 +1,6 @@
 //! Renumbering, writing, write-then-read and lookups on one cell.
-use super::{memory, same, seen, walks, Verdict, MODEL, RUST};
+use super::seen::{self, Met};
+use super::{lookups, memory, same, shown, walks, Verdict, MODEL, RUST};
 use crate::inputs::rng::Rng;
 use crate::model::cell::Cell;
 use crate::model::{read, renumber, write};
@@ -11,9 +12,12 @@ pub fn check(cell: &Cell, aux: u64) -> Verdict {
     let mut r = Rng::new(aux);
     let ynd = rust::ynd_of(cell);
     same("the cell in the Rust's words", MODEL, cell, RUST, &rust::cell_of(&ynd))?;
+    let mut numbers: Vec<u16> = cell.nodes.iter().map(|n| n.node_id).collect();
+    numbers.sort();
+    seen::met_if(numbers.windows(2).any(|p| p[0] == p[1]), Met::Equal);
     renumbering(cell, &ynd)?;
     writing(cell, &ynd)?;
-    lookups(cell, &ynd, &mut r)?;
+    found(cell, &ynd, &mut r)?;
     let lent = memory::lent(&mut r, cell);
     let memory = Memory::of(&mut r, cell, lent);
     on_port(&memory, &mut r)?;
@@ -38,12 +42,14 @@ pub fn on_port(memory: &Memory, r: &mut Rng) -> Verdict {
     let length = r.pick(&[full, full, full + 3, full + 40, full - 1, 1_151, 0]);
     memory::writing(memory, length, r)?;
     memory::writing_then_reading(memory, r.pick(&[full, full + 3, full - 1]), r)?;
-    memory::lookups(memory, r)?;
-    memory::soundness(memory, scratch)?;
+    lookups::lookups(memory, r)?;
+    shown::soundness(memory, scratch)?;
     for _ in 0..3 {
-        memory::showing(memory, &memory.cell(), r.below(n + 1), r.pick(&[0, 0, 1, 2, 31, 255]))?;
+        shown::showing(memory, &memory.cell(), r.below(n + 1), r.pick(&[0, 0, 1, 2, 31, 255]))?;
         let choices = walks::choices(r);
-        memory::walking(memory, r.below(n + 1), &choices, r.pick(&[choices.len() + 1, choices.len() + 1, choices.len() + 4, choices.len(), 1, 0]), r)?;
+        let all = choices.len() + 1;
+        let visited = r.pick(&[all, all, all + 3, all - 1, 1, 0]);
+        shown::walking(memory, r.below(n + 1), &choices, visited, r)?;
     }
     Ok(())
 }
@@ -66,10 +72,10 @@ fn renumbering(cell: &Cell, ynd: &Ynd) -> Verdict {
 /// The bytes written, and the cell that reading them gives.
 fn writing(cell: &Cell, ynd: &Ynd) -> Verdict {
     let model = write::written(cell);
-    if model.is_err() { seen::note(&model); }
     let judged = rust::write(ynd);
     same("whether writing is refused", MODEL, &model.is_err(), RUST, &judged.is_err())?;
     let (Ok(bytes), Ok(judged)) = (model, judged) else { return Ok(()) };
+    seen::met_times(Met::RustBytes, judged.len() as u64);
     same("bytes written", MODEL, &bytes, RUST, &judged)?;
     let mut back = cell.clone();
     let mut section = vec![0xA5; bytes.len() + 3];
@@ -82,7 +88,7 @@ fn writing(cell: &Cell, ynd: &Ynd) -> Verdict {
 }
 
 /// `node` and `junction_of`, for numbers that are there and numbers that aren't.
-fn lookups(cell: &Cell, ynd: &Ynd, r: &mut Rng) -> Verdict {
+fn found(cell: &Cell, ynd: &Ynd, r: &mut Rng) -> Verdict {
     for _ in 0..12 {
         let (area, number) = name(cell, r);
         let place = ynd.node(number).map(|n| place_in(&ynd.nodes, n));
@@ -105,4 +111,6 @@ pub fn name(cell: &Cell, r: &mut Rng) -> (u16, u16) {
 }
 
 /// Which element of a list a reference is.
-fn place_in<T>(list: &[T], element: &T) -> usize { (element as *const T as usize - list.as_ptr() as usize) / std::mem::size_of::<T>() }
+fn place_in<T>(list: &[T], element: &T) -> usize {
+    (element as *const T as usize - list.as_ptr() as usize) / std::mem::size_of::<T>()
+}

@@ -1,9 +1,12 @@
 //! Reading and counting, then every call on the cell that was read.
-use super::{cells, memory, same, seen, Mismatch, Verdict, MODEL, PORT, RUST};
+use super::seen::{self, Call, Met};
+use super::{cells, memory, same, Mismatch, Verdict, MODEL, PORT, RUST};
 use crate::inputs::files::File;
 use crate::inputs::rng::Rng;
 use crate::inputs::{damage, files};
 use crate::model::cell::Cell;
+use crate::model::records::{ADDRESS_AT, COUNT_AT};
+use crate::model::sections::le;
 use crate::model::{read, Answer, Refused};
 use crate::port;
 use crate::port::memory::Memory;
@@ -16,7 +19,7 @@ pub fn generate(r: &mut Rng) -> File {
 
 pub fn check(f: &File) -> Verdict {
     let model = read::read(&f.system, &f.graphics);
-    seen::note(&model);
+    seen::note(Call::Read, &model);
     // 2 and 6 are added by document 01; the Rust has no such limits.
     if !matches!(model, Err(Refused(2 | 6, _))) {
         match (&model, rust::read(&f.system, &f.graphics)) {
@@ -24,7 +27,8 @@ pub fn check(f: &File) -> Verdict {
             (Err(_), Err(_)) => {}
             (m, y) => {
                 let judged = y.map(|y| rust::cell_of(&y));
-                return Err(Mismatch { what: "reading".into(), sides: [(MODEL, format!("{m:?}")), (RUST, format!("{judged:?}"))] });
+                let sides = [(MODEL, format!("{m:?}")), (RUST, format!("{judged:?}"))];
+                return Err(Mismatch { what: "reading".into(), sides });
             }
         }
     }
@@ -32,8 +36,11 @@ pub fn check(f: &File) -> Verdict {
     same("counting", MODEL, &counts, "document 01's count", &read::count(&f.system, &f.graphics))?;
     same("counting", PORT, &port::cells::count(&f.system, &f.graphics), MODEL, &(counts, true))?;
     reading(f, &model)?;
-    if let Ok(cell) = &model { cells::check(cell, f.aux)?; }
-    Ok(())
+    let Ok(cell) = &model else { return Ok(()) };
+    // Each node gets its copy of a range that two share.
+    let links = le(&f.system, COUNT_AT[1], 4) as usize;
+    seen::met_if(le(&f.system, ADDRESS_AT[1], 8) != 0 && cell.counts()[1] > links, Met::Copies);
+    cells::check(cell, f.aux)
 }
 
 /// Reading into lists with room to spare, and into lists of which one may be too short.
@@ -41,12 +48,16 @@ fn reading(f: &File, whole: &Answer<Cell>) -> Verdict {
     let mut r = Rng::new(f.aux ^ 0x5EED);
     let counts = whole.as_ref().map_or([3; 5], |c| c.counts());
     let mut lent = counts.map(|n| n + r.below(3));
-    if r.once_in(3) { let i = r.below(5); lent[i] = r.pick(&[counts[i].saturating_sub(1), r.clone().below(counts[i] + 1)]); }
+    // Now and then two lists are too short, so that the lower place counts.
+    for _ in 0..r.pick(&[0, 0, 0, 0, 1, 2]) {
+        let i = r.below(5);
+        lent[i] = r.pick(&[counts[i].saturating_sub(1), r.clone().below(counts[i] + 1)]);
+    }
     let before = Memory::rubbish(&mut r, lent);
     let mut after = before.clone();
     let port = after.read(&f.system, &f.graphics);
     let model = read::read_into(&f.system, &f.graphics, lent);
-    if whole.is_ok() { seen::note(&model); }
+    if whole.is_ok() { seen::note(Call::Read, &model); }
     same("reading's answer", PORT, &port, MODEL, &model.as_ref().map(|_| ()).map_err(|e| *e))?;
     match model {
         Ok(cell) => same("reading: every list", PORT, &after, MODEL, &before.with(&cell)),

@@ -1,15 +1,24 @@
 //! Comparisons: each takes one input, asks every side and says where two answers differ.
 pub mod access;
+pub mod causes;
 pub mod cells;
 pub mod diff;
+pub mod families;
+pub mod far;
 pub mod files;
+pub mod large;
+pub mod lookups;
 pub mod memory;
 pub mod numbers;
+pub mod page;
 pub mod programs;
 pub mod records;
+pub mod report;
 pub mod run;
+pub mod scratch;
 pub mod scripts;
 pub mod seen;
+pub mod shown;
 pub mod soak;
 pub mod walks;
 

@@ -1,8 +1,9 @@
 //! Steps, positions, grid, lengths and file names.
+use super::seen::{met, met_if, note, Call, Met};
 use super::{same, Verdict, MODEL, PORT, RUST};
 use crate::model::cell::one_nan;
 use crate::model::{grid, length, names, steps};
-use crate::port::memory::node_words;
+use crate::port::words::node_words;
 use crate::ynd::{self, PathLink, PathNode};
 use crate::{port, rust};
 
@@ -13,6 +14,7 @@ pub fn steps_of(bits: u32) -> Verdict {
     // Steps over the scale are exact, so the stored steps are the position times the scale.
     let judged = [(n.position.x * 4.0) as i32 as i16, (n.position.z * 32.0) as i32 as i16];
     let model = [steps::steps(bits, steps::XY), steps::steps(bits, steps::Z)];
+    note_steps(bits);
     same("steps", MODEL, &model, RUST, &judged)?;
     let [by_float, by_bits] = port::numbers::steps(bits);
     same("steps", PORT, &by_float, RUST, &judged)?;
@@ -21,8 +23,20 @@ pub fn steps_of(bits: u32) -> Verdict {
     same("float_of", PORT, &one_nan(port::numbers::float_of(bits).to_bits()), MODEL, &one_nan(bits))
 }
 
+/// Which of the cases of a stored step a pattern is.
+fn note_steps(bits: u32) {
+    match f32::from_bits(bits) {
+        x if x.is_nan() => met(Met::Nan),
+        x if x >= 8192.0 => met(Met::High),
+        x if x < -8192.0 => met(Met::Low),
+        x if x < 0.0 && x * 4.0 != (x * 4.0).trunc() => met(Met::Cut),
+        _ => {}
+    }
+}
+
 /// A position stored and read, its steps, and nodes at it.
 pub fn position(p: [u32; 3]) -> Verdict {
+    note_steps(p[0]);
     let mut n = PathNode { flags0: p[0] as u8, flags5: p[1] as u8, street_name: p[2], ..PathNode::default() };
     let mut words = node_words(&rust::node_of(&n), 5);
     n.set_position(rust::vec3(p));
@@ -36,7 +50,8 @@ pub fn position(p: [u32; 3]) -> Verdict {
     port::access::node_set_position(&mut words, floats);
     same("a node's set_position", PORT, &words, RUST, &node_words(&rust::node_of(&n), 5))?;
     let new = PathNode::new(p[0] as u16, p[1] as u16, rust::vec3(p));
-    same("a new node", PORT, &port::access::node_new(p[0] as u16, p[1] as u16, floats), RUST, &node_words(&rust::node_of(&new), 0))
+    same("a new node", PORT, &port::access::node_new(p[0] as u16, p[1] as u16, floats), RUST,
+        &node_words(&rust::node_of(&new), 0))
 }
 
 /// All i16, read.
@@ -50,6 +65,10 @@ pub fn metres(n: i16) -> Verdict {
 pub fn cell_for_position(x: u32, y: u32) -> Verdict {
     let (fx, fy) = (f32::from_bits(x), f32::from_bits(y));
     let judged: [u32; 2] = ynd::cell_for_position(fx, fy).into();
+    met_if(fx.is_nan(), Met::Nan);
+    met_if(fx < -8192.0, Met::Low);
+    met_if(fx >= 8192.0, Met::High);
+    met_if(fx as f64 + 8192.0 != (fx + 8192.0) as f64, Met::FirstSum);
     same("cell_for_position", MODEL, &[grid::cell_along(x), grid::cell_along(y)], RUST, &judged)?;
     same("cell_for_position", PORT, &port::numbers::cell_for_position(fx, fy), RUST, &judged)
 }
@@ -78,6 +97,7 @@ pub fn grid_cell(cx: u32, cy: u32) -> Verdict {
         same("cell_bounds", MODEL, &bounds, RUST, &Ok([x0, y0, x1, y1].map(f32::to_bits)))?;
         same("cell_file_name", MODEL, &name, RUST, &Ok(ynd::cell_file_name(cx, cy).into_bytes()))?;
     }
+    note(Call::Grid, &area);
     // The second part says that a refusal left what was lent.
     same("area_id", PORT, &port::numbers::area_id(cx, cy), MODEL, &(area, true))?;
     same("cell_bounds", PORT, &port::numbers::cell_bounds(cx, cy), MODEL, &(bounds, true))?;
@@ -87,6 +107,7 @@ pub fn grid_cell(cx: u32, cy: u32) -> Verdict {
 /// The Rust takes text; other bytes are asked of the model and the port.
 pub fn file_name(name: &[u8]) -> Verdict {
     let model = names::area_id_from_file_name(name);
+    met(if model.is_some() { Met::Named } else { Met::Unnamed });
     if let Ok(text) = std::str::from_utf8(name) {
         same("area_id_from_file_name", MODEL, &model, RUST, &ynd::area_id_from_file_name(text))?;
     }
@@ -95,7 +116,9 @@ pub fn file_name(name: &[u8]) -> Verdict {
 
 pub fn length_between(thresholds: &[f64], [a, b]: [[u32; 3]; 2]) -> Verdict {
     let judged = PathLink::length_between(rust::vec3(a), rust::vec3(b));
-    same("length_between", MODEL, &length::length_of(thresholds, length::square(a, b)), RUST, &judged)?;
+    let s = length::square(a, b);
+    met(if s.is_nan() { Met::Nan } else if judged == 255 { Met::High } else { Met::Cut });
+    same("length_between", MODEL, &length::length_of(thresholds, s), RUST, &judged)?;
     let [a, b] = [a, b].map(|p| p.map(f32::from_bits));
     same("length_between", PORT, &port::numbers::length_between(a, b), RUST, &judged)
 }
@@ -105,4 +128,18 @@ pub fn lane_offset(flags1: u8) -> Verdict {
     let l = PathLink { flags1, ..PathLink::default() };
     let port = port::numbers::lane_offset(l.offset_value(), l.negative_offset());
     same("lane_offset", PORT, &port, RUST, &l.lane_offset().to_bits())
+}
+
+/// A pair whose s is a target next to a threshold: which side of it, over which axes, and what is rounded on the way.
+pub fn next_to_square(thresholds: &[f64], pair: [[u32; 3]; 2], from: i32) -> Verdict {
+    let [a, b] = pair.map(|p| p.map(f32::from_bits));
+    let d = [0, 1, 2].map(|i| b[i] - a[i]);
+    let [xx, yy, zz] = d.map(|x| x * x);
+    met(match from { ..0 => Met::Before, 0 => Met::Exactly, _ => Met::After });
+    met(if d.iter().filter(|x| **x != 0.0).count() == 1 { Met::Axis } else { Met::Split });
+    met_if((0..3).any(|i| b[i] as f64 - a[i] as f64 != d[i] as f64), Met::Difference);
+    met_if(d.iter().any(|&x| x as f64 * x as f64 != (x * x) as f64), Met::Square);
+    met_if(xx as f64 + yy as f64 != (xx + yy) as f64, Met::FirstSum);
+    met_if((xx + yy) as f64 + zz as f64 != (xx + yy + zz) as f64, Met::LastSum);
+    length_between(thresholds, pair)
 }

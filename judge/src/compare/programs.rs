@@ -1,13 +1,15 @@
 //! The programs as processes, where they are built: what each writes for its standard input.
 use super::files::generate;
 use super::run::Run;
-use super::{same, seen, Mismatch, Verdict, MODEL, PORT, RUST};
+use super::seen::{self, Call};
+use super::{same, Mismatch, Verdict, MODEL, PORT, RUST};
 use crate::inputs::files::File;
 use crate::inputs::limits;
 use crate::inputs::rng::Rng;
 use crate::inputs::shrink::smaller_file;
 use crate::model::{read, Answer, Refused};
 use crate::rust;
+use crate::slips;
 use crate::ynd::{area_id_from_file_name, cell_file_name, cell_for_position, cell_of_area, PathLink, PathNode};
 use std::fs;
 use std::io::Write;
@@ -22,7 +24,9 @@ const FILES: [u64; 2] = [2_000, 4_000];
 /// Paths start at the repository's root, where the judge is run.
 pub fn programs(run: &Run) {
     for (name, family) in [("cellsum", cellsum as fn(&Run)), ("pairs", pairs), ("vectors", vectors)] {
-        if Path::new(&binary(name)).is_file() { family(run) } else { run.left_out(name, &format!("{} is not built (rt check {name})", binary(name))); }
+        if Path::new(&binary(name)).is_file() { family(run) } else {
+            run.left_out(name, &format!("{} is not built (rt check {name})", binary(name)));
+        }
     }
 }
 
@@ -30,12 +34,16 @@ fn binary(name: &str) -> String { format!("target/bin/{name}") }
 
 /// What a program writes, and whether it ended well.
 fn written(name: &str, input: &[u8]) -> Result<(String, bool), Mismatch> {
-    let failed = |e: std::io::Error| Mismatch { what: format!("running {name}"), sides: [(PORT, e.to_string()), (MODEL, "a run".into())] };
-    let mut child = Command::new(binary(name)).stdin(Stdio::piped()).stdout(Stdio::piped()).stderr(Stdio::null()).spawn().map_err(failed)?;
+    let failed = |e: std::io::Error| Mismatch {
+        what: format!("running {name}"), sides: [(PORT, e.to_string()), (MODEL, "a run".into())]
+    };
+    let mut child = Command::new(binary(name)).stdin(Stdio::piped()).stdout(Stdio::piped()).stderr(Stdio::null())
+        .spawn().map_err(failed)?;
     // A program that has read enough may close its input early.
     let _ = child.stdin.take().expect("a pipe").write_all(input);
     let out = child.wait_with_output().map_err(failed)?;
-    Ok((String::from_utf8_lossy(&out.stdout).into_owned(), out.status.success()))
+    let said = String::from_utf8_lossy(&out.stdout).into_owned();
+    Ok((slips::programs::said(name, input, said), out.status.success()))
 }
 
 fn cellsum(run: &Run) {
@@ -56,7 +64,10 @@ fn sections() -> Vec<(String, File)> {
     for n in [0, 1, 111, 112, 113, 4_095, 4_096, 4_097, MOST - 1, MOST, MOST + 1, 2 * MOST, 300_000] {
         out.push((format!("{n} zero bytes"), file(vec![0; n])));
         out.push((format!("{n} bytes"), file(r.bytes(n))));
-        let mut padded = loop { let f = crate::inputs::files::valid(r); if f.graphics.is_empty() && f.system.len() <= n.max(2_000) { break f.system } };
+        let mut padded = loop {
+            let f = crate::inputs::files::valid(r);
+            if f.graphics.is_empty() && f.system.len() <= n.max(2_000) { break f.system }
+        };
         padded.resize(n.max(padded.len()), 0xA5);
         out.push((format!("a valid file in {} bytes", padded.len()), file(padded)));
     }
@@ -68,7 +79,7 @@ fn sections() -> Vec<(String, File)> {
 fn sum(f: &File) -> Verdict {
     let model = read::count(&f.system, &[]);
     let long = f.system.len() > MOST;
-    if !long { seen::note(&model); }
+    if !long { seen::note(Call::Program, &model); }
     let expected = if long { "too long\n".into() } else { line(&model) };
     same("what cellsum writes", PORT, &written("cellsum", &f.system)?, MODEL, &(expected, true))?;
     if long || matches!(model, Err(Refused(2 | 6, _))) { return Ok(()); }
@@ -78,7 +89,8 @@ fn sum(f: &File) -> Verdict {
 
 fn line(counts: &Answer<[usize; 5]>) -> String {
     match counts {
-        Ok([nodes, links, junctions, _, refs]) => format!("nodes {nodes} links {links} junctions {junctions} refs {refs}\n"),
+        Ok([nodes, links, junctions, _, refs]) => format!(
+            "nodes {nodes} links {links} junctions {junctions} refs {refs}\n"),
         Err(Refused(number, place)) => format!("refused {number} {place}\n"),
     }
 }
@@ -88,7 +100,8 @@ fn pairs(run: &Run) {
     run.list("pairs", &[(String::new(), ())], |_| {
         let port = written("pairs", &[])?;
         same("what pairs writes", PORT, &port, RUST, &(judged_pairs(), true))?;
-        same("crates/pairs/stdout", PORT, &port.0, MODEL, &fs::read_to_string("crates/pairs/stdout").unwrap_or_default())
+        same("crates/pairs/stdout", PORT, &port.0, MODEL,
+            &fs::read_to_string("crates/pairs/stdout").unwrap_or_default())
     });
 }
 
@@ -122,7 +135,7 @@ fn judged_pairs() -> String {
 /// The vectors program on the vectors that the repository has.
 fn vectors(run: &Run) {
     run.list("vectors", &[(String::new(), ())], |_| {
-        let input = fs::read("crates/vectors/stdin").unwrap_or_default();
+        let input = slips::vectors::taken(fs::read("crates/vectors/stdin").unwrap_or_default());
         let expected = fs::read_to_string("crates/vectors/stdout").unwrap_or_default();
         same("what vectors writes", PORT, &written("vectors", &input)?, MODEL, &(expected, true))
     });

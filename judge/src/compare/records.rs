@@ -1,4 +1,5 @@
 //! Sections, the root and the four records, at any offset of a file.
+use super::seen::{self, Met};
 use super::{same, Verdict, MODEL, PORT, RUST};
 use crate::blocks::{Pod, Reader, Writer};
 use crate::inputs::files::File;
@@ -30,15 +31,19 @@ pub fn check(f: &File) -> Verdict {
 /// The part of the section that an address names.
 fn located(f: &File, reader: &Reader, address: u64, count: u64, width: u64) -> Verdict {
     let model = part(&f.system, &f.graphics, address, count, width);
+    seen::met(if model.is_some() { Met::Found } else { Met::NotFound });
     // The arrays' rule for null and zero stands in `Reader::structs`, before `slice`.
-    let judged = if address == 0 || count == 0 { Some(&[][..]) } else { reader.slice(address, (count * width) as usize).ok() };
+    let judged = if address == 0 || count == 0 { Some(&[][..]) } else {
+        reader.slice(address, (count * width) as usize).ok()
+    };
     same("the part that an address names", MODEL, &model, RUST, &judged)?;
     let (found, kept) = port::sections::locate(address, count as u32, width as u8, f.system.len(), f.graphics.len());
     let port = found.map(|[s, at, n]| [&f.system, &f.graphics][s].get(at..at + n).unwrap_or(&[0xEE]));
     same("the part that an address names", PORT, &(port, kept), MODEL, &(model, true))
 }
 
-/// The root as read and written: word 1 at offset 4, the pages' address, and the second ref count twice. Bytes past the end are 0.
+/// The root as read and written: word 1 at offset 4, the pages' address, and the second ref count twice. Bytes past
+/// the end are 0.
 fn root(system: &[u8]) -> Verdict {
     let mut bytes = system.to_vec();
     bytes.resize(ROOT.max(bytes.len()), 0);
@@ -55,7 +60,8 @@ fn numbers(section: &[u8], at: usize) -> Verdict {
     let mut bytes = [0; 8];
     for (i, b) in section.iter().skip(at).take(8).enumerate() { bytes[i] = *b; }
     let model = [1, 2, 4, 8].map(|width| le(&bytes, 0, width));
-    same("numbers of a section", PORT, &port::sections::numbers(section, at as u32), MODEL, &(model, model[1] as u16 as i16))
+    same("numbers of a section", PORT, &port::sections::numbers(section, at as u32), MODEL,
+        &(model, model[1] as u16 as i16))
 }
 
 /// A record read and written is its own bytes; a byte past the end is 0.
@@ -63,7 +69,12 @@ fn record(array: usize, section: &[u8], at: usize) -> Verdict {
     let width = WIDTHS[array] as usize;
     let mut bytes: Vec<u8> = section.iter().skip(at).take(width).copied().collect();
     bytes.resize(width, 0);
-    let judged = match array { 0 => again::<Node>(&bytes), 1 => again::<NodeLink>(&bytes), 2 => again::<NodeJunction>(&bytes), _ => again::<NodeJunctionRef>(&bytes) };
+    let judged = match array {
+        0 => again::<Node>(&bytes),
+        1 => again::<NodeLink>(&bytes),
+        2 => again::<NodeJunction>(&bytes),
+        _ => again::<NodeJunctionRef>(&bytes),
+    };
     same("a record read and written", MODEL, &bytes, RUST, &judged)?;
     same("a record read and written", PORT, &port::sections::record(array, section, at as u32), RUST, &judged)
 }

@@ -1,5 +1,7 @@
 //! Scripts of edits and calls, each on what the last one left.
-use super::{memory, same, seen, Verdict, MODEL, PORT, RUST};
+use super::scratch::with_scratch;
+use super::seen::{self, Call, Met};
+use super::{memory, same, shown, Mismatch, Verdict, MODEL, PORT, RUST};
 use crate::inputs::rng::Rng;
 use crate::inputs::scripts::{Op, Script};
 use crate::model::cell::{one_nan, Cell, Junction, Node};
@@ -14,23 +16,45 @@ pub fn check(s: &Script) -> Verdict {
     let mut r = Rng::new(s.file.aux);
     let mut memory = Memory::rubbish(&mut r, s.lent);
     same("reading's answer", PORT, &memory.read(&s.file.system, &s.file.graphics), MODEL, &Ok(()))?;
-    for op in &s.ops {
-        let before = memory.clone();
-        let port = on_port(&mut memory, op, &mut r)?;
-        let answer = on_model(&mut cell, op, s.lent);
-        seen::note(&answer);
-        // What document 01 refuses here the Rust has no refusal for, or leaves as it was.
-        if answer.is_ok() { on_rust(&mut ynd, op); }
-        let what = format!("the cell after {op:?}, answered {answer:?}");
-        same(&what, MODEL, &cell, RUST, &rust::cell_of(&ynd))?;
-        same(&format!("the answer of {op:?}"), PORT, &port, MODEL, &answer)?;
-        if answer.is_ok() { memory::holds(&what, &before, &memory, &cell)?; } else { memory::unchanged(&what, &before, &memory)?; }
-    }
-    Ok(())
+    for op in &s.ops { step(&mut memory, &mut cell, &mut ynd, op, s.lent, &mut r)?; }
+    written(&memory, &cell, &ynd, &mut r)
 }
 
-/// The call on the port's memory. Renumbering, writing and walks are first compared by themselves, with all that is lent to them.
-fn on_port(m: &mut Memory, op: &Op, r: &mut Rng) -> Result<Answer<()>, super::Mismatch> {
+/// One call by all sides, and what it leaves.
+pub fn step(
+    memory: &mut Memory, cell: &mut Cell, ynd: &mut Ynd, op: &Op, lent: [usize; 5], r: &mut Rng,
+) -> Verdict {
+    let before = memory.clone();
+    let port = on_port(memory, op, r)?;
+    let answer = on_model(cell, op, lent);
+    seen::note(Call::Edit, &answer);
+    // What document 01 refuses here the Rust has no refusal for, or leaves as it was.
+    if answer.is_ok() { on_rust(ynd, op); }
+    let what = format!("the cell after {op:?}, answered {answer:?}");
+    same(&what, MODEL, cell, RUST, &rust::cell_of(ynd))?;
+    same(&format!("the answer of {op:?}"), PORT, &port, MODEL, &answer)?;
+    if answer.is_err() { return memory::unchanged(&what, &before, memory); }
+    memory::holds(&what, &before, memory, cell)
+}
+
+/// The cell that a script leaves, written by all sides.
+fn written(memory: &Memory, cell: &Cell, ynd: &Ynd, r: &mut Rng) -> Verdict {
+    let judged = rust::write(ynd).ok();
+    let length = judged.as_ref().map_or(1_200, Vec::len);
+    let mut section = r.bytes(length);
+    let before = section.clone();
+    let answer = memory.write(&mut section);
+    let model = write::written(cell);
+    seen::note(Call::Write, &model);
+    seen::met_times(Met::RustBytes, if judged.is_some() { length as u64 } else { 0 });
+    same("whether writing after all is refused", MODEL, &model.is_err(), RUST, &judged.is_none())?;
+    same("writing after all", PORT, &answer, MODEL, &model.map(|b| b.len()))?;
+    same("bytes written after all", PORT, &section, RUST, &judged.unwrap_or(before))
+}
+
+/// The call on the port's memory. Renumbering, writing and walks are first compared by themselves, with all that is
+/// lent to them.
+fn on_port(m: &mut Memory, op: &Op, r: &mut Rng) -> Result<Answer<()>, Mismatch> {
     Ok(match op {
         Op::AddNode { area_id, position } => m.add_node(*area_id, *position),
         Op::SetPosition { place, position } => m.set_position(*place, *position),
@@ -45,7 +69,7 @@ fn on_port(m: &mut Memory, op: &Op, r: &mut Rng) -> Result<Answer<()>, super::Mi
         Op::Renumber { scratch, places } => {
             memory::renumbering(m, *scratch, *places, r)?;
             let mut places = vec![0; *places];
-            memory::with_scratch(*scratch, |s| m.renumber(s, &mut places))
+            with_scratch(*scratch, |s| m.renumber(s, &mut places))
         }
         Op::Write { section } => {
             memory::writing(m, *section, r)?;
@@ -56,7 +80,7 @@ fn on_port(m: &mut Memory, op: &Op, r: &mut Rng) -> Result<Answer<()>, super::Mi
             m.write_then_read(&mut vec![0; *section]).map(|_| ())
         }
         Op::Walk { start, choices, visited } => {
-            memory::walking(m, *start, choices, *visited, r)?;
+            shown::walking(m, *start, choices, *visited, r)?;
             m.walk(*start, choices, &mut vec![0; *visited]).0.map(|_| ())
         }
     })
@@ -76,14 +100,11 @@ pub fn on_model(cell: &mut Cell, op: &Op, lent: [usize; 5]) -> Answer<()> {
             Ok(())
         }
         Op::PutLink { place, index, link } => {
-            refuse_if(cell.nodes.get(place).is_none_or(|n| index >= n.links.len()), 13, 0)?;
-            cell.nodes[place].links[index] = link;
-            Ok(())
+            refuse_if(cell.nodes.get(place).is_none_or(|n| index >= n.links.len()), 13, 0)
+                .map(|_| cell.nodes[place].links[index] = link)
         }
         Op::PutRef { place, r } => {
-            refuse_if(place >= cell.refs.len(), 13, 0)?;
-            cell.refs[place] = r;
-            Ok(())
+            refuse_if(place >= cell.refs.len(), 13, 0).map(|_| cell.refs[place] = r)
         }
         Op::PutJunction { place, junction } => {
             refuse_if(place >= cell.junctions.len(), 13, 0)?;

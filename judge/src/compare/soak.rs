@@ -1,7 +1,8 @@
-//! Demand 3 as a test of its statement: a list of renumberings and write-then-reads, refused ones too, on a sound cell as read; then every
-//! place's walks, held to the walks of the cell that document 01 defines for the bytes first read.
-use super::memory::with_scratch;
-use super::{seen, same, Verdict, MODEL, PORT};
+//! Demand 3 as a test of its statement: a list of renumberings and write-then-reads, refused ones too, on a sound cell
+//! as read; then every place's walks, held to the walks of the cell that document 01 defines for the bytes first read.
+use super::scratch::with_scratch;
+use super::seen::{self, Call, Met};
+use super::{memory, same, Verdict, MODEL, PORT};
 use crate::inputs::files::File;
 use crate::inputs::rng::Rng;
 use crate::model::cell::{Cell, Junction};
@@ -21,7 +22,7 @@ struct List<'a> {
 pub fn check(f: &File) -> Verdict {
     let Ok(first) = read::read(&f.system, &f.graphics) else { return Ok(()) };
     if !is_sound(&first) { return Ok(()); }
-    seen::met(seen::Met::Sound);
+    seen::met(Met::Sound);
     let r = &mut Rng::new(f.aux);
     let lent = first.counts().map(|n| n + r.below(4));
     let mut memory = Memory::rubbish(r, lent);
@@ -30,7 +31,7 @@ pub fn check(f: &File) -> Verdict {
     let order = (0..first.nodes.len()).collect();
     let mut list = List { first: &first, memory, order, renumbered: false };
     for _ in 0..r.below(8) { if r.once_in(2) { list.renumber(r)? } else { list.write_then_read(r)? } }
-    if list.order.iter().enumerate().any(|(now, &p)| now != p) { seen::met(seen::Met::Moved); }
+    if list.order.iter().enumerate().any(|(now, &p)| now != p) { seen::met(Met::Moved); }
     list.numbers()?;
     list.walks(&at_first, r)
 }
@@ -41,15 +42,16 @@ impl List<'_> {
         let any = r.below(65_536);
         let scratch = r.pick(&[65_536, 65_536, 65_536, 65_536, 65_537, 70_000, 65_535, 0, any]);
         let any = r.below(n + 1);
-        let places: Vec<u32> = (0..r.pick(&[n, n, n, n + 1, n + 5, n.saturating_sub(1), any])).map(|_| r.u32()).collect();
+        let places: Vec<u32> = (0..r.pick(&[n, n, n, n + 1, n + 5, n.saturating_sub(1), any])).map(|_| r.u32())
+            .collect();
         let (before, mut after) = (self.memory.clone(), places.clone());
         let answer = with_scratch(scratch, |s| { disturb(s, &before, r); self.memory.renumber(s, &mut after) });
         let model = room(6, &[65_536, n], &[scratch, places.len()]);
-        seen::note(&model);
+        seen::note(Call::Renumber, &model);
         same("renumbering's answer", PORT, &answer, MODEL, &model)?;
         if model.is_err() {
             same("refused renumbering: the new places", PORT, &after, MODEL, &places)?;
-            return super::memory::unchanged("refused renumbering", &before, &self.memory);
+            return memory::unchanged("refused renumbering", &before, &self.memory);
         }
         // Non-ped nodes first, then ped nodes, each group in old order.
         let ped = |k: &usize| self.first.nodes[self.order[*k]].is_ped();
@@ -70,11 +72,11 @@ impl List<'_> {
         let (before, mut after) = (self.memory.clone(), section.clone());
         let answer = self.memory.write_then_read(&mut after);
         let model = room(5, &[full], &[length]).map(|_| full);
-        seen::note(&model);
+        seen::note(Call::WriteRead, &model);
         same("write-then-read's answer", PORT, &answer, MODEL, &model)?;
         let kept = if model.is_ok() { full } else { 0 };
         same("the section's later bytes", PORT, &&after[kept..], MODEL, &&section[kept..])?;
-        if model.is_err() { super::memory::unchanged("refused write-then-read", &before, &self.memory)?; }
+        if model.is_err() { memory::unchanged("refused write-then-read", &before, &self.memory)?; }
         Ok(())
     }
 
@@ -82,7 +84,8 @@ impl List<'_> {
     fn numbers(&self) -> Verdict {
         same("soundness after calls", PORT, &with_scratch(65_536, |s| self.memory.sound(s)), MODEL, &Ok(true))?;
         if !self.renumbered { return Ok(()); }
-        let numbers: Vec<usize> = self.memory.nodes[..self.order.len()].iter().map(|w| (w[0] >> 16) as usize).collect();
+        let numbers: Vec<usize> = self.memory.nodes[..self.order.len()].iter().map(|w| (w[0] >> 16) as usize)
+            .collect();
         same("numbers after renumbering", PORT, &numbers, MODEL, &(0..self.order.len()).collect())
     }
 
@@ -97,15 +100,17 @@ impl List<'_> {
             let shown = walk(self.first, start, &choices).expect("a node");
             let count = shown.places.len();
             seen::note_end(&shown.end);
-            seen::note_followed(count - 1);
-            let visited = r.pick(&[choices.len() + 1, choices.len() + 1, count, count + 1, count - 1, choices.len() / 2]);
+            seen::met_times(Met::Followed, count as u64 - 1);
+            let visited = r.pick(
+                &[choices.len() + 1, choices.len() + 1, count, count + 1, count - 1, choices.len() / 2]);
             let then = room(8, &[count], &[visited]).map(|_| shown);
-            seen::note(&then);
+            seen::note(Call::Walk, &then);
             same("a walk at first", PORT, &walked(at_first, start, &choices, visited)?, MODEL, &then)?;
             let now = then.map(|w| Walk { places: w.places.iter().map(|&p| moved[p]).collect(), ..w });
             same("a walk after calls", PORT, &walked(&self.memory, moved[start], &choices, visited)?, MODEL, &now)?;
         }
-        same("a walk from no place", PORT, &walked(&self.memory, n + r.below(3), &[0], r.below(3))?, MODEL, &walk(self.first, n, &[]))
+        same("a walk from no place", PORT, &walked(&self.memory, n + r.below(3), &[0], r.below(3))?, MODEL,
+            &walk(self.first, n, &[]))
     }
 }
 
@@ -115,7 +120,9 @@ fn choices(cell: &Cell, start: usize, r: &mut Rng) -> Vec<u8> {
     let length = r.below(16);
     (0..length).map(|_| {
         let links = here.map_or(&[][..], |p| &cell.nodes[p].links);
-        let choice = if links.is_empty() || r.once_in(16) { r.pick(&[0, 1, 2, 31, 255]) } else { r.below(links.len()) as u8 };
+        let choice = if links.is_empty() || r.once_in(16) { r.pick(&[0, 1, 2, 31, 255]) } else {
+            r.below(links.len()) as u8
+        };
         here = links.get(choice as usize).filter(|l| l.area_id == cell.area()).and_then(|l| cell.node(l.node_id));
         choice
     }).collect()
@@ -123,8 +130,10 @@ fn choices(cell: &Cell, start: usize, r: &mut Rng) -> Vec<u8> {
 
 /// Rubbish in the scratch that could be taken for places: at the numbers that links and refs name, and anywhere.
 fn disturb(scratch: &mut [u32], m: &Memory, r: &mut Rng) {
-    for w in m.links.iter().chain(&m.refs) {
-        if let Some(x) = scratch.get_mut(w[1] as usize) { *x = if r.once_in(4) { r.u32() } else { r.below(m.nodes.len() + 1) as u32 }; }
+    for w in m.links.iter().chain(m.refs.iter()) {
+        if let Some(x) = scratch.get_mut(w[1] as usize) {
+            *x = if r.once_in(4) { r.u32() } else { r.below(m.nodes.len() + 1) as u32 };
+        }
     }
     for _ in 0..8 { let at = r.below(scratch.len()); if let Some(x) = scratch.get_mut(at) { *x = r.u32(); } }
 }
@@ -135,7 +144,8 @@ fn walked(m: &Memory, start: usize, choices: &[u8], visited: usize) -> Result<An
     let mut places = vec![BEYOND; visited];
     let (answer, kept) = m.walk(start, choices, &mut places);
     let count = answer.as_ref().map_or(0, |a| a.1);
-    same("what a walk leaves as it was", PORT, &(kept, places[count..].iter().all(|&p| p == BEYOND)), MODEL, &(true, true))?;
+    same("what a walk leaves as it was", PORT, &(kept, places[count..].iter().all(|&p| p == BEYOND)), MODEL,
+        &(true, true))?;
     Ok(answer.map(|(end, _)| {
         let places: Vec<usize> = places[..count].iter().map(|&p| p as usize).collect();
         let seen = places.iter().map(|&p| see(m, p)).collect();

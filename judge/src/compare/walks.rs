@@ -1,5 +1,5 @@
 //! Walks and soundness. The Rust has none: the model is held to demand 3, and the port to the model and to demand 3.
-use super::memory::with_scratch;
+use super::scratch::with_scratch;
 use super::{same, Verdict, MODEL, PORT};
 use crate::inputs::rng::Rng;
 use crate::model::cell::Cell;
@@ -11,7 +11,6 @@ const NOW: &str = "after calls";
 
 pub fn check(cell: &Cell, memory: &Memory, r: &mut Rng) -> Verdict {
     if cell.nodes.is_empty() || cell.nodes.len() > 2_000 || !is_sound(cell) { return Ok(()); }
-    super::seen::met(super::seen::Met::Sound);
     unnoticed(cell, r)?;
     unnoticed_by_the_port(memory, r)
 }
@@ -42,8 +41,8 @@ fn unnoticed(first: &Cell, r: &mut Rng) -> Verdict {
     Ok(())
 }
 
-/// The same of the port: renumberings and write-then-reads, refused ones too, each on what the last one left; then a walk from
-/// every place of a small cell, or from some of a larger one, with equal lists for the places.
+/// The same of the port: renumberings and write-then-reads, refused ones too, each on what the last one left; then a
+/// walk from every place of a small cell, or from some of a larger one, with equal lists for the places.
 fn unnoticed_by_the_port(first: &Memory, r: &mut Rng) -> Verdict {
     let n = first.counts()[0];
     let mut memory = first.clone();
@@ -88,7 +87,9 @@ fn call(memory: &mut Memory, n: usize, r: &mut Rng) -> Result<Option<Vec<u32>>, 
 }
 
 /// A walk by the port, and what the nodes and links on its way show.
-fn shown(memory: &Memory, cell: &Cell, start: usize, choices: &[u8], visited: usize) -> Result<Answer<Walk>, super::Mismatch> {
+fn shown(
+    memory: &Memory, cell: &Cell, start: usize, choices: &[u8], visited: usize,
+) -> Result<Answer<Walk>, super::Mismatch> {
     let mut places = vec![0xA5A5_A5A5; visited];
     let (answer, _) = memory.walk(start, choices, &mut places);
     let all = walk(cell, start, choices).expect("a node");
@@ -96,7 +97,9 @@ fn shown(memory: &Memory, cell: &Cell, start: usize, choices: &[u8], visited: us
         Ok((end, count)) => {
             let places: Vec<usize> = places[..count].iter().map(|&p| p as usize).collect();
             same("a walk", PORT, &(end, &places), MODEL, &(all.end, &all.places))?;
-            for (k, &p) in places.iter().enumerate() { super::memory::showing(memory, cell, p, choices.get(k).copied().unwrap_or(0))?; }
+            for (k, &p) in places.iter().enumerate() {
+                super::shown::showing(memory, cell, p, choices.get(k).copied().unwrap_or(0))?;
+            }
             Ok(all)
         }
         Err(e) => Err(e),

@@ -26,8 +26,10 @@ fn wild_address(r: &mut Rng, file: &mut File) {
     let offset = old & 0x0FFF_FFFF;
     let any = r.next();
     let new = r.pick(&[
-        0, 1, SYSTEM, GRAPHICS, 0x7000_0000, 0x7000_0000 + offset, 0x4000_0000 + offset, 0xD000_0000 + offset, 0x1000_0000 + offset,
-        SYSTEM + offset, GRAPHICS + offset, old ^ (1 << 32), old | 1 << 63, old ^ 0x1000_0000, SYSTEM + s, SYSTEM + s - 1, SYSTEM + s + 1,
+        0, 1, SYSTEM, GRAPHICS, 0x7000_0000, 0x7000_0000 + offset, 0x4000_0000 + offset, 0xD000_0000 + offset,
+        0x1000_0000 + offset,
+        SYSTEM + offset, GRAPHICS + offset, old ^ (1 << 32), old | 1 << 63, old ^ 0x1000_0000, SYSTEM + s,
+        SYSTEM + s - 1, SYSTEM + s + 1,
         GRAPHICS + g, GRAPHICS + g + 1, SYSTEM + 0x0FFF_FFFF, u32::MAX as u64, u64::MAX, offset, any, any >> 32,
     ]);
     put_le(&mut file.system, at, 8, new);
@@ -40,7 +42,8 @@ fn wild_count(r: &mut Rng, file: &mut File) {
     let fits = file.system.len() as u64 / WIDTHS[i];
     let any = r.next();
     let new = r.pick(&[
-        0, 1, old.wrapping_sub(1), old + 1, old * 2, fits, fits + 1, 255, 4096, 4097, 65_535, 65_536, 65_537, 0x0666_6667, 0x1000_0000,
+        0, 1, old.wrapping_sub(1), old + 1, old * 2, fits, fits + 1, 255, 4096, 4097, 65_535, 65_536, 65_537,
+        0x0666_6667, 0x1000_0000,
         0x1999_999A, 0x2000_0000, 0x7FFF_FFFF, 0x8000_0000, 0xFFFF_FFFF, any,
     ]);
     put_le(&mut file.system, COUNT_AT[i], COUNT_WIDTH[i], new);
@@ -69,7 +72,9 @@ fn wild_range(r: &mut Rng, file: &mut File) {
     let address = le(&file.system, ADDRESS_AT[records], 8);
     let count = le(&file.system, COUNT_AT[records], 4) as usize;
     let length = le(&file.system, COUNT_AT[list], 4);
-    let section = match address & 0xF000_0000 { SYSTEM => &mut file.system, GRAPHICS => &mut file.graphics, _ => return };
+    let section = match address & 0xF000_0000 {
+        SYSTEM => &mut file.system, GRAPHICS => &mut file.graphics, _ => return
+    };
     let at = (address & 0x0FFF_FFFF) as usize + width * r.below(count.min(1000));
     if address >> 32 != 0 || at + width > section.len() { return; }
     let b = &mut section[at..at + width];

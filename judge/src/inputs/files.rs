@@ -60,7 +60,8 @@ pub fn sound(r: &mut Rng) -> File {
     lay(r, arrays)
 }
 
-/// The five arrays' bytes. Numbers repeat, areas differ, links and refs name nodes that are there and nodes that aren't.
+/// The five arrays' bytes. Numbers repeat, areas differ, links and refs name nodes that are there and nodes that
+/// aren't.
 pub fn arrays(r: &mut Rng, shape: Shape) -> [Vec<u8>; 5] {
     let sound = r.once_in(3);
     arrays_of(r, shape, sound)
@@ -74,22 +75,13 @@ fn arrays_of(r: &mut Rng, Shape([nodes, links, junctions, values, refs]): Shape,
     let named = |r: &mut Rng| {
         let any = r.u16();
         let area = if r.once_in(if sound { 6 } else { 3 }) { r.pick(&[own ^ 1, own ^ 1024, any]) } else { own };
-        let number = if numbers.is_empty() || (!sound && r.once_in(5)) { r.pick(&[0, 1, 0xFFFF, any ^ 0x5555]) } else { r.pick(&numbers) };
+        let number = if numbers.is_empty() || (!sound && r.once_in(5)) { r.pick(&[0, 1, 0xFFFF, any ^ 0x5555]) } else {
+            r.pick(&numbers)
+        };
         (area, number)
     };
     let mut out: [Vec<u8>; 5] = Default::default();
-    for i in 0..nodes {
-        let mut b = r.bytes(40);
-        put_le(&mut b, 16, 2, if sound || !r.once_in(8) { own } else { r.u16() } as u64);
-        put_le(&mut b, 18, 2, numbers[i] as u64);
-        let count = r.below(links.min(31) + 1).min(if r.once_in(3) { 31 } else { 4 });
-        // Ranges overlap; a node with no links may start at the list's very end.
-        let start = if count == 0 && r.once_in(2) { links } else { r.below(links - count + 1) };
-        put_le(&mut b, 26, 2, start as u64);
-        b[37] = (count * 8) as u8 + r.u8() % 8;
-        b[33] = if r.once_in(2) { r.pick(&[10u8, 14, 18]) * 8 + r.u8() % 8 } else { r.u8() };
-        out[0].extend(b);
-    }
+    for number in &numbers { out[0].extend(node(r, own, *number, links, sound)); }
     for _ in 0..links {
         let mut b = r.bytes(8);
         let (area, number) = named(r);
@@ -97,14 +89,7 @@ fn arrays_of(r: &mut Rng, Shape([nodes, links, junctions, values, refs]): Shape,
         put_le(&mut b, 2, 2, number as u64);
         out[1].extend(b);
     }
-    for _ in 0..junctions {
-        let mut b = r.bytes(12);
-        let (mut width, mut height) = (r.below(5), r.below(5));
-        if width * height > values { (width, height) = r.pick(&[(0, 3), (255, 0), (0, 0)]); }
-        put_le(&mut b, 8, 2, r.below(values - width * height + 1) as u64);
-        (b[10], b[11]) = (width as u8, height as u8);
-        out[2].extend(b);
-    }
+    for _ in 0..junctions { out[2].extend(junction(r, values)); }
     out[3] = r.bytes(values);
     for _ in 0..refs {
         let mut b = r.bytes(8);
@@ -115,6 +100,32 @@ fn arrays_of(r: &mut Rng, Shape([nodes, links, junctions, values, refs]): Shape,
         out[4].extend(b);
     }
     out
+}
+
+/// A node's record with some of so many links.
+fn node(r: &mut Rng, own: u16, number: u16, links: usize, sound: bool) -> Vec<u8> {
+    let mut b = r.bytes(40);
+    put_le(&mut b, 16, 2, if sound || !r.once_in(8) { own } else { r.u16() } as u64);
+    put_le(&mut b, 18, 2, number as u64);
+    let count = r.below(links.min(31) + 1).min(if r.once_in(3) { 31 } else { 4 });
+    // Ranges overlap; a node with no links may start at the list's very end.
+    let start = if count == 0 && r.once_in(2) { links } else { r.below(links - count + 1) };
+    put_le(&mut b, 26, 2, start as u64);
+    b[37] = (count * 8) as u8 + r.u8() % 8;
+    b[33] = if r.once_in(2) { r.pick(&[10u8, 14, 18]) * 8 + r.u8() % 8 } else { r.u8() };
+    b
+}
+
+/// A junction's record with some of so many values.
+fn junction(r: &mut Rng, values: usize) -> Vec<u8> {
+    let mut b = r.bytes(12);
+    // Now and then over 255 values.
+    let most = if r.once_in(6) { 40 } else { 5 };
+    let (mut width, mut height) = (r.below(most), r.below(most));
+    if width * height > values { (width, height) = r.pick(&[(0, 3), (255, 0), (0, 0)]); }
+    put_le(&mut b, 8, 2, r.below(values - width * height + 1) as u64);
+    (b[10], b[11]) = (width as u8, height as u8);
+    b
 }
 
 fn numbers(r: &mut Rng, nodes: usize, differ: bool) -> Vec<u16> {
@@ -146,7 +157,9 @@ pub fn lay(r: &mut Rng, arrays: [Vec<u8>; 5]) -> File {
         sections[which].extend(&arrays[i]);
         // An empty array may have any address with no count, or no address with any count.
         let any = r.next();
-        places[i] = if count > 0 { (address, count) } else { r.pick(&[(0, 0), (address, 0), (any, 0), (0, any >> 33)]) };
+        places[i] = if count > 0 { (address, count) } else {
+            r.pick(&[(0, 0), (address, 0), (any, 0), (0, any >> 33)])
+        };
     }
     if r.once_in(3) { let n = r.below(60); let tail = r.bytes(n); sections[r.below(2)].extend(tail); }
     let [mut system, graphics] = sections;

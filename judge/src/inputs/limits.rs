@@ -98,7 +98,8 @@ pub fn cells(r: &mut Rng) -> Vec<(String, Cell)> {
         counts.insert(n, 32);
         out.push((format!("{} links before a node, then 32 links", n * 31), with_links(&counts)));
     }
-    for sizes in [vec![(255, 255), (255, 2), (0, 0)], vec![(255, 255), (255, 2), (1, 1), (0, 9)], vec![(255, 255), (255, 3), (2, 2)], vec![(0, 255), (255, 0)]] {
+    for sizes in [vec![(255, 255), (255, 2), (0, 0)], vec![(255, 255), (255, 2), (1, 1), (0, 9)],
+        vec![(255, 255), (255, 3), (2, 2)], vec![(0, 255), (255, 0)]] {
         out.push((format!("heightmaps {sizes:?}"), with_values(r, &sizes)));
     }
     for n in [65_534, 65_535, 65_536] { out.push((format!("{n} refs"), with_refs(n))); }
@@ -118,18 +119,23 @@ fn with_links(counts: &[usize]) -> Cell {
 }
 
 fn with_values(r: &mut Rng, sizes: &[(u8, u8)]) -> Cell {
-    let junctions = sizes.iter().map(|&(width, height)| Junction { width, height, values: r.bytes(width as usize * height as usize), ..Junction::default() });
+    let junctions = sizes.iter().map(|&(width, height)| {
+        let values = r.bytes(width as usize * height as usize);
+        Junction { width, height, values, ..Junction::default() }
+    });
     Cell { junctions: junctions.collect(), ..Cell::default() }
 }
 
 fn with_refs(n: usize) -> Cell {
-    Cell { refs: (0..n).map(|i| Ref { node_id: i as u16, junction_id: (i / 3) as u16, ..Ref::default() }).collect(), ..Cell::default() }
+    let junction_ref = |i| Ref { node_id: i as u16, junction_id: (i / 3) as u16, ..Ref::default() };
+    Cell { refs: (0..n).map(junction_ref).collect(), ..Cell::default() }
 }
 
 /// Scripts that come to the limits of section 4: 65,536 nodes, 4,096 junctions, 255 links a node.
 pub fn scripts(r: &mut Rng) -> Vec<(String, Script)> {
     let node = Op::AddNode { area_id: 1, position: [0; 3] };
-    let junction = |count: usize| Op::AddJunction(Junction { width: 1, height: 1, values: vec![7; count], ..Junction::default() });
+    let junction = |count: usize| Op::AddJunction(
+        Junction { width: 1, height: 1, values: vec![7; count], ..Junction::default() });
     let lent = [65_540, 300, 4_100, 10, 4];
     let at = |file: File, lent, ops: Vec<Op>| Script { file, lent, ops };
     let mut links = vec![Op::AddLink { place: 0, link: Link::default() }; 32];
@@ -141,7 +147,8 @@ pub fn scripts(r: &mut Rng) -> Vec<(String, Script)> {
         ("nodes to the limit, and no room".into(), to_last(of_array(r, 0, 65_535), [65_536, 0, 0, 0, 0], node)),
         ("junctions to the limit".into(), to_last(of_array(r, 2, 4_095), lent, junction(1))),
         ("junctions to the limit, their values wrong".into(), to_last(of_array(r, 2, 4_096), lent, junction(2))),
-        ("junctions to the limit, and no room".into(), to_last(of_array(r, 2, 4_095), [0, 0, 4_096, 0, 0], junction(1))),
+        ("junctions to the limit, and no room".into(),
+            to_last(of_array(r, 2, 4_095), [0, 0, 4_096, 0, 0], junction(1))),
         ("links of a node to the limit".into(), at(of_array(r, 0, 1), lent, links.clone())),
         ("links of a node to the limit, and no room".into(), at(of_array(r, 0, 1), [1, 255, 0, 0, 0], links)),
     ]

@@ -1,8 +1,10 @@
-//! File names over small alphabets, each once: `nodes`, a middle, `.ynd`; every row of a few parts; every name of up to twelve of four letters.
+//! File names over small alphabets, each once: `nodes`, a middle, `.ynd`; every row of a few parts; every name of up
+//! to twelve of four letters.
 use super::rng::Rng;
 
 const MIDDLE: &[u8] = b"0149+-/\\.n";
-const PARTS: [&str; 15] = ["nodes", "NODES", "node", ".ynd", ".Ynd", "ynd", "/", "\\", "0", "1", "4294967295", "4294967296", "+", "-", "é"];
+const PARTS: [&str; 15] = ["nodes", "NODES", "node", ".ynd", ".Ynd", "ynd", "/", "\\", "0", "1", "4294967295",
+    "4294967296", "+", "-", "é"];
 
 /// How many names there are with a middle of at most `most` letters.
 pub fn middles(most: u32) -> u64 { (0..=most).map(|n| (MIDDLE.len() as u64).pow(n)).sum() }
@@ -43,7 +45,8 @@ pub fn spelling(i: u64) -> String { row_of(&LETTERS, i) }
 
 /// Any bytes, text or not: most are a name with a letter changed.
 pub fn bytes(r: &mut Rng) -> Vec<u8> {
-    let number = r.pick(&["0", "489", "1177", "65535", "65536", "4294967295", "4294967296", "00000000000000000001", "+7", "99999999999999999999"]);
+    let number = r.pick(&["0", "489", "1177", "65535", "65536", "4294967295", "4294967296", "00000000000000000001",
+        "+7", "99999999999999999999"]);
     let front = r.pick(&["", "", "a/b\\", "/", "x:\\nodes1.ynd/", "ä/"]);
     let mut name = format!("{front}nodes{number}.ynd").into_bytes();
     for _ in 0..r.below(3) {

@@ -61,10 +61,17 @@ fn op(r: &mut Rng, cell: &Cell, sizes: [usize; 5]) -> Op {
         14 => Op::PutRef { place: r.below(sizes[4] + 2), r: junction_ref(r, cell) },
         15 => Op::PutJunction { place: r.below(sizes[2] + 2), junction: turned(r, cell) },
         16 => Op::PutValue { place: r.below(sizes[2] + 2), index: r.below(10), value: r.u8() },
-        17 | 18 => Op::Renumber { scratch: r.pick(&[65_536, 65_536, 65_536, 65_537, 65_535, 0]), places: r.below(2 * sizes[0] + 9) },
+        17 | 18 => Op::Renumber {
+            scratch: r.pick(&[65_536, 65_536, 65_536, 65_537, 65_535, 0]), places: r.below(2 * sizes[0] + 9)
+        },
         19 => Op::Write { section: section(r) },
         20 => Op::WriteRead { section: section(r) },
-        _ => { let n = r.below(12); Op::Walk { start: place, choices: (0..n).map(|_| r.pick(&[0, 0, 1, 2, 3, 255])).collect(), visited: r.below(14) } }
+        _ => {
+            let n = r.below(12);
+            Op::Walk {
+                start: place, choices: (0..n).map(|_| r.pick(&[0, 0, 1, 2, 3, 255])).collect(), visited: r.below(14)
+            }
+        }
     }
 }
 
@@ -72,21 +79,25 @@ fn section(r: &mut Rng) -> usize { r.pick(&[SECTION, SECTION, SECTION, 0, 1151, 
 
 fn area(r: &mut Rng, cell: &Cell) -> u16 { if r.once_in(4) { r.u16() } else { cell.area() } }
 
-fn number(r: &mut Rng, cell: &Cell) -> u16 { if r.once_in(5) { r.u16() } else { r.below(cell.nodes.len() + 3) as u16 } }
+fn number(r: &mut Rng, cell: &Cell) -> u16 {
+    if r.once_in(5) { r.u16() } else { r.below(cell.nodes.len() + 3) as u16 }
+}
 
-fn link(r: &mut Rng, cell: &Cell) -> Link {
+pub fn link(r: &mut Rng, cell: &Cell) -> Link {
     Link { area_id: area(r, cell), node_id: number(r, cell), flags: [r.u8(), r.u8(), r.u8()], length: r.u8() }
 }
 
 fn junction_ref(r: &mut Rng, cell: &Cell) -> Ref {
-    Ref { area_id: area(r, cell), node_id: number(r, cell), junction_id: r.below(cell.junctions.len() + 3) as u16, unk0: r.u16() }
+    let junction_id = r.below(cell.junctions.len() + 3) as u16;
+    Ref { area_id: area(r, cell), node_id: number(r, cell), junction_id, unk0: r.u16() }
 }
 
 fn node(r: &mut Rng, cell: &Cell) -> Node {
     let mut flags = [0; 6];
     for f in &mut flags { *f = r.u8(); }
     if r.once_in(2) { flags[1] = r.pick(&[80, 112, 144]) + r.u8() % 8; }
-    Node { area_id: area(r, cell), node_id: number(r, cell), street_name: r.u32(), position: floats::position(r), flags, links: Vec::new() }
+    let (area_id, node_id) = (area(r, cell), number(r, cell));
+    Node { area_id, node_id, street_name: r.u32(), position: floats::position(r), flags, links: Vec::new() }
 }
 
 /// A junction for one that is there: mostly of its size, width and height exchanged or not.
@@ -99,7 +110,7 @@ fn turned(r: &mut Rng, cell: &Cell) -> Junction {
 }
 
 /// Now and then its values are one too few or too many.
-fn junction(r: &mut Rng) -> Junction {
+pub fn junction(r: &mut Rng) -> Junction {
     let (width, height) = (r.below(5) as u8, r.below(5) as u8);
     let right = width as usize * height as usize;
     let count = r.pick(&[right, right, right, right, right + 1, right.saturating_sub(1)]);

@@ -9,7 +9,9 @@ pub fn shrink<I: Clone>(input: I, smaller: impl Fn(&I) -> Vec<I>, fails: impl Fn
     let until = Instant::now() + Duration::from_secs(10);
     let mut least = input;
     while Instant::now() < until {
-        let Some(next) = smaller(&least).into_iter().take_while(|_| Instant::now() < until).find(|i| fails(i)) else { break };
+        let Some(next) = smaller(&least).into_iter().take_while(|_| Instant::now() < until).find(|i| fails(i)) else {
+            break
+        };
         least = next;
     }
     least
@@ -25,7 +27,9 @@ pub fn smaller_file(f: &File) -> Vec<File> {
     if f.system.len() >= ROOT {
         for i in 0..5 {
             let count = le(&f.system, COUNT_AT[i], COUNT_WIDTH[i]);
-            for c in [0, count / 2, count.saturating_sub(1)] { push(with(&|g| put_le(&mut g.system, COUNT_AT[i], COUNT_WIDTH[i], c))); }
+            for c in [0, count / 2, count.saturating_sub(1)] {
+                push(with(&|g| put_le(&mut g.system, COUNT_AT[i], COUNT_WIDTH[i], c)));
+            }
             push(with(&|g| put_le(&mut g.system, ADDRESS_AT[i], 8, 0)));
         }
     }

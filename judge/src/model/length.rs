@@ -8,8 +8,8 @@ pub fn square(a: [u32; 3], b: [u32; 3]) -> f32 {
     (xx + yy) + zz
 }
 
-/// The least real whose root rounds to k or more: the square of the middle between k and the f32 below it, where the tie
-/// goes to k, whose last digit is even. The middle has 25 binary digits, so its square is exact in f64.
+/// The least real whose root rounds to k or more: the square of the middle between k and the f32 below it, where the
+/// tie goes to k, whose last digit is even. The middle has 25 binary digits, so its square is exact in f64.
 pub fn least_square(k: u32) -> f64 {
     let below = f32::from_bits((k as f32).to_bits() - 1) as f64;
     let middle = (below + k as f64) / 2.0;

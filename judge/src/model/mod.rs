@@ -1,5 +1,5 @@
-//! A model of document 01, written from its text alone, plainly and without care for speed. It decides where the two may
-//! differ; everywhere else it is itself held to the Rust.
+//! A model of document 01, written from its text alone, plainly and without care for speed. It decides where the two
+//! may differ; everywhere else it is itself held to the Rust.
 pub mod cell;
 pub mod edit;
 pub mod grid;

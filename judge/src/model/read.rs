@@ -20,7 +20,8 @@ pub fn read(system: &[u8], graphics: &[u8]) -> Answer<Cell> {
     })
 }
 
-/// `cellsum`'s counts: reading's checks except 7. Nodes, links over all nodes, junctions, values over all junctions, refs.
+/// `cellsum`'s counts: reading's checks except 7. Nodes, links over all nodes, junctions, values over all junctions,
+/// refs.
 pub fn count(system: &[u8], graphics: &[u8]) -> Answer<[usize; 5]> {
     let [nodes, _, junctions, _, refs] = checked(system, graphics)?;
     let links = nodes.chunks(40).map(|b| records::link_range(b).1).sum();
@@ -55,7 +56,9 @@ fn checked<'a>(system: &'a [u8], graphics: &'a [u8]) -> Answer<Arrays<'a>> {
 
 /// A range whose start, or start plus count, is over the list's length, even if it is empty.
 fn ranges(number: u32, ranges: impl Iterator<Item = (usize, usize)>, length: usize) -> Answer<()> {
-    for (place, (start, count)) in ranges.enumerate() { refuse_if(start > length || start + count > length, number, place)?; }
+    for (place, (start, count)) in ranges.enumerate() {
+        refuse_if(start > length || start + count > length, number, place)?;
+    }
     Ok(())
 }
 

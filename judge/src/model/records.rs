@@ -87,5 +87,7 @@ pub fn put_junction(b: &mut [u8], j: &Junction, heightmap_ptr: usize) {
 }
 
 pub fn put_ref(b: &mut [u8], r: &Ref) {
-    for (i, v) in [r.area_id, r.node_id, r.junction_id, r.unk0].into_iter().enumerate() { put_le(b, 2 * i, 2, v as u64); }
+    for (i, v) in [r.area_id, r.node_id, r.junction_id, r.unk0].into_iter().enumerate() {
+        put_le(b, 2 * i, 2, v as u64);
+    }
 }

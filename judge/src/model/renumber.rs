@@ -2,7 +2,8 @@
 use super::cell::Cell;
 use super::{room, Answer};
 
-/// Renumbers, and gives each node's new place by its old one. The scratch must have 65,536 entries, the list one a node.
+/// Renumbers, and gives each node's new place by its old one. The scratch must have 65,536 entries, the list one a
+/// node.
 pub fn renumber(cell: &mut Cell, scratch: usize, places: usize) -> Answer<Vec<usize>> {
     room(6, &[65_536, cell.nodes.len()], &[scratch, places])?;
     let area = cell.area();
@@ -14,7 +15,9 @@ pub fn renumber(cell: &mut Cell, scratch: usize, places: usize) -> Answer<Vec<us
     // Of equal old numbers the last node counts: a later one overwrites.
     let mut by_number = vec![None; 65_536];
     for (i, n) in cell.nodes.iter().enumerate() { by_number[n.node_id as usize] = Some(new_place[i] as u16); }
-    let renamed = |area_id: u16, node_id: u16| if area_id == area { by_number[node_id as usize].unwrap_or(node_id) } else { node_id };
+    let renamed = |area_id: u16, node_id: u16| {
+        if area_id == area { by_number[node_id as usize].unwrap_or(node_id) } else { node_id }
+    };
     let old = std::mem::take(&mut cell.nodes);
     for (new, &i) in order.iter().enumerate() {
         let mut n = old[i].clone();

@@ -3,8 +3,8 @@
 pub const SYSTEM: u64 = 0x5000_0000;
 pub const GRAPHICS: u64 = 0x6000_0000;
 
-/// The part of whichever section the address names, `count` records of `width` bytes; none if bad. An array with address 0
-/// or count 0 is empty before any other check.
+/// The part of whichever section the address names, `count` records of `width` bytes; none if bad. An array with
+/// address 0 or count 0 is empty before any other check.
 pub fn part<'a>(system: &'a [u8], graphics: &'a [u8], address: u64, count: u64, width: u64) -> Option<&'a [u8]> {
     if address == 0 || count == 0 { return Some(&[]); }
     if address >> 32 != 0 { return None; }

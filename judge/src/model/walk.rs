@@ -59,7 +59,8 @@ fn see(cell: &Cell, place: usize) -> Seen {
     }
 }
 
-/// All nodes have one area, numbers differ, and each own link and own ref names a node. An empty cell is sound with any refs.
+/// All nodes have one area, numbers differ, and each own link and own ref names a node. An empty cell is sound with
+/// any refs.
 pub fn is_sound(cell: &Cell) -> bool {
     if cell.nodes.is_empty() { return true; }
     let area = cell.area();

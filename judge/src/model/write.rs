@@ -3,7 +3,8 @@ use super::cell::Cell;
 use super::sections::{put_le, SYSTEM};
 use super::{read, records, refuse_if, room, Answer};
 
-/// The five blocks in the order in which they are laid, as places of the arrays: refs, heightmap bytes, junctions, links, nodes.
+/// The five blocks in the order in which they are laid, as places of the arrays: refs, heightmap bytes, junctions,
+/// links, nodes.
 const LAID: [usize; 5] = [4, 3, 2, 1, 0];
 const PAGES: usize = 112;
 const PAGES_LENGTH: usize = 1_040;
@@ -20,7 +21,8 @@ pub fn written(cell: &Cell) -> Answer<Vec<u8>> {
     Ok(out)
 }
 
-/// Where each array starts, each at the next multiple of 16, and where the last one ends. An empty array takes no bytes.
+/// Where each array starts, each at the next multiple of 16, and where the last one ends. An empty array takes no
+/// bytes.
 pub fn layout(counts: [usize; 5]) -> ([usize; 5], usize) {
     let mut at = [0; 5];
     let mut end = PAGES + PAGES_LENGTH;

@@ -1,5 +1,6 @@
 //! The accessors, one call each on an entry's words.
 use super::KEPT;
+use crate::slips;
 
 /// A getter's answer as a number: a bool is 0 or 1, an f32 its bits.
 pub type Getter<W> = (&'static str, fn(&W) -> u32);
@@ -116,7 +117,10 @@ pub const NODE_SETTERS: [Setter<Node>; 15] = [
     ("set_highway", |w, v| unsafe { ynd_node_set_highway(w, v % 2 == 1) }),
     ("set_tunnel", |w, v| unsafe { ynd_node_set_tunnel(w, v % 2 == 1) }),
     ("set_heuristic_value", |w, v| unsafe { ynd_node_set_heuristic_value(w, v) }),
-    ("set_density", |w, v| unsafe { ynd_node_set_density(w, v) }),
+    ("set_density", |w, v| {
+        unsafe { ynd_node_set_density(w, v) };
+        slips::numbers::set_density(w, v)
+    }),
     ("set_special", |w, v| unsafe { ynd_node_set_special(w, v) }),
     ("set_speed", |w, v| unsafe { ynd_node_set_speed(w, v) }),
 ];

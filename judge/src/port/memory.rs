@@ -1,16 +1,27 @@
 //! A cell in the port's memory: fifteen words and five lent lists, with rubbish beyond the counts.
+use super::lent::{hold, watching, Lent};
+use super::words::{junction, junction_ref, junction_words, link, link_range, link_words, node, node_words, ref_words};
+use super::words::value_range;
 use crate::inputs::rng::Rng;
-use crate::model::cell::{one_nan, Cell, Junction, Link, Node, Ref};
+use crate::model::cell::{Cell, Junction, Node};
 use std::ops::Range;
 
-#[derive(Debug, Clone, PartialEq, Eq)]
+/// The five lists, as a set.
+pub const NODES: u8 = 1;
+pub const LINKS: u8 = 2;
+pub const JUNCTIONS: u8 = 4;
+pub const HEIGHTS: u8 = 8;
+pub const REFS: u8 = 16;
+pub const ALL: u8 = 31;
+
+#[derive(Debug, Clone, PartialEq, Eq, Default)]
 pub struct Memory {
     pub ynd: [u32; 15],
-    pub nodes: Vec<[u32; 8]>,
-    pub links: Vec<[u16; 4]>,
-    pub junctions: Vec<[u32; 6]>,
-    pub heights: Vec<u8>,
-    pub refs: Vec<[u16; 4]>,
+    pub nodes: Lent<[u32; 8]>,
+    pub links: Lent<[u16; 4]>,
+    pub junctions: Lent<[u32; 6]>,
+    pub heights: Lent<u8>,
+    pub refs: Lent<[u16; 4]>,
 }
 
 impl Memory {
@@ -21,7 +32,7 @@ impl Memory {
             nodes: (0..lent[0]).map(|_| [0; 8].map(|_| r.u32())).collect(),
             links: (0..lent[1]).map(|_| [0; 4].map(|_| r.u16())).collect(),
             junctions: (0..lent[2]).map(|_| [0; 6].map(|_| r.u32())).collect(),
-            heights: r.bytes(lent[3]),
+            heights: Lent::of(&r.bytes(lent[3])),
             refs: (0..lent[4]).map(|_| [0; 4].map(|_| r.u16())).collect(),
         }
     }
@@ -50,7 +61,9 @@ impl Memory {
     /// Entries held: nodes, links, junctions, heightmap values, refs.
     pub fn counts(&self) -> [usize; 5] { [10, 11, 12, 13, 14].map(|i| self.ynd[i] as usize) }
 
-    pub fn lent(&self) -> [usize; 5] { [self.nodes.len(), self.links.len(), self.junctions.len(), self.heights.len(), self.refs.len()] }
+    pub fn lent(&self) -> [usize; 5] {
+        [self.nodes.len(), self.links.len(), self.junctions.len(), self.heights.len(), self.refs.len()]
+    }
 
     /// The lists, cut to the counts.
     pub fn held(&self) -> [usize; 5] {
@@ -67,8 +80,12 @@ impl Memory {
             vehicle_node_count: self.ynd[1],
             ped_node_count: self.ynd[2],
             unknowns: self.ynd[3..10].try_into().unwrap(),
-            nodes: self.nodes[..n].iter().map(|w| Node { links: links[cut(link_range(w), l)].iter().map(link).collect(), ..node(w) }).collect(),
-            junctions: self.junctions[..j].iter().map(|w| Junction { values: heights[cut(value_range(w), h)].to_vec(), ..junction(w) }).collect(),
+            nodes: self.nodes[..n].iter()
+                .map(|w| Node { links: links[cut(link_range(w), l)].iter().map(link).collect(), ..node(w) })
+                .collect(),
+            junctions: self.junctions[..j].iter()
+                .map(|w| Junction { values: heights[cut(value_range(w), h)].to_vec(), ..junction(w) })
+                .collect(),
             refs: self.refs[..x].iter().map(junction_ref).collect(),
         }
     }
@@ -77,18 +94,35 @@ impl Memory {
     pub fn beyond(&self, [n, l, j, h, x]: [usize; 5]) -> Memory {
         Memory {
             ynd: [0; 15],
-            nodes: self.nodes[n..].to_vec(),
-            links: self.links[l..].to_vec(),
-            junctions: self.junctions[j..].to_vec(),
-            heights: self.heights[h..].to_vec(),
-            refs: self.refs[x..].to_vec(),
+            nodes: Lent::of(&self.nodes[n..]),
+            links: Lent::of(&self.links[l..]),
+            junctions: Lent::of(&self.junctions[j..]),
+            heights: Lent::of(&self.heights[h..]),
+            refs: Lent::of(&self.refs[x..]),
         }
     }
 
-    /// The lowest list that is shorter than its count.
-    pub fn lacking(&self) -> Option<usize> {
-        let (counts, lent) = (self.counts(), self.lent());
-        (0..5).find(|&i| lent[i] < counts[i])
+    /// The struct and the lists that a call is lent for reading only, as they are before it.
+    pub fn keep(&self, lists: u8) -> Option<Memory> {
+        if !watching() { return None; }
+        let mut kept = Memory { ynd: self.ynd, ..Memory::default() };
+        if lists & NODES > 0 { kept.nodes = self.nodes.clone(); }
+        if lists & LINKS > 0 { kept.links = self.links.clone(); }
+        if lists & JUNCTIONS > 0 { kept.junctions = self.junctions.clone(); }
+        if lists & HEIGHTS > 0 { kept.heights = self.heights.clone(); }
+        if lists & REFS > 0 { kept.refs = self.refs.clone(); }
+        Some(kept)
+    }
+
+    /// Holds a call to these lists as they were, and to the guards of all.
+    pub fn stays(&self, call: &'static str, lists: u8, kept: Option<Memory>) {
+        let Some(kept) = kept else { return };
+        let [n, l, j, h, x] = [NODES, LINKS, JUNCTIONS, HEIGHTS, REFS].map(|list| lists & list == 0);
+        hold(self.nodes.guarded() && (n || self.nodes == kept.nodes), call, "nodes");
+        hold(self.links.guarded() && (l || self.links == kept.links), call, "links");
+        hold(self.junctions.guarded() && (j || self.junctions == kept.junctions), call, "junctions");
+        hold(self.heights.guarded() && (h || self.heights == kept.heights), call, "heightmap values");
+        hold(self.refs.guarded() && (x || self.refs == kept.refs), call, "refs");
     }
 
     /// A list cut to so many entries.
@@ -119,51 +153,6 @@ fn whole(ranges: impl Iterator<Item = (usize, usize)>, count: usize) -> bool {
 }
 
 /// A range of start and count, cut to a list's length.
-fn cut((start, count): (usize, usize), length: usize) -> Range<usize> { start.min(length)..(start + count).min(length) }
-
-pub fn link_range(w: &[u32; 8]) -> (usize, usize) { (w[7] as usize, w[6] as usize >> 16 & 255) }
-
-pub fn value_range(w: &[u32; 6]) -> (usize, usize) { (w[5] as usize, (w[4] & 255) as usize * (w[4] >> 8 & 255) as usize) }
-
-pub fn node_words(n: &Node, start: u32) -> [u32; 8] {
-    let [f0, f1, f2, f3, f4, f5] = n.flags.map(|f| f as u32);
-    let [x, y, z] = n.position;
-    let links = n.links.len() as u32;
-    [n.area_id as u32 | (n.node_id as u32) << 16, n.street_name, x, y, z, f0 | f1 << 8 | f2 << 16 | f3 << 24, f4 | f5 << 8 | links << 16, start]
+fn cut((start, count): (usize, usize), length: usize) -> Range<usize> {
+    start.min(length)..(start + count).min(length)
 }
-
-/// The node without its links.
-pub fn node(w: &[u32; 8]) -> Node {
-    let byte = |i: usize, k: usize| (w[i] >> (8 * k)) as u8;
-    Node {
-        area_id: w[0] as u16,
-        node_id: (w[0] >> 16) as u16,
-        street_name: w[1],
-        position: [w[2], w[3], w[4]].map(one_nan),
-        flags: [byte(5, 0), byte(5, 1), byte(5, 2), byte(5, 3), byte(6, 0), byte(6, 1)],
-        links: Vec::new(),
-    }
-}
-
-pub fn link_words(l: &Link) -> [u16; 4] {
-    let [f0, f1, f2] = l.flags.map(|f| f as u16);
-    [l.area_id, l.node_id, f0 | f1 << 8, f2 | (l.length as u16) << 8]
-}
-
-pub fn link(w: &[u16; 4]) -> Link {
-    Link { area_id: w[0], node_id: w[1], flags: [w[2] as u8, (w[2] >> 8) as u8, w[3] as u8], length: (w[3] >> 8) as u8 }
-}
-
-pub fn junction_words(j: &Junction, start: u32) -> [u32; 6] {
-    [j.position[0], j.position[1], j.min_z, j.max_z, j.width as u32 | (j.height as u32) << 8, start]
-}
-
-/// The junction without its values.
-pub fn junction(w: &[u32; 6]) -> Junction {
-    let [x, y, min_z, max_z] = [w[0], w[1], w[2], w[3]].map(one_nan);
-    Junction { position: [x, y], min_z, max_z, width: w[4] as u8, height: (w[4] >> 8) as u8, values: Vec::new() }
-}
-
-pub fn ref_words(r: &Ref) -> [u16; 4] { [r.area_id, r.node_id, r.junction_id, r.unk0] }
-
-pub fn junction_ref(w: &[u16; 4]) -> Ref { Ref { area_id: w[0], node_id: w[1], junction_id: w[2], unk0: w[3] } }

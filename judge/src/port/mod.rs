@@ -1,11 +1,17 @@
-//! The port's calls, as a C program makes them, in the model's words.
+//! The port's calls, as a C program makes them, in the model's words. What is lent is watched (lent.rs); where a slip
+//! is on, its wrong program answers in the port's place (slips/).
 pub mod access;
 pub mod cells;
 pub mod edits;
+pub mod entries;
+pub mod lent;
+pub mod lookups;
 pub mod memory;
 pub mod numbers;
 pub mod sections;
+pub mod shown;
 pub mod walks;
+pub mod words;
 
 use crate::model::{Answer, Refused};
 
@@ -17,3 +23,9 @@ fn answer<T>(number: u32, place: usize, value: T) -> Answer<T> {
 /// What every lent cell holds before a call, so that a cell that should stay is seen to stay.
 const KEPT: u32 = 0xA5A5_A5A5;
 const KEPT_PLACE: usize = 0xA5A5_A5A5_A5A5;
+
+/// Entries as they cross.
+type Node = [u32; 8];
+type Link = [u16; 4];
+type Junction = [u32; 6];
+type Ref = [u16; 4];

@@ -2,12 +2,16 @@
 use crate::math::{Vec2, Vec3};
 use crate::model::cell::{one_nan, Cell, Junction, Link, Node, Ref};
 use crate::resource::lend_sections;
-use crate::ynd::{parse_node_dictionary, serialize_node_dictionary, Heightmap, NodeJunctionRef, PathJunction, PathLink, PathNode, Ynd};
+use crate::ynd::{
+    parse_node_dictionary, serialize_node_dictionary, Heightmap, NodeJunctionRef, PathJunction, PathLink, PathNode, Ynd
+};
 
 /// The Rust refuses in words; only that it refuses is compared.
 pub type Answer<T> = Result<T, String>;
 
-pub fn vec3(bits: [u32; 3]) -> Vec3 { Vec3::new(f32::from_bits(bits[0]), f32::from_bits(bits[1]), f32::from_bits(bits[2])) }
+pub fn vec3(bits: [u32; 3]) -> Vec3 {
+    Vec3::new(f32::from_bits(bits[0]), f32::from_bits(bits[1]), f32::from_bits(bits[2]))
+}
 
 pub fn bits3(v: Vec3) -> [u32; 3] { [v.x, v.y, v.z].map(|x| one_nan(x.to_bits())) }
 

@@ -1,18 +1,16 @@
-//! Kinds 9 to 11: a file read, written, renumbered and written again; links added; a junction added.
+//! Kind 9: a file read, written, renumbered and written again.
 use super::Field::{Bytes, U16, U8};
 use super::Records;
 use crate::compare::files::generate;
 use crate::inputs::files::{self, File, Shape};
 use crate::inputs::rng::Rng;
-use crate::model::cell::{Cell, Junction, Link, Node, Ref};
+use crate::model::cell::{Cell, Link, Node, Ref};
 use crate::model::records::{ADDRESS_AT, ROOT, WIDTHS};
 use crate::model::sections::{put_le, SYSTEM};
-use crate::model::{edit, read, renumber, write, Answer, Refused};
+use crate::model::{read, renumber, write, Answer, Refused};
 use crate::rust;
 
 const FILE: u8 = 9;
-const LINKS: u8 = 10;
-const JUNCTION: u8 = 11;
 
 /// What the program has room for: nodes, links, junctions, heightmap values, refs; and the section.
 const MOST: [usize; 5] = [64, 256, 16, 512, 64];
@@ -43,8 +41,6 @@ pub fn add(to: &mut Records) {
     file(to, &pair, Lent { places: 2, ..ALL });
     file(to, &pair, Lent { places: 3, ..ALL });
     refusals(to, r);
-    for (place, n, lent) in [(0, 0, 300), (0, 31, 31), (0, 32, 300), (0, 255, 300), (0, 256, 300), (1, 1, 300), (0, 4, 3)] { links(to, place, n, lent); }
-    for (width, height, n) in [(0, 9, 0), (2, 3, 6), (2, 3, 5), (2, 3, 7), (255, 1, 255), (0, 0, 1)] { junction(to, width, height, n); }
     while to.bytes.len() < ENOUGH {
         let f = files::valid(r);
         if fits(&f) { file(to, &f, ALL); }
@@ -55,7 +51,10 @@ fn zeros(n: usize) -> File { File { system: vec![0; n], graphics: Vec::new(), au
 
 /// Document 01's numbers 7, 3 (ped), 9, each with a link to 3.
 fn three() -> Cell {
-    let node = |node_id, flags1| Node { area_id: 489, node_id, flags: [0, flags1, 0, 0, 0, 0], links: vec![Link { area_id: 489, node_id: 3, ..Link::default() }], ..Node::default() };
+    let node = |node_id, flags1| Node {
+        area_id: 489, node_id, flags: [0, flags1, 0, 0, 0, 0],
+            links: vec![Link { area_id: 489, node_id: 3, ..Link::default() }], ..Node::default()
+    };
     Cell { nodes: vec![node(7, 0), node(3, 80), node(9, 0)], ..Cell::default() }
 }
 
@@ -114,7 +113,9 @@ fn less(f: &File, list: usize) -> [usize; 5] {
     lent
 }
 
-fn length(f: &File) -> usize { write::written(&read::read(&f.system, &f.graphics).expect("a valid file")).expect("a cell that is written").len() }
+fn length(f: &File) -> usize {
+    write::written(&read::read(&f.system, &f.graphics).expect("a valid file")).expect("a cell that is written").len()
+}
 
 /// A few of each refusal of reading: 1; 3, 4 and 5 with each place that comes up.
 fn refusals(to: &mut Records, r: &mut Rng) {
@@ -122,7 +123,10 @@ fn refusals(to: &mut Records, r: &mut Rng) {
     for _ in 0..20_000 {
         let f = generate(r);
         let Err(e) = read::read(&f.system, &f.graphics) else { continue };
-        let wanted = e.0 != 2 && e.0 != 6 && e.1 < 5 && seen.iter().filter(|s| **s == e).count() < if e.0 == 3 { 2 } else { 1 };
+        let wanted = e.0 != 2 && e.0 != 6 && e.1 < 5
+            && seen.iter().filter(|s| **s == e).count() < if e.0 == 3 { 2 } else {
+            1
+        };
         if wanted && f.system.len() + f.graphics.len() < 400 { seen.push(e); file(to, &f, ALL); }
     }
 }
@@ -131,7 +135,8 @@ fn fits(f: &File) -> bool {
     let Ok(cell) = read::read(&f.system, &f.graphics) else { return false };
     let Ok(bytes) = write::written(&cell) else { return false };
     let counts = cell.counts();
-    (0..5).all(|i| counts[i] <= MOST[i]) && bytes.len() <= MOST_SECTION && f.system.len() + f.graphics.len() + 2 * bytes.len() - 2 * 1_040 < MOST_RECORD
+    (0..5).all(|i| counts[i] <= MOST[i]) && bytes.len() <= MOST_SECTION
+        && f.system.len() + f.graphics.len() + 2 * bytes.len() - 2 * 1_040 < MOST_RECORD
 }
 
 /// Number and place of a refusal, 0 and 0 if there was none.
@@ -157,7 +162,10 @@ fn file(to: &mut Records, f: &File, lent: Lent) {
     let none = || Err(Refused(0, 0));
     let first = if reading.is_ok() { write::write(&cell, &mut section) } else { none() };
     let a = if first.is_ok() { written(&cell) } else { Vec::new() };
-    let renumbering = if reading.is_ok() { renumber::renumber(&mut cell, 65_535 + lent.scratch as usize, lent.places) } else { none().map(|_: usize| Vec::new()) };
+    let renumbering = if reading.is_ok(
+        ) { renumber::renumber(&mut cell, 65_535 + lent.scratch as usize, lent.places) } else {
+        none().map(|_: usize| Vec::new())
+    };
     let again = if reading.is_ok() { write::write(&cell, &mut section) } else { none() };
     let b = if again.is_ok() { written(&cell) } else { Vec::new() };
     let mut fields = vec![U16(f.system.len() as u16), U16(f.graphics.len() as u16)];
@@ -167,27 +175,7 @@ fn file(to: &mut Records, f: &File, lent: Lent) {
     fields.extend(told(&first));
     fields.extend(told(&renumbering));
     fields.extend(told(&again));
-    fields.extend([U16(a.len() as u16), U16(b.len() as u16), Bytes(&f.system), Bytes(&f.graphics), Bytes(&a), Bytes(&b)]);
+    fields.extend([U16(a.len() as u16), U16(b.len() as u16), Bytes(&f.system), Bytes(&f.graphics), Bytes(&a),
+        Bytes(&b)]);
     to.add(FILE, &fields);
-}
-
-/// Links added to a cell of one bare node, which is then written.
-fn links(to: &mut Records, place: usize, n: usize, lent: usize) {
-    let mut cell = Cell { unknowns: [0, 0, 1, 0, 0, 0, 0], ..Cell::default() };
-    edit::add_node(&mut cell, 1, [0; 3], [1; 5]).expect("a first node");
-    let adding: Answer<()> = (0..n).try_for_each(|_| edit::add_link(&mut cell, place, Link { area_id: 1, ..Link::default() }, [1, lent, 1, 1, 1]));
-    let writing = write::write(&cell, &mut vec![0; MOST_SECTION]);
-    assert_eq!(writing.is_err(), rust::write(&rust::ynd_of(&cell)).is_err());
-    let mut fields = vec![U8(place as u8), U16(n as u16), U16(lent as u16)];
-    fields.extend(told(&adding));
-    fields.extend(told(&writing));
-    fields.push(U16(writing.unwrap_or(0) as u16));
-    to.add(LINKS, &fields);
-}
-
-/// width, height, how many values; number and place.
-fn junction(to: &mut Records, width: u8, height: u8, n: usize) {
-    let adding = edit::add_junction(&mut Cell::default(), Junction { width, height, values: vec![7; n], ..Junction::default() }, [0, 0, 1, 300, 0]);
-    let [number, place] = told(&adding);
-    to.add(JUNCTION, &[U8(width), U8(height), U16(n as u16), number, place]);
 }

@@ -73,9 +73,13 @@ pub fn add(to: &mut Records) {
     both.set(COUNT_AT[2], 1, 1, 4_097);
     large(to, both, 0);
     // 65,535 is 3,855 times 17, and 257 times 255.
-    for (n, with) in [(3_856, 3_855), (3_856, 3_856), (3_857, 3_856), (3_857, 3_857)] { large(to, Made::new().nodes(n, with, 17), 0); }
+    for (n, with) in [(3_856, 3_855), (3_856, 3_856), (3_857, 3_856), (3_857, 3_857)] {
+        large(to, Made::new().nodes(n, with, 17), 0);
+    }
     for n in [2_115, 2_116] { large(to, Made::new().nodes(n, n, 31), 0); }
-    for (n, with) in [(258, 257), (258, 258), (259, 258), (259, 259)] { large(to, Made::new().junctions(n, with, 255), 0); }
+    for (n, with) in [(258, 257), (258, 258), (259, 258), (259, 259)] {
+        large(to, Made::new().junctions(n, with, 255), 0);
+    }
     for n in [65_535, 65_536] { large(to, Made::new(), n); }
     for n in [0, 1] { large(to, Made::new().refs(65_535), n); }
     // Of several causes the first in document 01's order.
@@ -112,8 +116,12 @@ fn large(to: &mut Records, made: Made, added: usize) {
     fields.extend(told(&writing));
     fields.extend(counting.unwrap_or([0; 5]).map(|n| U32(n as u32)));
     fields.push(U32(writing.unwrap_or(0) as u32));
-    for p in &made.patches { fields.extend([U32(p.at as u32), U32(p.stride as u32), U32(p.times as u32), U8(p.value)]); }
+    for p in &made.patches {
+        fields.extend([U32(p.at as u32), U32(p.stride as u32), U32(p.times as u32), U8(p.value)]);
+    }
     to.add(LARGE, &fields);
 }
 
-fn add_refs(cell: &mut Cell, n: usize) { for _ in 0..n { edit::add_ref(cell, Ref::default(), LENT).expect("room for the refs"); } }
+fn add_refs(cell: &mut Cell, n: usize) {
+    for _ in 0..n { edit::add_ref(cell, Ref::default(), LENT).expect("room for the refs"); }
+}

@@ -1,7 +1,9 @@
-//! Writes the vectors file: a sample of the Rust's answers, replayed by the program `vectors` where no Rust is at hand.
-//! A record is a kind (one byte), the length of what follows (two bytes), then the input and the answer. Numbers are
-//! little-endian. The file is the same each time it is made.
+//! Writes the vectors file: a sample of the Rust's answers, replayed by the program `vectors` where no Rust is at
+//! hand. A record is a kind (one byte), the length of what follows (two bytes), then the input and the answer. Numbers
+//! are little-endian. The file is the same each time it is made.
 mod cells;
+mod edits;
+mod junctions;
 mod large;
 mod numbers;
 mod walks;
@@ -48,6 +50,8 @@ pub fn write(path: &str) {
     numbers::add(&mut records);
     large::add(&mut records);
     walks::add(&mut records);
+    junctions::add(&mut records);
+    edits::add(&mut records);
     cells::add(&mut records);
     assert!(records.bytes.len() <= MOST, "{} bytes of vectors", records.bytes.len());
     fs::write(path, &records.bytes).expect("the vectors file");

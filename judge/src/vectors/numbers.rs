@@ -2,7 +2,7 @@
 use super::Field::{Bytes, I16, U32, U8};
 use super::Records;
 use crate::inputs::rng::Rng;
-use crate::inputs::{floats, names};
+use crate::inputs::{floats, names, squares};
 use crate::model::Refused;
 use crate::model::{grid, names as model_names};
 use crate::rust;
@@ -19,15 +19,24 @@ const LANE_OFFSET: u8 = 8;
 
 pub fn add(to: &mut Records) {
     let r = &mut Rng::new(1);
-    for x in [-0.3f32, 8191.75, 8192.0, f32::NAN, -1024.0, 0.0, -0.0, f32::INFINITY, f32::NEG_INFINITY] { steps(to, x.to_bits()); }
+    for x in [-0.3f32, 8191.75, 8192.0, f32::NAN, -1024.0, 0.0, -0.0, f32::INFINITY, f32::NEG_INFINITY] {
+        steps(to, x.to_bits());
+    }
     for _ in 0..400 { steps(to, floats::bits(r)); }
     for _ in 0..80 { metres(to, r.u16() as i16); }
     for x in [-1.0f32 / 8192.0, -1.0 / 2048.0, f32::NAN] { cell_for_position(to, [x.to_bits(); 2]); }
     for _ in 0..250 { cell_for_position(to, [floats::bits(r), floats::bits(r)]); }
     // s = 25; s = 32761 - 1/512, the rounded square of 181 - 1/65536 and 1/256.
-    for b in [[3.0f32, 4.0, 0.0], [180.999_984_741_210_937_5, 0.0625, 0.0]] { length(to, [[0; 3], b.map(f32::to_bits)]); }
-    for _ in 0..100 { length(to, floats::pair(r)); length(to, floats::at_threshold(r)); }
-    for name in ["nodes489.ynd", "a/NODES1177.YND", "nodes.ynd", "nodes+.ynd", "nodes++1.ynd", "nodes-1.ynd", "nodes4294967296.ynd", "x\\nodes0007.ynd", ""] {
+    for b in [[3.0f32, 4.0, 0.0], [180.999_984_741_210_937_5, 0.0625, 0.0]] {
+        length(to, [[0; 3], b.map(f32::to_bits)]);
+    }
+    for _ in 0..100 {
+        length(to, floats::pair(r));
+        let (target, _) = squares::target(r.next());
+        length(to, squares::pair(target, r).expect("a pair next to a square"));
+    }
+    for name in ["nodes489.ynd", "a/NODES1177.YND", "nodes.ynd", "nodes+.ynd", "nodes++1.ynd", "nodes-1.ynd",
+        "nodes4294967296.ynd", "x\\nodes0007.ynd", ""] {
         file_name(to, name);
     }
     for _ in 0..120 { if let Ok(name) = String::from_utf8(names::bytes(r)) { file_name(to, &name); } }
@@ -46,7 +55,9 @@ fn steps(to: &mut Records, bits: u32) {
 }
 
 /// steps; bits of their metres along x and y, along z.
-fn metres(to: &mut Records, n: i16) { to.add(METRES, &[I16(n), U32((n as f32 / 4.0).to_bits()), U32((n as f32 / 32.0).to_bits())]) }
+fn metres(to: &mut Records, n: i16) {
+    to.add(METRES, &[I16(n), U32((n as f32 / 4.0).to_bits()), U32((n as f32 / 32.0).to_bits())])
+}
 
 /// bits of x and y; the cell.
 fn cell_for_position(to: &mut Records, [x, y]: [u32; 2]) {
@@ -56,7 +67,8 @@ fn cell_for_position(to: &mut Records, [x, y]: [u32; 2]) {
 
 /// bits of a and b; the length.
 fn length(to: &mut Records, [a, b]: [[u32; 3]; 2]) {
-    let fields: Vec<_> = a.into_iter().chain(b).map(U32).chain([U8(PathLink::length_between(rust::vec3(a), rust::vec3(b)))]).collect();
+    let fields: Vec<_> = a.into_iter().chain(b).map(U32)
+        .chain([U8(PathLink::length_between(rust::vec3(a), rust::vec3(b)))]).collect();
     to.add(LENGTH, &fields);
 }
 
@@ -66,26 +78,29 @@ fn file_name(to: &mut Records, name: &str) {
     to.add(NAME, &[U8(known.is_some() as u8), U32(known.unwrap_or(0)), Bytes(name.as_bytes())]);
 }
 
-/// cx, cy; number and place of the refusal, 0 if accepted; area, bounds, the name in 13 bytes and its count. What is refused
-/// has zeros there, and comes from document 01: the Rust has no such refusal.
+/// cx, cy; number and place of the refusal, 0 if accepted; area, bounds, the name in 13 bytes and its count. What is
+/// refused has zeros there, and comes from document 01: the Rust has no such refusal.
 fn grid_cell(to: &mut Records, cx: u32, cy: u32) {
     let (mut area, mut bounds, mut name) = (0, [0; 4], Vec::new());
     let refused = grid::area_id(cx, cy).err().unwrap_or(Refused(0, 0));
     if refused.0 == 0 {
         let (x0, y0, x1, y1) = ynd::cell_bounds(cx, cy);
-        (area, bounds, name) = (ynd::area_id(cx, cy), [x0, y0, x1, y1].map(f32::to_bits), ynd::cell_file_name(cx, cy).into_bytes());
+        (area, bounds, name) = (ynd::area_id(cx, cy), [x0, y0, x1, y1].map(f32::to_bits),
+            ynd::cell_file_name(cx, cy).into_bytes());
         assert_eq!(Ok(&name), model_names::cell_file_name(cx, cy).as_ref());
     }
     let count = name.len() as u8;
     name.resize(13, 0);
     let [x0, y0, x1, y1] = bounds.map(U32);
-    to.add(GRID_CELL, &[U32(cx), U32(cy), U32(refused.0), U32(refused.1 as u32), U32(area), x0, y0, x1, y1, U8(count), Bytes(&name)]);
+    to.add(GRID_CELL, &[U32(cx), U32(cy), U32(refused.0), U32(refused.1 as u32), U32(area), x0, y0, x1, y1, U8(count),
+        Bytes(&name)]);
 }
 
 /// an area and another; the first one's cell, whether it is an island's, whether both name one cell.
 fn area(to: &mut Records, a: u32, b: u32) {
     let (cx, cy) = ynd::cell_of_area(a);
-    to.add(AREA, &[U32(a), U32(b), U8(cx as u8), U8(cy as u8), U8(ynd::is_island_area(a) as u8), U8(ynd::same_cell(a, b) as u8)]);
+    to.add(AREA, &[U32(a), U32(b), U8(cx as u8), U8(cy as u8), U8(ynd::is_island_area(a) as u8),
+        U8(ynd::same_cell(a, b) as u8)]);
 }
 
 /// offset value, whether it is negative; the bits of the offset.

@@ -1,4 +1,5 @@
-//! Kinds 13 and 14: a walk in the cell of a file; whether that cell is sound. The Rust has neither: the answers are document 01's.
+//! Kinds 13 and 14: a walk in the cell of a file; whether that cell is sound. The Rust has neither: the answers are
+//! document 01's.
 use super::cells::{packed, told};
 use super::Field::{Bytes, U16, U8};
 use super::Records;
@@ -26,7 +27,8 @@ fn node(node_id: u16, flags1: u8, links: Vec<Link>) -> Node {
     Node { area_id: OWN, node_id, street_name: 5, flags: [0, flags1, 0, 0, 0, 0], links, ..Node::default() }
 }
 
-/// Three nodes, numbers 7, 3 (ped) and 9: links to each other, one to another area, and one to a number that no node has.
+/// Three nodes, numbers 7, 3 (ped) and 9: links to each other, one to another area, and one to a number that no node
+/// has.
 fn three(last: u16) -> Cell {
     Cell {
         nodes: vec![
@@ -44,7 +46,7 @@ pub fn add(to: &mut Records) {
     let r = &mut Rng::new(3);
     walks(to);
     soundness(to);
-    for _ in 0..16 {
+    for _ in 0..10 {
         let section = small(r);
         let cell = read::read(&section, &[]).expect("a valid file");
         sound(to, &section, [64, 256, 64], true);
@@ -65,7 +67,9 @@ fn small(r: &mut Rng) -> Vec<u8> {
 fn walks(to: &mut Records) {
     let section = packed(&three(77));
     // Done; the list just long enough, and one entry too short.
-    for (choices, visited) in [(&[][..], 1), (&[], 0), (&[0, 0], 3), (&[0, 0], 2), (&[1, 0, 0, 0, 0], 7)] { walk(to, &section, 0, choices, visited); }
+    for (choices, visited) in [(&[][..], 1), (&[], 0), (&[0, 0], 3), (&[0, 0], 2), (&[1, 0, 0, 0, 0], 7)] {
+        walk(to, &section, 0, choices, visited);
+    }
     // No-link, left and no-node; a full list is enough where no more is visited.
     for (start, choices) in [(0, &[2][..]), (0, &[255]), (0, &[0, 1]), (1, &[1, 0]), (2, &[1]), (0, &[1, 1, 0])] {
         for visited in [choices.len(), 4] { walk(to, &section, start, choices, visited); }
@@ -73,7 +77,10 @@ fn walks(to: &mut Records) {
     // 13, before 7.
     for (start, visited) in [(3, 4), (3, 0), (65_535, 1)] { walk(to, &section, start, &[0], visited); }
     // Of two equal numbers `node` takes the one at its place, else the first.
-    let equal = Cell { nodes: vec![node(1, 0, vec![link(OWN, 1), link(OWN, 8)]), node(1, 0, vec![]), node(8, 0, vec![]), node(8, 0, vec![])], ..Cell::default() };
+    let equal = Cell {
+        nodes: vec![node(1, 0, vec![link(OWN, 1), link(OWN, 8)]), node(1, 0, vec![]), node(8, 0, vec![]),
+            node(8, 0, vec![])], ..Cell::default()
+    };
     for choice in [0, 1] { walk(to, &packed(&equal), 0, &[choice], 2); }
 }
 
@@ -96,7 +103,9 @@ fn soundness(to: &mut Records) {
     // An empty cell with any refs.
     sound(to, &packed(&Cell { refs: with_ref(0, 77).refs, ..Cell::default() }), all, true);
     // Lists that are too short, and the scratch.
-    for lent in [[2, 256, 64], [64, 5, 64], [64, 256, 0], [2, 5, 0], [3, 6, 1]] { sound(to, &packed(&good), lent, true); }
+    for lent in [[2, 256, 64], [64, 5, 64], [64, 256, 0], [2, 5, 0], [3, 6, 1]] {
+        sound(to, &packed(&good), lent, true);
+    }
     sound(to, &packed(&good), all, false);
     sound(to, &packed(&good), [64, 256, 0], false);
 }
@@ -108,12 +117,17 @@ fn walk(to: &mut Records, section: &[u8], start: usize, choices: &[u8], visited:
     let answer = walk_into(&cell, start, choices, visited);
     let (mut end, mut list) = ((0, 0, 0), vec![BEFORE; visited]);
     if let Ok(w) = &answer {
-        end = match w.end { End::Done => (0, 0, 0), End::NoLink => (1, 0, 0), End::Left(area, number) => (2, area, number), End::NoNode => (3, 0, 0) };
+        end = match w.end {
+            End::Done => (0, 0, 0), End::NoLink => (1, 0, 0), End::Left(area, number) => (2, area, number),
+                End::NoNode => (3, 0, 0)
+        };
         for (k, &p) in w.places.iter().enumerate() { list[k] = p as u16; }
     }
-    let mut fields = vec![U16(section.len() as u16), U16(start as u16), U16(choices.len() as u16), U16(visited as u16)];
+    let mut fields = vec![U16(section.len() as u16), U16(start as u16), U16(choices.len() as u16),
+        U16(visited as u16)];
     fields.extend(told(&answer));
-    fields.extend([U8(end.0), U16(end.1), U16(end.2), U16(answer.map_or(0, |w| w.places.len()) as u16), Bytes(section), Bytes(choices)]);
+    fields.extend([U8(end.0), U16(end.1), U16(end.2), U16(answer.map_or(0, |w| w.places.len()) as u16), Bytes(section),
+        Bytes(choices)]);
     fields.extend(list.into_iter().map(U16));
     to.add(WALK, &fields);
 }
@@ -122,7 +136,8 @@ fn walk(to: &mut Records, section: &[u8], start: usize, choices: &[u8], visited:
 fn sound(to: &mut Records, section: &[u8], lent: [usize; 3], scratch: bool) {
     let cell = rust::cell_of(&rust::read(section, &[]).expect("the Rust reads it"));
     let counts = cell.counts();
-    let room = [(0, 0), (1, 1), (4, 2)].into_iter().try_for_each(|(list, k)| refuse_if(lent[k] < counts[list], 7, list));
+    let room = [(0, 0), (1, 1), (4, 2)].into_iter()
+        .try_for_each(|(list, k)| refuse_if(lent[k] < counts[list], 7, list));
     let answer = room.and_then(|_| refuse_if(!scratch, 7, 6)).map(|_| is_sound(&cell));
     let mut fields = vec![U16(section.len() as u16)];
     fields.extend(lent.map(|n| U16(n as u16)));

@@ -17,12 +17,18 @@ pub trait Context<T> {
 
 impl<T> Context<T> for Option<T> {
     fn context<C: Display>(self, context: C) -> Result<T> { self.ok_or_else(|| Error(context.to_string())) }
-    fn with_context<C: Display, F: FnOnce() -> C>(self, context: F) -> Result<T> { self.ok_or_else(|| Error(context().to_string())) }
+    fn with_context<C: Display, F: FnOnce() -> C>(self, context: F) -> Result<T> {
+        self.ok_or_else(|| Error(context().to_string()))
+    }
 }
 
 impl<T, E: Into<Error>> Context<T> for std::result::Result<T, E> {
-    fn context<C: Display>(self, context: C) -> Result<T> { self.map_err(|e| Error(format!("{context}: {}", e.into().0))) }
-    fn with_context<C: Display, F: FnOnce() -> C>(self, context: F) -> Result<T> { self.map_err(|e| Error(format!("{}: {}", context(), e.into().0))) }
+    fn context<C: Display>(self, context: C) -> Result<T> {
+        self.map_err(|e| Error(format!("{context}: {}", e.into().0)))
+    }
+    fn with_context<C: Display, F: FnOnce() -> C>(self, context: F) -> Result<T> {
+        self.map_err(|e| Error(format!("{}: {}", context(), e.into().0)))
+    }
 }
 
 #[macro_export]

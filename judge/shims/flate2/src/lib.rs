@@ -1,4 +1,5 @@
-//! Stands in for flate2: the container's names, so that `resource.rs` compiles. The judge never reads or writes a container.
+//! Stands in for flate2: the container's names, so that `resource.rs` compiles. The judge never reads or writes a
+//! container.
 pub struct Compression;
 
 pub mod read {

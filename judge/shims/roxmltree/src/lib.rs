@@ -1,4 +1,5 @@
-//! Stands in for roxmltree: the names that the XML part of `ynd.rs` uses, so that it compiles. The judge never reads XML.
+//! Stands in for roxmltree: the names that the XML part of `ynd.rs` uses, so that it compiles. The judge never reads
+//! XML.
 #[derive(Debug)]
 pub struct Error;
 impl std::fmt::Display for Error {

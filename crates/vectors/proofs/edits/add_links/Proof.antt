@@ -7,7 +7,8 @@ use Rattle.vectors.proofs.edits.add_links.Statement.{statement}
 use Rattle.vectors.proofs.edits.add_links.Tie as tie
 
 abbrev Inv-loop : tie.InvT-loop
-Inv-loop nodes₀ links₀ place n y₀ i₀ nodes links y i = (i ≤ n) × (length nodes ≡ length nodes₀) × (length links ≡ length links₀)
+Inv-loop nodes₀ links₀ place n y₀ i₀ nodes links y i =
+    (i ≤ n) × (length nodes ≡ length nodes₀) × (length links ≡ length links₀)
 
 abbrev μ-loop : tie.MeasureT-loop
 μ-loop nodes₀ links₀ place n y₀ i₀ nodes links y i = n - i
