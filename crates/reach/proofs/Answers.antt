@@ -15,6 +15,7 @@ use Rattle.reach.specs.Reach.{distances, within, ordered, nearestOf, lef
 use Rattle.reach.specs.Reach.{withinCauses, withinCall, nearestCauses, nearestAnswer, nearestCall}
 use Rattle.reach.specs.declared.reach.Listing.the-variants as listing
 use Rattle.reach.specs.declared.reach.NearestNode.the-variants as nearest
+use Rattle.reach.proofs.ListedLaws.{ordered-long}
 use Rattle.reach.proofs.NearestLaws.{none-nearest}
 
 pub few-nodes : (ynd : Ynd) → overLimit ynd ≡ false → ynd .«node_count» ≤ 65536
@@ -40,11 +41,13 @@ module _ (ynd : Ynd) (nodes : List (List ℕ)) (x y : ℤ) (radius : ℕ) (place
     module _ (held : ynd .«node_count» ≤ length nodes) (far : ℕ → ℕ) (is : far ≡ distances x y nodes) where
       pub within-short : leb (length (within far radius (ynd .«node_count»))) (length places) ≡ false
           → left (listing.Refused 7 8) places ≡ withinCall ynd nodes x y radius places
-      unfolding withinCall withinCauses placesWithin ordered
+      unfolding withinCall withinCauses placesWithin
       within-short h =
-          let l = within (distances x y nodes) radius (ynd .«node_count») in
+          let d = distances x y nodes in
+          let l = ordered d (within d radius (ynd .«node_count»)) in
           let same : length (within far radius (ynd .«node_count»)) ≡ length l
-          = ap (λ (d : ℕ → ℕ). length (within d radius (ynd .«node_count»))) is in
+          = ap (λ (d : ℕ → ℕ). length (within d radius (ynd .«node_count»))) is
+          ∙ sym (ordered-long d (within d radius (ynd .«node_count»))) in
           let less = leb-false (length l) (length places) (rw same at h) in
           rw (under, le-ltb (length nodes) (ynd .«node_count») held, lt-ltb (length places) (length l) less) refl
 
