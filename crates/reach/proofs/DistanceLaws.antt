@@ -14,7 +14,7 @@ use mir.Val.{SFits, toZ, ofZ}
 use mir.ValLaws.{toZ-ofZ}
 use borrow.Author.Tests.{ltb-true, ltb-false}
 use Rattle.numbers.proofs.StepLaws.{step-in}
-use Rattle.reach.specs.Reach.{stored, square, squared, distances}
+use Rattle.reach.specs.Reach.{stored, square, squareDistance, squared, distances}
 use Rattle.reach.specs.Parts.{raisedStep, squareApart, farFrom, far}
 
 -- ---- counted from the lowest step
@@ -68,7 +68,7 @@ square-of a b ha hb = ap (λ (k : ℕ). k * k) (omega (arith, apart a b ha hb, r
 
 far-at : (x y : ℤ) (nodes : List (List ℕ)) → mag x < 32768 → mag y < 32768 → (p : ℕ)
     → far (raisedStep x) (raisedStep y) nodes p ≡ distances x y nodes p
-unfolding far farFrom distances squared stored
+unfolding far farFrom distances squared squareDistance stored
 far-at x y nodes hx hy p =
     let w = getD nodes p [] in
     cc (square-of x (stored w .x) hx (step-in 2 _), square-of y (stored w .y) hy (step-in 2 _))
@@ -121,7 +121,7 @@ same-step a b h =
 
 -- a node at distance 0 is on the spot
 pub on-spot : (x y : ℤ) (w : List ℕ) → squared x y w ≤ 0 → (x ≡ stored w .x) × (y ≡ stored w .y)
-unfolding squared
+unfolding squared squareDistance
 on-spot x y w h = (same-step x (stored w .x) (omega arith), same-step y (stored w .y) (omega arith))
 
 no-square : (a : ℤ) → square (a -ℤ a) ≡ 0
@@ -129,7 +129,7 @@ unfolding square
 no-square a = ap (λ (z : ℤ). natAbs z * natAbs z) (+ℤ-invr a)
 
 pub spot : (x y : ℤ) (w : List ℕ) → x ≡ stored w .x → y ≡ stored w .y → squared x y w ≡ 0
-unfolding squared
+unfolding squared squareDistance
 spot x y w e f =
     (λ i. square (e i -ℤ stored w .x) + square (f i -ℤ stored w .y))
     ∙ (λ i. no-square (stored w .x) i + no-square (stored w .y) i)

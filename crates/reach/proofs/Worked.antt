@@ -1,12 +1,12 @@
 -- Closed facts, each worked out. A wrong definition is refused here.
-use Prim.Native.Nat.{ℕ, _+_}
+use Prim.Native.Nat.{ℕ}
 use mathlib.Core.Path.{_≡_, refl}
 use mathlib.Core.List.{[], _∷_}
 use mathlib.Core.Option.{some}
-use lib.IntN.{pos, negsuc, _-ℤ_}
+use lib.IntN.{pos, negsuc}
 use lib.ListN.{getD}
 use Rattle.cells.specs.Lists.{joinTo}
-use Rattle.reach.specs.Reach.{square, within, nearestOf}
+use Rattle.reach.specs.Reach.{square, squareDistance, within, nearestOf}
 
 -- the squared distances of five nodes
 abbrev five : ℕ → ℕ
@@ -23,6 +23,6 @@ unfolding nearestOf
 lowest = refl
 
 -- from the lowest step to the highest on both axes: past 32 bits
-corner : square (negsuc 32767 -ℤ pos 32767) + square (pos 32767 -ℤ negsuc 32767) ≡ 8589672450
-unfolding square
+corner : squareDistance (negsuc 32767) (negsuc 32767) (pos 32767) (pos 32767) ≡ 8589672450
+unfolding squareDistance square
 corner = refl

@@ -28,9 +28,13 @@ stored w = quantised (toNode w .position)
 unfoldable pub square : ℤ → ℕ
 square z = natAbs z * natAbs z
 
--- T-01: the squared distance of a node from the point x, y, as a whole number
+-- T-01: the squared distance between two points, as a whole number; it passes 32 bits
+unfoldable pub squareDistance : ℤ → ℤ → ℤ → ℤ → ℕ
+squareDistance x y a b = square (x -ℤ a) + square (y -ℤ b)
+
+-- that of a node from the point x, y
 unfoldable pub squared : ℤ → ℤ → List ℕ → ℕ
-squared x y w = square (x -ℤ stored w .x) + square (y -ℤ stored w .y)
+squared x y w = squareDistance x y (stored w .x) (stored w .y)
 
 -- the squared distance of the node at a place
 unfoldable pub distances : ℤ → ℤ → List (List ℕ) → ℕ → ℕ
