@@ -1,7 +1,7 @@
+pub mod Worked
 pub mod DistanceLaws
 pub mod TurnLaws
 pub mod ListedLaws
 pub mod NearestLaws
 pub mod Answers
 pub mod CallLaws
-pub mod Worked

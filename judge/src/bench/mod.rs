@@ -1,6 +1,7 @@
 //! The Rust and the port from one driver, on the same inputs, in one run; printed as a table for docs/BENCHMARKS.md.
 mod cells;
 mod numbers;
+mod reach;
 
 use std::hint::black_box;
 use std::time::{Duration, Instant};
@@ -45,13 +46,14 @@ pub fn bench(only: Option<String>) {
     let wanted = Wanted(only);
     println!("| Call | Nodes | Rust, ns | Port, ns | Ratio | Goal |");
     println!("|---|---|---|---|---|---|");
-    for row in numbers::rows(&wanted).into_iter().chain(cells::rows(&wanted)) { println!("{}", row.line()); }
+    for row in numbers::rows(&wanted).into_iter().chain(cells::rows(&wanted)).chain(reach::rows(&wanted)) { println!("{}", row.line()); }
     println!();
     println!("Nanoseconds a node, or a call for steps, grid and lengths; the fastest of {TURNS} turns, each side in turn. Inputs are made once.");
     println!("Steps, grid and lengths are called on both sides through a function pointer, one call an input, so that neither is inlined.");
     println!("A walk's link: a walk through all nodes of a renumbered cell; near is within 16 places. The Rust has no walks; the plain loop is Rust");
     println!("that goes the same way over the same memory by `links[nodes[p][7]][1]`, with no test but that of the index, and stores the places.");
     println!("node: by a call on both sides, or with the Rust's put in line in the loop that asks, as a caller in Rust has it.");
+    println!("{}", reach::NOTE);
     println!("The Rust's memory is its own, allocated in the call as it does; the port's is lent, not cleared first, and has been used before.");
 }
 

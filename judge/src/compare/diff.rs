@@ -1,7 +1,7 @@
 //! The whole run: every family of inputs in turn.
 use super::numbers::{area, cell_for_position, file_name, grid_cell, lane_offset, length_between, metres, position, steps_of};
 use super::run::Run;
-use super::{access, cells, files, programs, records, scripts, soak};
+use super::{access, cells, files, programs, reach, records, scripts, soak};
 use crate::inputs::{self, floats, limits, memories, names, rng::Rng, shrink};
 use crate::model::length;
 
@@ -20,6 +20,7 @@ pub fn diff(seed: u64, seconds: f64, full: bool, only: Option<String>) {
     run.random("sections and records", seconds * 0.1, files::generate, records::check, shrink::smaller_file);
     run.random("files", seconds * 0.3, files::generate, files::check, shrink::smaller_file);
     run.random("any memory", seconds * 0.1, memories::any, |(m, aux)| cells::on_port(m, &mut Rng::new(*aux)), |_| Vec::new());
+    reach::family(&run);
     lists(&run, LISTS[full as usize]);
     run.random("scripts", seconds * 0.25, inputs::scripts::script, scripts::check, inputs::scripts::smaller);
     programs::programs(&run);

@@ -6,6 +6,7 @@ pub mod files;
 pub mod memory;
 pub mod numbers;
 pub mod programs;
+pub mod reach;
 pub mod records;
 pub mod run;
 pub mod scripts;

@@ -5,6 +5,7 @@ pub mod floats;
 pub mod limits;
 pub mod memories;
 pub mod names;
+pub mod reach;
 pub mod rng;
 pub mod scripts;
 pub mod shrink;

@@ -4,6 +4,7 @@ pub mod cells;
 pub mod edits;
 pub mod memory;
 pub mod numbers;
+pub mod reach;
 pub mod sections;
 pub mod walks;
 
