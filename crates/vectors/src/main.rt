@@ -6,6 +6,7 @@ mod files;
 mod grid;
 mod large;
 mod names;
+mod near;
 mod parts;
 mod replay;
 mod steps;

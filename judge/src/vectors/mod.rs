@@ -4,6 +4,7 @@
 mod cells;
 mod large;
 mod numbers;
+mod reach;
 mod walks;
 
 use std::fs;
@@ -48,6 +49,7 @@ pub fn write(path: &str) {
     numbers::add(&mut records);
     large::add(&mut records);
     walks::add(&mut records);
+    reach::add(&mut records);
     cells::add(&mut records);
     assert!(records.bytes.len() <= MOST, "{} bytes of vectors", records.bytes.len());
     fs::write(path, &records.bytes).expect("the vectors file");
