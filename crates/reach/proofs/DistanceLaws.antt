@@ -24,7 +24,7 @@ abbrev pub up : ℤ → ℕ
 up (pos n) = n + 32768
 up (negsuc n) = 32767 - n
 
-difference : (m n : ℕ) → natAbs (subℕ m n) ≡ m - n + (n - m)
+pub difference : (m n : ℕ) → natAbs (subℕ m n) ≡ m - n + (n - m)
 difference m n = by-test (ltb m n) refl
   where
     by-test : (t : Bool) → ltb m n ≡ t → natAbs (cond t (negsuc (n - suc m)) (pos (m - n))) ≡ m - n + (n - m)
@@ -86,7 +86,8 @@ far-of x y a b nodes fx fy e f =
     let h : b ≡ raisedStep y = f ∙ ap raisedStep (toZ-ofZ w16 y fy) in
     (λ i. far (g i) (h i) nodes) ∙ far-is x y nodes (fx .sfits) (fy .sfits)
 
-apart-small : (a b : ℕ) → a ≤ 65535 → b ≤ 65535 → squareApart a b ≤ 4294836225
+-- a square of two words of 16 bits
+pub apart-small : (a b : ℕ) → a ≤ 65535 → b ≤ 65535 → squareApart a b ≤ 4294836225
 unfolding squareApart
 apart-small a b ha hb = square-small (a - b + (b - a)) (omega arith)
 

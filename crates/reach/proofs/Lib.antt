@@ -1,5 +1,6 @@
 pub mod Worked
 pub mod DistanceLaws
+pub mod Casts
 pub mod TurnLaws
 pub mod ListedLaws
 pub mod NearestLaws

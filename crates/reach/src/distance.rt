@@ -21,13 +21,13 @@ pub(crate) fn beyond(radius: u16) -> u64
     radius as u64 * radius as u64 + 1
 }
 
-// The square of the steps between a and a coordinate, given by its bits.
+// The square of the steps between a, counted from the lowest, and a coordinate, given by its bits.
 fn square_apart(a: u16, bits: u32) -> u64
     ensures { λ r. ⌜ (r ≡ squareApart a (raisedStep (stepOf 2 (ofBits binary32 bits)))) × (r ≤ 4294836225) ⌝ }
 {
-    let b = raised(steps_xy_of_bits(bits));
-    let d = if a < b { b - a } else { a - b };
-    d as u64 * d as u64
+    let b = steps_xy_of_bits(bits) as i32 + 32768;
+    let d = (a as i32 - b) as i64;
+    (d * d) as u64
 }
 
 // The squared distance of a node from the point a, b, counted from the lowest step, as far as the limit. Where x alone
