@@ -10,7 +10,7 @@
 
 #include "bofrashem.h"
 
-enum { CHOICES_MOST = 256, STEPS = 8, REACH = 40 };
+enum { CHOICES_MOST = 256, STEPS = 8, REACH = 80 };
 
 /* A cell with the memory that is lent for it. All of it is ours: the library keeps nothing. */
 typedef struct {
@@ -143,7 +143,7 @@ static void heightmaps(const yard *y)
     free(values);
 }
 
-/* The nodes within ten metres of a tap beside the node at a place, and the nearest to it. */
+/* The nodes within twenty metres of a tap beside the node at a place, and the nearest to it. */
 static uint32_t near_nodes(const yard *y, size_t at, size_t *place)
 {
     size_t count, nearest;
