@@ -1,5 +1,5 @@
-/* Reads a yard from a file, checks it, lists near nodes, walks, renumbers, walks again, writes it, and says so in plain
- * text.
+/* Reads a yard from a file, checks it, lists near nodes, walks, renumbers, walks again, writes it, and says so in
+ * plain text.
  *
  *     handheld FILE [START [CHOICE ..]]
  *

@@ -2,7 +2,7 @@
 -- Assumes nothing.
 use Prim.Native.Nat.{ℕ, _<_, _≤_}
 use mathlib.Core.Path.{_≡_, refl, ap, sym, _∙_}
-use mathlib.Core.Bool.{Bool, true, false, cond}
+use mathlib.Core.Bool.{Bool, true, false, _||_}
 use mathlib.Core.List.{List, _++_}
 use lib.Dec.{leb, ltb}
 use lib.IntN.{ℤ}
@@ -22,7 +22,7 @@ pub few-nodes : (ynd : Ynd) → overLimit ynd ≡ false → ynd .«node_count» 
 unfolding overLimit
 few-nodes ynd h = go (ltb 65536 (ynd .«node_count»)) refl h
   where
-    go : (t : Bool) → ltb 65536 (ynd .«node_count») ≡ t → cond t true (ltb 4096 (ynd .«junction_count»)) ≡ false
+    go : (t : Bool) → ltb 65536 (ynd .«node_count») ≡ t → t || ltb 4096 (ynd .«junction_count») ≡ false
         → ynd .«node_count» ≤ 65536
     go true e h = true-false h
     go false e h = ltb-false 65536 (ynd .«node_count») e

@@ -6,9 +6,9 @@ use crate::port::memory::Memory;
 use crate::rust;
 use crate::ynd::PathNode;
 
-pub const NOTE: &str = "within, nearest: nodes anywhere in a cell of 512 m, seen from its middle; the Rust is a plain loop \
-over its own nodes\nwith the same conversions (`(x * 4.0) as i16`). Counted first: the list is shorter than the nodes, so \
-both count before they fill.";
+pub const NOTE: &str = "within, nearest: nodes anywhere in a cell of 512 m, seen from its middle; the Rust is a plain \
+loop over its own nodes\nwith the same conversions (`(x * 4.0) as i16`). Counted first: the list is shorter than the \
+nodes, so both count before they fill.";
 
 const POINT: [i16; 2] = [1_030, 1_015];
 
@@ -47,7 +47,8 @@ fn nearest(nodes: &[PathNode]) -> Option<(usize, u64)> {
 fn cell(size: usize) -> Cell {
     let mut r = Rng::new(size as u64);
     let mut at = || (r.below(2_048) as f32 / 4.0).to_bits();
-    Cell { nodes: (0..size).map(|_| Node { position: [at(), at(), 0], ..Node::default() }).collect(), ..Cell::default() }
+    let nodes = (0..size).map(|_| Node { position: [at(), at(), 0], ..Node::default() }).collect();
+    Cell { nodes, ..Cell::default() }
 }
 
 pub fn rows(wanted: &Wanted) -> Vec<Row> {

@@ -1,5 +1,5 @@
-//! Nodes within reach of a point and the nearest, against T-01's sentences. The Rust has neither call, but it stores the
-//! steps that distances go by.
+//! Nodes within reach of a point and the nearest, against T-01's sentences. The Rust has neither call, but it stores
+//! the steps that distances go by.
 use super::run::Run;
 use super::{same, seen, Verdict, MODEL, PORT, RUST};
 use crate::inputs::reach::{smaller, tap, Tap};

@@ -20,7 +20,10 @@ pub fn tap(r: &mut Rng) -> Tap {
         1 | 2 => circle(r),
         3 => raw(r),
         4 => by_hand(r),
-        _ => { let n = r.pick(&[0, 1, 2, 5, 40]); let places = (0..n).map(|_| anywhere(r)).collect(); seen_from(r, places, None) }
+        _ => {
+            let places = (0..r.pick(&[0, 1, 2, 5, 40])).map(|_| anywhere(r)).collect();
+            seen_from(r, places, None)
+        }
     }
 }
 

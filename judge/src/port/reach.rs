@@ -34,7 +34,8 @@ impl Memory {
         let mut places = vec![KEPT; room];
         let (counted, left) = self.within_into(point, radius, &mut places);
         let filled = counted.as_ref().map_or(0, |&n| n.min(room));
-        let kept = left && places[filled..].iter().all(|&p| p == KEPT) && counted.as_ref().map_or(true, |&n| n <= room);
+        let inside = counted.as_ref().map_or(true, |&n| n <= room);
+        let kept = left && inside && places[filled..].iter().all(|&p| p == KEPT);
         places.truncate(filled);
         (counted.map(|_| places), kept)
     }

@@ -56,7 +56,9 @@ fn both(to: &mut Records, t: &Tap) {
     closest(to, t, &cell);
 }
 
-fn nodes(t: &Tap) -> impl Iterator<Item = Field<'static>> + '_ { t.memory.nodes.iter().flat_map(|w| [U32(w[2]), U32(w[3])]) }
+fn nodes(t: &Tap) -> impl Iterator<Item = Field<'static>> + '_ {
+    t.memory.nodes.iter().flat_map(|w| [U32(w[2]), U32(w[3])])
+}
 
 /// The layouts stand in the program's near.rt.
 fn listed(to: &mut Records, t: &Tap, cell: &Cell, lent: usize) {
