@@ -11,12 +11,13 @@ YND_ARCHIVE ?= target/staticlib/libexports.a
 FUZZ_SECONDS ?= 60
 CC_HANDHELD ?= gcc
 C_FLAGS = -std=c11 -g -Wall -Wextra -Wpedantic -Werror -Iinclude
-HARD = $(addprefix hard/,lent.c model.c calls.c edits.c input.c)
+HARD = $(addprefix hard/,lent.c model.c calls.c reach.c edits.c input.c)
 DRIVE = $(HARD) hard/vectors.c hard/every.c hard/drive.c
 HARD_HEADS = $(wildcard hard/*.h) include/bofrashem.h
 CORPUS = target/hard/corpus
 INPUTS = -s samples/dock.section -s samples/hall.section -s samples/yard.section -v crates/vectors/stdin $(foreach f,$(wildcard $(CORPUS)/seed*),-i $(f))
-PROVED = $(shell find crates/numbers crates/records crates/cells crates/walks crates/exports -name '*.rt' -o -name '*.antt')
+PROVED_CRATES = numbers records cells walks reach exports
+PROVED = $(shell find $(addprefix crates/,$(PROVED_CRATES)) -name '*.rt' -o -name '*.antt')
 need = @command -v $(1) >/dev/null || { echo '$(1) is missing: apt-get install $(2)'; exit 1; }
 
 .PHONY: archive example test-header bindings asan valgrind fuzz stack seeds

@@ -1,4 +1,5 @@
-/* Reads a yard from a file, checks it, walks, renumbers, walks again, writes it, and says so in plain text.
+/* Reads a yard from a file, checks it, lists near nodes, walks, renumbers, walks again, writes it, and says so in
+ * plain text.
  *
  *     handheld FILE [START [CHOICE ..]]
  *
@@ -9,7 +10,7 @@
 
 #include "bofrashem.h"
 
-enum { CHOICES_MOST = 256, STEPS = 8 };
+enum { CHOICES_MOST = 256, STEPS = 8, REACH = 80 };
 
 /* A cell with the memory that is lent for it. All of it is ours: the library keeps nothing. */
 typedef struct {
@@ -142,6 +143,30 @@ static void heightmaps(const yard *y)
     free(values);
 }
 
+/* The nodes within twenty metres of a tap beside the node at a place, and the nearest to it. */
+static uint32_t near_nodes(const yard *y, size_t at, size_t *place)
+{
+    size_t count, nearest;
+    uint64_t square;
+    bool found;
+    if (at >= y->ynd.node_count)
+        return 0;
+    int16_t east = (int16_t)(ynd_steps_xy(y->nodes[at].x) + 3), north = ynd_steps_xy(y->nodes[at].y);
+    uint32_t *places = list(y->room.nodes, sizeof *places);
+    uint32_t number = ynd_within(&y->ynd, y->nodes, y->room.nodes, east, north, REACH, places, y->room.nodes, &count,
+        place);
+    if (!number)
+        number = ynd_nearest(&y->ynd, y->nodes, y->room.nodes, east, north, &found, &nearest, &square, place);
+    if (!number) {
+        printf("within %d m of %g %g:", REACH / 4, east / 4.0, north / 4.0);
+        for (size_t i = 0; i < count; i++)
+            printf(" %u", (unsigned)places[i]);
+        printf("; the nearest is place %zu, %llu square steps away\n", nearest, (unsigned long long)square);
+    }
+    free(places);
+    return number;
+}
+
 /* Renumbers and walks again: the same way, wherever its nodes now stand. */
 static int renumber_and_walk(yard *y, size_t start, const uint8_t *choices, size_t n, uint32_t *visited)
 {
@@ -186,6 +211,9 @@ static int use(yard *y, size_t start, const uint8_t *given, size_t n)
         return refused("soundness", number, place);
     printf("sound: %s\n", sound ? "yes" : "no");
     heightmaps(y);
+    number = near_nodes(y, start, &place);
+    if (number)
+        return refused("near nodes", number, place);
     for (size_t i = 0; i < n; i++)
         choices[i] = given[i];
     if (n == 0)

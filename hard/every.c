@@ -121,6 +121,7 @@ static void empty_lists(void)
     size_t *place = block(sizeof *place), *n = block(sizeof *n), *at = block(sizeof *at);
     uint32_t *scratch = block(YND_SCRATCH * sizeof *scratch), *area = block(sizeof *area);
     bool *yes = block(sizeof *yes);
+    uint64_t square = 7;
     ynd_cell *ynd = block(sizeof *ynd);
     ynd_counts *counts = block(sizeof *counts);
     ynd_walk_end *end = block(sizeof *end);
@@ -139,6 +140,8 @@ static void empty_lists(void)
     CHECK(ynd_node(ynd, NULL, 0, 3, yes, at, place) == 0 && !*yes && *at == KEPT_SIZE);
     CHECK(ynd_junction_of(ynd, NULL, 0, NULL, 0, 1, 2, yes, at, place) == 0 && !*yes);
     CHECK(ynd_area_of_cell(ynd, NULL, 0, yes, area, place) == 0 && !*yes);
+    CHECK(ynd_within(ynd, NULL, 0, 0, 0, 65535, NULL, 0, n, place) == 0 && *n == 0);
+    CHECK(ynd_nearest(ynd, NULL, 0, 0, 0, yes, at, &square, place) == 0 && !*yes && *at == KEPT_SIZE && square == 7);
     CHECK(ynd_shown_values(ynd, NULL, 0, NULL, 0, 0, NULL, 0, n, place) == YND_NO_SUCH_PLACE);
     CHECK(ynd_add_node(ynd, NULL, 0, 1, 0, 0, 0, place) == YND_LENT_TOO_SHORT && *place == YND_NODES);
     CHECK(!ynd_area_id_from_file_name(NULL, 0, area) && ynd_byte_at(NULL, 0, 0) == 0 && ynd_u64_at(NULL, 0, 0) == 0);

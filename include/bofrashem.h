@@ -38,7 +38,7 @@ extern "C" {
  * | 4 | a node's link start, or start plus count, over the list's length | the node |
  * | 5 | a junction's heightmap start, or start plus width × height, over the bytes' length | the junction |
  * | 6 | more than 65,536 nodes or 4,096 junctions | 0 nodes, 1 junctions |
- * | 7 | lent memory too short | 0 to 4 as for 3, 5 section, 6 renumbering scratch, 7 new places, 8 visited |
+ * | 7 | lent memory too short | 0 to 4 as for 3, 5 section, 6 renumbering scratch, 7 new places, 8 visited or listed |
  * | 8 | over 31 links on writing | the node |
  * | 9 | links before this node over 65,535 on writing | the node |
  * | 10 | heightmap bytes before a junction over 65,535 on writing | the junction |
@@ -65,7 +65,7 @@ enum ynd_refusal {
     YND_AT_LIMIT = 14
 };
 
-/* The places of the refusals 3 (0 to 4) and 7 (0 to 8). */
+/* The places of the refusals 3 (0 to 4) and 7 (0 to 8). YND_VISITED is any list of places that a call fills. */
 enum ynd_list {
     YND_NODES = 0,
     YND_LINKS = 1,
@@ -328,6 +328,24 @@ uint32_t ynd_junction_of(
 uint32_t ynd_area_of_cell(
     const ynd_cell *ynd, const ynd_node_entry *nodes, size_t nodes_len, bool *found, uint32_t *area,
     size_t *place);
+
+/* ---- Nodes within reach of a point. Point, radius and distances count quarter-metre steps ---- */
+
+/* The places of all nodes whose stored x and y (as writing stores them) lie at most `radius` from the point, each once
+ * and no other: `count` gets how many they are, the first entries of `places` their places, later entries stay. Their
+ * order may change with a release: do not lean on it. Radius 0 lists the nodes exactly there. Refused, in this order:
+ * 14 a struct over a limit; 7 at 0 where a list is shorter than its count; 7 at 8 where `places` has fewer entries
+ * than there are such nodes (node_count entries always do, and spare a count). */
+uint32_t ynd_within(
+    const ynd_cell *ynd, const ynd_node_entry *nodes, size_t nodes_len, int16_t x, int16_t y, uint16_t radius,
+    uint32_t *places, size_t places_len, size_t *count, size_t *place);
+
+/* The node nearest to the point, the lowest place where distances are equal: `found` is false in a cell with no node;
+ * else `at` gets its place and `square` its squared distance (else they stay). Refused, in this order: 14 a struct
+ * over a limit; 7 at 0 where a list is shorter than its count. */
+uint32_t ynd_nearest(
+    const ynd_cell *ynd, const ynd_node_entry *nodes, size_t nodes_len, int16_t x, int16_t y, bool *found,
+    size_t *at, uint64_t *square, size_t *place);
 
 /* ---- Entries added ---- */
 

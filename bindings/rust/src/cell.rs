@@ -185,5 +185,7 @@ impl Cell {
 /// A range of a list, cut where it leaves the list.
 fn held<T>(list: &[T], start: usize, count: usize) -> &[T] { &list[start.min(list.len())..(start + count).min(list.len())] }
 
-/// A call that is refused only where a list is shorter than its count, which a cell's own lists are not.
-fn lookup(call: impl FnOnce(&mut usize) -> u32) { answered(call).expect("the cell's lists hold its counts") }
+/// A call that is refused only where a count passes its list or its limit, which a cell's own counts do not.
+pub(crate) fn lookup(call: impl FnOnce(&mut usize) -> u32) {
+    answered(call).expect("the cell's lists hold its counts")
+}

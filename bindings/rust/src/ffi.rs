@@ -64,6 +64,14 @@ extern "C" {
     pub(crate) fn ynd_node(
         ynd: &Words, nodes: *const Node, nodes_len: usize, node_id: u16, found: &mut bool, at: &mut usize, place: &mut usize,
     ) -> u32;
+    pub(crate) fn ynd_within(
+        ynd: &Words, nodes: *const Node, nodes_len: usize, x: i16, y: i16, radius: u16, places: *mut u32,
+        places_len: usize, count: &mut usize, place: &mut usize,
+    ) -> u32;
+    pub(crate) fn ynd_nearest(
+        ynd: &Words, nodes: *const Node, nodes_len: usize, x: i16, y: i16, found: &mut bool, at: &mut usize,
+        square: &mut u64, place: &mut usize,
+    ) -> u32;
     pub(crate) fn ynd_junction_of(
         ynd: &Words, nodes: *const Node, nodes_len: usize, refs: *const Ref, refs_len: usize, area_id: u16, node_id: u16, found: &mut bool,
         at: &mut usize, place: &mut usize,

@@ -22,11 +22,13 @@ mod entries;
 mod ffi;
 mod fields;
 pub mod numbers;
+mod reach;
 mod refusal;
 mod walks;
 
 pub use cell::{count, Cell, Counts};
 pub use entries::{Junction, Link, Node, Ref};
 pub use fields::special_is_ped;
+pub use reach::NearNode;
 pub use refusal::Refusal;
 pub use walks::{End, SeenJunction, SeenLink, SeenNode, Walk};

@@ -17,8 +17,8 @@ pub enum Refusal {
     BadHeightmapRange(usize),
     /// 6: more than 65,536 nodes (0) or 4,096 junctions (1).
     TooMany(usize),
-    /// 7: lent memory too short (0 to 4 as for 3, 5 section, 6 renumbering scratch, 7 new places, 8 visited). A cell that lends its own
-    /// memory does not meet it.
+    /// 7: lent memory too short (0 to 4 as for 3, 5 section, 6 renumbering scratch, 7 new places, 8 visited or
+    /// listed). A cell that lends its own memory does not meet it.
     LentTooShort(usize),
     /// 8: over 31 links on writing.
     OverThirtyOneLinks(usize),

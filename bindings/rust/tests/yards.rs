@@ -1,5 +1,5 @@
 //! The sample yards, and the refusals that a caller can meet. Run by `make bindings` at the repository's root.
-use bofrashem::{count, numbers, Cell, End, Junction, Link, Node, Ref, Refusal};
+use bofrashem::{count, numbers, Cell, End, Junction, Link, NearNode, Node, Ref, Refusal};
 
 fn yard(name: &str) -> Vec<u8> { std::fs::read(format!("{}/../../samples/{name}.section", env!("CARGO_MANIFEST_DIR"))).expect("a sample yard") }
 
@@ -117,6 +117,43 @@ fn links_have_limits() {
     let before = cell.clone();
     assert_eq!(cell.write_then_read(), Err(Refusal::OverThirtyOneLinks(0)));
     assert_eq!(cell, before);
+}
+
+/// The hall's nodes by their own definition, beside the calls.
+#[test]
+fn near_nodes_of_the_hall() {
+    let hall = read("hall");
+    let square = |p: usize, [x, y]: [i16; 2]| {
+        let [a, b, _] = numbers::quantise(hall.nodes()[p].position).map(i64::from);
+        ((a - x as i64).pow(2) + (b - y as i64).pow(2)) as u64
+    };
+    let all = 0..hall.nodes().len();
+    for point in [[0, 0], [40, 24], [-32768, 32767], [32767, 32767]] {
+        for radius in [0, 1, 16, 40, 400, 65_535] {
+            let near = |&p: &u32| square(p as usize, point) <= (radius as u64).pow(2);
+            let want: Vec<u32> = all.clone().map(|p| p as u32).filter(near).collect();
+            let mut have = hall.within(point, radius);
+            have.sort_unstable();
+            assert_eq!(have, want, "{point:?} {radius}");
+        }
+        let best = hall.nearest(point).unwrap();
+        assert_eq!(best.squared_distance, square(best.place, point));
+        assert_eq!(Some(best.place), all.clone().min_by_key(|&p| square(p, point)));
+    }
+}
+
+#[test]
+fn near_nodes_at_the_corners() {
+    let mut cell = Cell::new();
+    assert_eq!((cell.nearest([0, 0]), cell.within([0, 0], 65_535)), (None, vec![]));
+    cell.add_node(489, [-8192.0, -8192.0, 0.0]).unwrap();
+    cell.add_node(489, [3.0, 4.0, 0.0]).unwrap();
+    cell.add_node(489, [-4.0, 3.0, 0.0]).unwrap();
+    let corner = NearNode { place: 1, squared_distance: 32_755 * 32_755 + 32_751 * 32_751 };
+    assert_eq!(cell.nearest([32767, 32767]), Some(corner));
+    assert!(!cell.within([32767, 32767], 65_535).contains(&0));
+    assert_eq!(cell.nearest([0, 0]), Some(NearNode { place: 1, squared_distance: 400 }));
+    assert_eq!((cell.within([0, 0], 20).len(), cell.within([0, 0], 19).len()), (2, 0));
 }
 
 #[test]

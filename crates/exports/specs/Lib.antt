@@ -2,5 +2,6 @@
 pub mod Answers
 pub mod Cells
 pub mod Found
+pub mod Near
 pub mod Parts
 pub mod Values

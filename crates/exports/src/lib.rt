@@ -11,6 +11,7 @@ pub mod link_access;
 pub mod lookups;
 pub mod names;
 pub mod node_access;
+pub mod reaching;
 pub mod reading;
 pub mod renumbering;
 pub mod sections;

@@ -7,6 +7,7 @@ mod grid;
 mod junctions;
 mod large;
 mod names;
+mod near;
 mod parts;
 mod replay;
 mod steps;

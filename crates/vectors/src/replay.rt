@@ -26,6 +26,8 @@ fn agrees(kind: u8, body: &[u8]) -> bool {
         13 => crate::cell::walk(body),
         14 => crate::cell::sound(body),
         15 => crate::junctions::junctions(body),
+        16 => crate::near::within(body),
+        17 => crate::near::nearest(body),
         _ => false,
     }
 }

@@ -1,6 +1,7 @@
 //! The Rust and the port from one driver, on the same inputs, in one run; printed as a table for docs/BENCHMARKS.md.
 mod cells;
 mod numbers;
+mod reach;
 
 use std::hint::black_box;
 use std::time::{Duration, Instant};
@@ -47,10 +48,12 @@ pub fn bench(only: Option<String>) {
     let wanted = Wanted(only);
     println!("| Call | Nodes | Rust, ns | Port, ns | Ratio | Goal |");
     println!("|---|---|---|---|---|---|");
-    for row in numbers::rows(&wanted).into_iter().chain(cells::rows(&wanted)) { println!("{}", row.line()); }
+    let rows = numbers::rows(&wanted).into_iter().chain(cells::rows(&wanted)).chain(reach::rows(&wanted));
+    for row in rows { println!("{}", row.line()); }
     println!();
     print!("Nanoseconds a node, or a call for steps, grid and lengths; the fastest of {TURNS} turns, ");
     println!("each side in turn. Inputs are made once.\n{NOTES}");
+    println!("{}", reach::NOTE);
 }
 
 const TURNS: usize = 41;

@@ -111,6 +111,13 @@ pub const FAMILIES: &[Family] = &[
         (Yes(Write), 48), (Edge(Many), 24), (Edge(MostNodes), 6), (Edge(MostLinks), 6), (Edge(MostJunctions), 6),
         (Edge(MostRefs), 6), (Edge(RustBytes), 50_000_000), (Yes(WriteRead), 24), (Yes(Renumber), 24),
     ]),
+    cells("reach", "points and radii over nodes anywhere, also raw: T-01's two calls", &[
+        (Yes(Near), 100_000), (At(Near, 7, 0), 1_000), (At(Near, 7, 8), 10_000), (At(Near, 14, 0), 1_000),
+        (Edge(FarApart), 5_000), (Edge(Radius0), 5_000), (Edge(Radius1), 5_000), (Edge(RadiusMost), 5_000),
+        (Edge(OnCircle), 5_000), (Edge(StepBeyond), 5_000), (Edge(EqualNear), 5_000), (Edge(Nan), 5_000),
+        (Edge(Infinite), 5_000), (Edge(Third), 5_000), (Edge(Empty), 5_000), (Edge(JustLong), 50_000),
+        (Edge(OneShort), 50_000), (Edge(MostNodes), 20),
+    ]),
     cells("lists of calls on sound cells", "demand 3 as it is stated", &[
         (Edge(Sound), 15_000), (Edge(Moved), 3_000), (Edge(Done), 10_000), (Edge(NoLink), 10_000),
         (Edge(Left), 10_000), (Edge(Followed), 100_000), (At(Renumber, 7, 6), 3_000), (At(Renumber, 7, 7), 1_000),

@@ -12,6 +12,7 @@ pub mod memory;
 pub mod numbers;
 pub mod page;
 pub mod programs;
+pub mod reach;
 pub mod records;
 pub mod report;
 pub mod run;

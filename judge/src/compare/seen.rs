@@ -9,12 +9,11 @@ use std::sync::Mutex;
 
 /// The calls whose answers are counted.
 #[derive(Clone, Copy, PartialEq, Eq, Debug)]
-pub enum Call { Read, Renumber, Write, WriteRead, Lookup, Entry, Edit, Walk, Soundness, Shown, Grid, Program }
+pub enum Call { Read, Renumber, Write, WriteRead, Lookup, Entry, Edit, Walk, Soundness, Shown, Grid, Program, Near }
 
-const CALLS: [&str; 12] = [
+const CALLS: [&str; 13] = [
     "reading", "renumbering", "writing", "write-then-read", "lookups", "entries", "edits", "walks", "soundness",
-    "shown",
-    "grid", "cellsum",
+    "shown", "grid", "cellsum", "near nodes",
 ];
 const NUMBERS: usize = 20;
 const PLACES: usize = 9;
@@ -25,9 +24,10 @@ pub enum Met {
     Nan, Low, High, Cut, Before, Exactly, After, Axis, Split, Difference, Square, FirstSum, LastSum, Named, Unnamed,
     Sound, Unsound, Moved, Done, NoLink, Left, NoNode, Followed, Watched, Equal, Copies, Written, RustBytes,
     FarLinks, FarValues, UpperHalf, MostNodes, MostLinks, MostJunctions, MostRefs, Many, Found, NotFound,
+    FarApart, Radius0, Radius1, RadiusMost, OnCircle, StepBeyond, EqualNear, Infinite, Third, Empty, JustLong, OneShort,
 }
 
-const METS: [&str; 38] = [
+const METS: [&str; 50] = [
     "NaN", "below the lower limit", "over the upper limit", "cut towards zero", "before a threshold", "at a threshold",
     "after a threshold", "along an axis", "over several axes", "difference rounded", "square rounded",
     "first sum rounded", "last sum rounded", "a number", "none", "sound cells", "unsound cells",
@@ -35,6 +35,8 @@ const METS: [&str; 38] = [
     "equal numbers", "overlapping ranges", "bytes written", "bytes of the Rust", "links past 65,535",
     "values past 65,535", "starts in the upper half", "65,536 nodes", "65,535 links before the last node",
     "4,096 junctions", "65,535 refs", "2,000 nodes and more", "found", "not found",
+    "65,535 steps away on both axes", "radius 0", "radius 1", "radius 65,535", "on the circle", "one step beyond",
+    "nearest of equal distances", "infinite", "-0.3", "an empty cell", "a list just long enough", "a list one too short",
 ];
 
 /// What a family has to meet: accepted, refused with a number, refused with a number at a place, or an edge.

@@ -7,6 +7,7 @@ pub mod large;
 pub mod limits;
 pub mod memories;
 pub mod names;
+pub mod reach;
 pub mod rng;
 pub mod scripts;
 pub mod shrink;

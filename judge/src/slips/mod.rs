@@ -6,6 +6,7 @@ pub mod kept;
 pub mod numbers;
 pub mod programs;
 pub mod ranges;
+pub mod reach;
 pub mod reading;
 pub mod renumbering;
 pub mod run;

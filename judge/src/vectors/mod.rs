@@ -6,6 +6,7 @@ mod edits;
 mod junctions;
 mod large;
 mod numbers;
+mod reach;
 mod walks;
 
 use std::fs;
@@ -52,6 +53,7 @@ pub fn write(path: &str) {
     walks::add(&mut records);
     junctions::add(&mut records);
     edits::add(&mut records);
+    reach::add(&mut records);
     cells::add(&mut records);
     assert!(records.bytes.len() <= MOST, "{} bytes of vectors", records.bytes.len());
     fs::write(path, &records.bytes).expect("the vectors file");
