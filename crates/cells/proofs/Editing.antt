@@ -6,3 +6,4 @@ pub mod LinkAdded
 pub mod CellAdded
 pub mod CellStored
 pub mod PoolStored
+pub mod Replacing

@@ -1,6 +1,6 @@
 -- A cell with the memory lent to it, and what a call leaves of both.
 use Prim.Native.Nat.{ℕ}
-use mathlib.Core.Bool.{cond}
+use mathlib.Core.Bool.{Bool, cond, _||_}
 use mathlib.Core.List.{List}
 use lib.Dec.{ltb}
 use lib.ListN.{length}
@@ -49,3 +49,7 @@ shortOf y nodes links junctions heights refs =
 
 abbrev pub short : Memory → ℕ
 short m = shortOf (m .ynd) (length (m .nodes)) (length (m .links)) (length (m .junctions)) (length (m .heights)) (length (m .refs))
+
+-- Section 4's limits, of a struct that no call returned: at most 65,536 nodes, 4,096 junctions
+unfoldable pub overLimit : Ynd → Bool
+overLimit y = ltb 65536 (y .«node_count») || ltb 4096 (y .«junction_count»)

@@ -1,6 +1,6 @@
 // Whether the lent lists hold what the cell's counts say.
 ghost use mathlib.Core.Path.{_≡_};
-ghost use Rattle.cells.specs.Memory.{shortOf};
+ghost use Rattle.cells.specs.Memory.{shortOf, overLimit};
 use crate::ynd::Ynd;
 
 // The first list that is shorter than its count, 5 if none is.
@@ -30,4 +30,14 @@ pub(crate) fn lacking(
         return 4;
     }
     5
+}
+
+// Over 65,536 nodes or 4,096 junctions. No call returns such a struct.
+pub fn over_limit(ynd: Ynd) -> bool
+    ensures { λ r. ⌜ r ≡ overLimit ynd ⌝ }
+{
+    if 65536 < ynd.node_count {
+        return true;
+    }
+    4096 < ynd.junction_count
 }
