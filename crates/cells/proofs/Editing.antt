@@ -7,3 +7,5 @@ pub mod CellAdded
 pub mod CellStored
 pub mod PoolStored
 pub mod Replacing
+pub mod RangePut
+pub mod CellReplaced

@@ -10,17 +10,17 @@ use Rattle.cells.specs.EditedCell.{withNodes, withJunctions}
 
 -- ---- the cell's own words: one is another, all else is as it was
 
-abbrev pub withVft : ℕ → Cell → Cell
-withVft v c = record { nodes = c .nodes; junctions = c .junctions; refs = c .refs; vehicles = c .vehicles; peds = c .peds; vft = v; words = c .words }
+abbrev pub vftPut : ℕ → Cell → Cell
+vftPut v c = record { nodes = c .nodes; junctions = c .junctions; refs = c .refs; vehicles = c .vehicles; peds = c .peds; vft = v; words = c .words }
 
-abbrev pub withVehicles : ℕ → Cell → Cell
-withVehicles v c = record { nodes = c .nodes; junctions = c .junctions; refs = c .refs; vehicles = v; peds = c .peds; vft = c .vft; words = c .words }
+abbrev pub vehiclesPut : ℕ → Cell → Cell
+vehiclesPut v c = record { nodes = c .nodes; junctions = c .junctions; refs = c .refs; vehicles = v; peds = c .peds; vft = c .vft; words = c .words }
 
-abbrev pub withPeds : ℕ → Cell → Cell
-withPeds v c = record { nodes = c .nodes; junctions = c .junctions; refs = c .refs; vehicles = c .vehicles; peds = v; vft = c .vft; words = c .words }
+abbrev pub pedsPut : ℕ → Cell → Cell
+pedsPut v c = record { nodes = c .nodes; junctions = c .junctions; refs = c .refs; vehicles = c .vehicles; peds = v; vft = c .vft; words = c .words }
 
-abbrev pub withUnknowns : List ℕ → Cell → Cell
-withUnknowns v c = record { nodes = c .nodes; junctions = c .junctions; refs = c .refs; vehicles = c .vehicles; peds = c .peds; vft = c .vft; words = v }
+abbrev pub unknownsPut : List ℕ → Cell → Cell
+unknownsPut v c = record { nodes = c .nodes; junctions = c .junctions; refs = c .refs; vehicles = c .vehicles; peds = c .peds; vft = c .vft; words = v }
 
 -- ---- all links of a node: the node's links are these, all else is as it was
 

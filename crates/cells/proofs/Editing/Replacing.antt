@@ -93,3 +93,8 @@ placing s e (suc c) l h = by-test (leb (suc c) e)
     (λ f. let lt = leb-false (suc c) e f in
     let at = behind-all s e (suc c) l lt in
     record { starts = omega (arith, at); ends = omega (arith, at, more-pool e (suc c) l lt) })
+
+pub pool-grows : (e c l : ℕ) → l ≤ poolAfter e c l
+pool-grows e c l = by-test (leb c e)
+    (λ t. omega (arith, same-pool e c l (leb-true c e t)))
+    (λ f. omega (arith, more-pool e c l (leb-false c e f)))
