@@ -49,11 +49,12 @@ mapped width height s w = getD w 0 0 ∷ getD w 1 0 ∷ getD w 2 0 ∷ getD w 3 
 
 abbrev pub mapCall : Memory → ℕ → ℕ → ℕ → Answer
 mapCall m p c size =
-    roomForMap (overLimit (m .ynd)) (m .ynd .«junction_count») p c size (valuesAfter m p c) (length (m .junctions)) (length (m .heights))
+    roomForMap (overLimit (m .ynd)) (m .ynd .«junction_count») p c size (valuesAfter m p c) (length (m .junctions))
+    (length (m .heights))
 
 -- the memory with `values` as the map of the junction at p
-abbrev pub mapIn : Memory → ℕ → ℕ → ℕ → List ℕ → Memory
-mapIn m p width height values =
+abbrev pub mapStored : Memory → ℕ → ℕ → ℕ → List ℕ → Memory
+mapStored m p width height values =
     memory (withValueCount (m .ynd) (valuesAfter m p (length values))) (m .nodes) (m .links)
     (set (m .junctions) p (mapped width height (mapStart m p (length values)) (getD (m .junctions) p [])))
     (put (m .heights) (mapStart m p (length values)) values)
@@ -61,4 +62,4 @@ mapIn m p width height values =
 
 unfoldable pub putHeightmap : Memory → ℕ → ℕ → ℕ → List ℕ → Left
 putHeightmap m p width height values =
-    unless (mapCall m p (length values) (width * height)) m (done (mapIn m p width height values))
+    unless (mapCall m p (length values) (width * height)) m (done (mapStored m p width height values))

@@ -29,11 +29,13 @@ abbrev pub fewerRefs : Ynd → ℕ → Ynd
 fewerRefs y k = withCounts y (y .«node_count») (y .«link_count») (y .«junction_count») (y .«heightmap_count») k
 
 unfoldable pub truncateNodes : Memory → ℕ → Left
-truncateNodes m k = unless (fewer (overLimit (m .ynd)) (m .ynd .«node_count») k) m (done (counted (fewerNodes (m .ynd) k) m))
+truncateNodes m k = unless (fewer (overLimit (m .ynd)) (m .ynd .«node_count») k) m
+    (done (counted (fewerNodes (m .ynd) k) m))
 
 unfoldable pub truncateJunctions : Memory → ℕ → Left
 truncateJunctions m k =
     unless (fewer (overLimit (m .ynd)) (m .ynd .«junction_count») k) m (done (counted (fewerJunctions (m .ynd) k) m))
 
 unfoldable pub truncateRefs : Memory → ℕ → Left
-truncateRefs m k = unless (fewer (overLimit (m .ynd)) (m .ynd .«ref_count») k) m (done (counted (fewerRefs (m .ynd) k) m))
+truncateRefs m k = unless (fewer (overLimit (m .ynd)) (m .ynd .«ref_count») k) m
+    (done (counted (fewerRefs (m .ynd) k) m))

@@ -75,7 +75,7 @@ fn place_map(
     requires { ⌜ (p < length (now junctions)) × (at < 4294967296)
         × (at + length (now values) ≤ length (now heights)) ⌝ }
     ensures { λ _. ⌜ (now (junctions .exit)
-            ≡ set (now (junctions .entry)) p (mapped width height at (getD (now (junctions .entry)) p [])))
+        ≡ set (now (junctions .entry)) p (mapped width height at (getD (now (junctions .entry)) p [])))
         × (now (heights .exit) ≡ put (now (heights .entry)) at (now (values .entry))) ⌝ }
 {
     let w = junctions[p];
@@ -96,7 +96,7 @@ pub fn put_heightmap(
     ensures { λ o. ⌜ ((nodes links refs : List (List ℕ)) →
         left o nodes links (now (junctions .exit)) (now (heights .exit)) refs
         ≡ putHeightmap (memory ynd nodes links (now (junctions .entry)) (now (heights .entry)) refs) place
-            width height (now (values .entry))) ⌝ }
+        width height (now (values .entry))) ⌝ }
 {
     let n = ynd.junction_count as usize;
     let h = ynd.heightmap_count as usize;
@@ -105,7 +105,16 @@ pub fn put_heightmap(
     let after = pool_after(e, values.len(), h);
     let over = over_limit(ynd);
     let size = map_size(width, height);
-    let a = room_for_map(over, n, place, values.len(), size, after, junctions.len(), heights.len());
+    let a = room_for_map(
+        over,
+        n,
+        place,
+        values.len(),
+        size,
+        after,
+        junctions.len(),
+        heights.len(),
+    );
     let Answer::Done = a else {
         return Outcome { answer: a, ynd };
     };

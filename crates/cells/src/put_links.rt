@@ -75,7 +75,7 @@ fn place_links(
     requires { ⌜ (p < length (now nodes)) × (at < 4294967296) × (length (now new) ≤ 255)
         × (at + length (now new) ≤ length (now links)) ⌝ }
     ensures { λ _. ⌜ (now (nodes .exit)
-            ≡ set (now (nodes .entry)) p (ranged at (length (now (new .entry))) (getD (now (nodes .entry)) p [])))
+        ≡ set (now (nodes .entry)) p (ranged at (length (now (new .entry))) (getD (now (nodes .entry)) p [])))
         × (now (links .exit) ≡ put (now (links .entry)) at (now (new .entry))) ⌝ }
 {
     let w = nodes[p];
@@ -94,7 +94,7 @@ pub fn put_links(
     ensures { λ o. ⌜ ((junctions refs : List (List ℕ)) (heights : List ℕ) →
         left o (now (nodes .exit)) (now (links .exit)) junctions heights refs
         ≡ putLinks (memory ynd (now (nodes .entry)) (now (links .entry)) junctions heights refs) place
-            (now (new .entry))) ⌝ }
+        (now (new .entry))) ⌝ }
 {
     let n = ynd.node_count as usize;
     let l = ynd.link_count as usize;

@@ -26,7 +26,8 @@ fn fewer_of(over: bool, n: usize, k: usize) -> Answer
 // The first k nodes stay. Both counts of kinds stay too: renumbering sets them.
 pub fn truncate_nodes(ynd: Ynd, k: usize) -> Outcome
     ensures { λ o. ⌜ ((nodes links junctions refs : List (List ℕ)) (heights : List ℕ) →
-        left o nodes links junctions heights refs ≡ truncateNodes (memory ynd nodes links junctions heights refs) k) ⌝ }
+        left o nodes links junctions heights refs
+        ≡ truncateNodes (memory ynd nodes links junctions heights refs) k) ⌝ }
 {
     let a = fewer_of(over_limit(ynd), ynd.node_count as usize, k);
     let Answer::Done = a else {
@@ -73,7 +74,8 @@ pub fn truncate_junctions(ynd: Ynd, k: usize) -> Outcome
 // The first k refs stay.
 pub fn truncate_refs(ynd: Ynd, k: usize) -> Outcome
     ensures { λ o. ⌜ ((nodes links junctions refs : List (List ℕ)) (heights : List ℕ) →
-        left o nodes links junctions heights refs ≡ truncateRefs (memory ynd nodes links junctions heights refs) k) ⌝ }
+        left o nodes links junctions heights refs
+        ≡ truncateRefs (memory ynd nodes links junctions heights refs) k) ⌝ }
 {
     let a = fewer_of(over_limit(ynd), ynd.ref_count as usize, k);
     let Answer::Done = a else {

@@ -6,7 +6,8 @@ use mathlib.Core.Logic.{_⊎_, ⊎-elim}
 use mathlib.Core.List.{List, [], _∷_, _++_, map, append-assoc}
 use lib.Dec.{eqb, leb}
 use lib.ListN.{length, getD, set, take, drop, length-append, length-drop, length-map, take-append-drop}
-use lib.Seq.{take-nil, take-take, take-append-seam, take-append-le, take-append-add, drop-append-le, drop-append-add, drop-at, drop-drop, length-take-le, getD-take, set-set}
+use lib.Seq.{take-nil, take-take, take-append-seam, take-append-le, take-append-add, drop-append-le, drop-append-add}
+use lib.Seq.{drop-at, drop-drop, length-take-le, getD-take, set-set}
 use borrow.Author.Tests.{leb-true, leb-false, eqb-true, eqb-false}
 use Rattle.records.specs.Put.{put}
 use Rattle.records.proofs.Puts.{put-nil}
@@ -34,20 +35,24 @@ module _ {A : Type 0} where
       ∙ take-append-seam X rest
 
   part-front : (s c : ℕ) (F Y : List A) → s + c ≤ length F → take c (drop s (F ++ Y)) ≡ take c (drop s F)
-  part-front s c F Y h = ap (take c) (drop-append-le s F Y (omega arith)) ∙ take-append-le c (drop s F) Y (omega (arith, length-drop s F))
+  part-front s c F Y h = ap (take c) (drop-append-le s F Y (omega arith))
+      ∙ take-append-le c (drop s F) Y (omega (arith, length-drop s F))
 
   -- a range before it
-  put-before : (s c : ℕ) (P : List A) (at : ℕ) (X : List A) → at ≤ length P → s + c ≤ at → take c (drop s (put P at X)) ≡ take c (drop s P)
+  put-before : (s c : ℕ) (P : List A) (at : ℕ) (X : List A) → at ≤ length P → s + c ≤ at
+      → take c (drop s (put P at X)) ≡ take c (drop s P)
   unfolding put
   put-before s c P at X h before =
       let rest = drop (at + length X) P in
       let inside : s + c ≤ length (take at P) = omega (arith, length-take-le at P h) in
       ap (λ (t : List A). take c (drop s t)) (append-assoc (take at P) X rest)
       ∙ part-front s c (take at P) (X ++ rest) inside
-      ∙ sym (ap (λ (t : List A). take c (drop s t)) (sym (take-append-drop at P)) ∙ part-front s c (take at P) (drop at P) inside)
+      ∙ sym (ap (λ (t : List A). take c (drop s t)) (sym (take-append-drop at P))
+      ∙ part-front s c (take at P) (drop at P) inside)
 
   -- what lies behind it
-  put-behind : (s : ℕ) (P : List A) (at : ℕ) (X : List A) → at ≤ length P → at + length X ≤ s → drop s (put P at X) ≡ drop s P
+  put-behind : (s : ℕ) (P : List A) (at : ℕ) (X : List A) → at ≤ length P → at + length X ≤ s → drop s (put P at X)
+      ≡ drop s P
   unfolding put
   put-behind s P at X h behind =
       let k = at + length X in
@@ -62,10 +67,12 @@ module _ {A : Type 0} where
   drop-take zero l xs = let e : l ≡ l - 0 = omega arith in ap (λ (j : ℕ). take j xs) e
   drop-take (suc k) zero xs = let e : 0 ≡ 0 - suc k = omega arith in ap (λ (j : ℕ). take j (drop (suc k) xs)) e
   drop-take (suc k) (suc l) [] = sym (take-nil (suc l - suc k))
-  drop-take (suc k) (suc l) (x ∷ xs) = let e : l - k ≡ suc l - suc k = omega arith in drop-take k l xs ∙ ap (λ (j : ℕ). take j (drop k xs)) e
+  drop-take (suc k) (suc l) (x ∷ xs) = let e : l - k ≡ suc l - suc k = omega arith in drop-take k l xs
+      ∙ ap (λ (j : ℕ). take j (drop k xs)) e
 
   -- of a list's first l entries: put into the list is put into them, and they are so many more as it ends behind them
-  pub pool-put : (l after at : ℕ) (xs X : List A) → at ≤ l → l ≤ length xs → at + length X ≤ after → after - (at + length X) ≡ l - (at + length X)
+  pub pool-put : (l after at : ℕ) (xs X : List A) → at ≤ l → l ≤ length xs → at + length X ≤ after
+      → after - (at + length X) ≡ l - (at + length X)
       → take after (put xs at X) ≡ put (take l xs) at X
   unfolding put
   pool-put l after at xs X h fits ends same =
@@ -81,12 +88,14 @@ module _ {A : Type 0} where
       → take (poolAfter e c l) (put xs (placeFor s e c l) X) ≡ put (take l xs) (placeFor s e c l) X
   pool-replaced s e c l xs X h fits many =
       let p = placing s e c l h in
-      pool-put l (poolAfter e c l) (placeFor s e c l) xs X (p .starts) fits (omega (arith, p .ends, many)) (by-test (leb c e)
+      pool-put l (poolAfter e c l) (placeFor s e c l) xs X (p .starts) fits (omega (arith, p .ends, many))
+      (by-test (leb c e)
       (λ t. let q = same-pool e c l (leb-true c e t) in omega (arith, q))
       (λ f. let lt = leb-false c e f in
       omega (arith, many, more-pool e c l lt, behind-all s e c l lt)))
 
-pub map-put : {A B : Type 0} (f : A → B) (xs : List A) (at : ℕ) (X : List A) → map f (put xs at X) ≡ put (map f xs) at (map f X)
+pub map-put : {A B : Type 0} (f : A → B) (xs : List A) (at : ℕ) (X : List A) → map f (put xs at X)
+    ≡ put (map f xs) at (map f X)
 unfolding put
 map-put f xs at X =
     map-append f (take at xs ++ X) (drop (at + length X) xs)
@@ -94,8 +103,10 @@ map-put f xs at X =
     ∙ (λ i. (sym (map-take f at xs) i ++ map f X) ++ drop (at + sym (length-map X f) i) (map f xs))
 
 -- n owners, each with its part of the pool P, of l entries; the owner at p gets X
-module _ {B C : Type 0} (start count : List ℕ → ℕ) (make : List ℕ → List B → C) (n l p c : ℕ) (owners : List (List ℕ)) (P X : List B)
-    (place : p < n) (fits : n ≤ length owners) (long : length P ≡ l) (many : length X ≡ c) (beside : Beside start count n l p owners) where
+module _ {B C : Type 0} (start count : List ℕ → ℕ) (make : List ℕ → List B → C) (n l p c : ℕ) (owners : List (List ℕ))
+    (P X : List B)
+    (place : p < n) (fits : n ≤ length owners) (long : length P ≡ l) (many : length X ≡ c)
+    (beside : Beside start count n l p owners) where
   abbrev owned : List B → List ℕ → C
   owned Q w = make w (take (count w) (drop (start w) Q))
 
@@ -109,7 +120,12 @@ module _ {B C : Type 0} (start count : List ℕ → ℕ) (make : List ℕ → Li
   at = placeFor (start own) held c l
 
   inside : at ≤ length P
-  inside = omega (arith, long, placing (start own) held c l (held-bound (record { start = start own; count = count own }) l .0) .starts)
+  inside = omega (
+    arith,
+    long,
+    placing (start own) held c l
+        (held-bound (record { start = start own; count = count own }) l .0) .starts,
+  )
 
   abbrev part : List B → ℕ → List B
   part Q q = take (count (getD owners q [])) (drop (start (getD owners q [])) Q)
@@ -118,7 +134,8 @@ module _ {B C : Type 0} (start count : List ℕ → ℕ) (make : List ℕ → Li
   before q h = put-before (start (getD owners q [])) (count (getD owners q [])) P at X inside h
 
   behind : (q : ℕ) → at + c ≤ start (getD owners q []) → part (put P at X) q ≡ part P q
-  behind q h = ap (take (count (getD owners q []))) (put-behind (start (getD owners q [])) P at X inside (omega (arith, many)))
+  behind q h = ap (take (count (getD owners q [])))
+      (put-behind (start (getD owners q [])) P at X inside (omega (arith, many)))
 
   nothing : (k : ℕ) (xs ys : List B) → k ≡ 0 → take k xs ≡ take k ys
   nothing zero xs ys e = refl
@@ -140,8 +157,10 @@ module _ {B C : Type 0} (start count : List ℕ → ℕ) (make : List ℕ → Li
       by-test (leb c held)
       (λ t. let le = leb-true c held t in
       let is = in-place (start own) held c l more le in
-      ⊎-elim (λ h. before q (omega (arith, is))) (λ h. behind q (omega (arith, is))) (beside .apart q lt ne some (omega arith)))
-      (λ f. let is = behind-all (start own) held c l (leb-false c held f) in before q (omega (arith, is, beside .inside q lt ne some)))))
+      ⊎-elim (λ h. before q (omega (arith, is))) (λ h. behind q (omega (arith, is)))
+      (beside .apart q lt ne some (omega arith)))
+      (λ f. let is = behind-all (start own) held c l (leb-false c held f) in
+      before q (omega (arith, is, beside .inside q lt ne some)))))
     where
       positive : (k : ℕ) → (k ≡ 0 → ⊥) → 0 < k
       positive zero h = absurd (h refl)
@@ -157,6 +176,8 @@ module _ {B C : Type 0} (start count : List ℕ → ℕ) (make : List ℕ → Li
       set-held (owned Q) n owners p x place
       ∙ ap (λ (t : List C). set t p (owned Q x))
       (change-one (owned P) (owned Q) L p [] (owned Q (getD L p [])) (omega (arith, all))
-      (λ q h ne. let lt : q < n = omega (arith, all) in rw (getD-take n owners q [] lt) (ap (make (getD owners q [])) (other q lt ne))) refl)
+      (λ q h ne. let lt : q < n = omega (arith, all) in
+      rw (getD-take n owners q [] lt) (ap (make (getD owners q [])) (other q lt ne))) refl)
       ∙ set-set (map (owned P) L) p (owned Q (getD L p [])) (owned Q x)
-      ∙ ap (set (map (owned P) L) p) ((λ i. make x (take ((ct ∙ sym many) i) (drop (st i) Q))) ∙ ap (make x) (put-own P at X inside) ∙ mk)
+      ∙ ap (set (map (owned P) L) p)
+      ((λ i. make x (take ((ct ∙ sym many) i) (drop (st i) Q))) ∙ ap (make x) (put-own P at X inside) ∙ mk)

@@ -26,7 +26,8 @@ pub record LinksRoom (n p c after nodes links : ℕ) : Type 0 where
   pub nodes-fit : n ≤ nodes
   pub links-fit : after ≤ links
 
-pub links-room : (over : Bool) (n p c after nodes links : ℕ) → roomForLinks over n p c after nodes links ≡ Done → LinksRoom n p c after nodes links
+pub links-room : (over : Bool) (n p c after nodes links : ℕ) → roomForLinks over n p c after nodes links ≡ Done
+    → LinksRoom n p c after nodes links
 unfolding roomForLinks
 links-room over n p c after nodes links e =
     let cs = linksCauses over n p c after nodes links in
@@ -45,7 +46,8 @@ pub record MapRoom (n p c size after junctions heights : ℕ) : Type 0 where
   pub junctions-fit : n ≤ junctions
   pub heights-fit : after ≤ heights
 
-pub map-room : (over : Bool) (n p c size after junctions heights : ℕ) → roomForMap over n p c size after junctions heights ≡ Done → MapRoom n p c size after junctions heights
+pub map-room : (over : Bool) (n p c size after junctions heights : ℕ)
+    → roomForMap over n p c size after junctions heights ≡ Done → MapRoom n p c size after junctions heights
 unfolding roomForMap
 map-room over n p c size after junctions heights e =
     let cs = mapCauses over n p c size after junctions heights in

@@ -23,37 +23,54 @@ held c =
     let a = c .before .before .before .before .before .before .before .args in
     c .held-in .ensures ∙ (λ i. heldIn (c .before .value-range .ensures i) (a .ynd .«heightmap_count»))
 
-after-is : (c : tie.After-pool-after) → let a = c .before .before .before .before .before .before .before .before .args in
+after-is : (c : tie.After-pool-after) → let a =
+    c .before .before .before .before .before .before .before .before .args in
     c .pool-after .result
-    ≡ poolAfter (heldIn (valueRange (a .junctions .now) (a .place)) (a .ynd .«heightmap_count»)) (length (a .values .now)) (a .ynd .«heightmap_count»)
+    ≡ poolAfter (heldIn (valueRange (a .junctions .now) (a .place)) (a .ynd .«heightmap_count»))
+    (length (a .values .now)) (a .ynd .«heightmap_count»)
 after-is c =
     let a = c .before .before .before .before .before .before .before .before .args in
-    c .pool-after .ensures ∙ (λ i. poolAfter (held (c .before) i) (length (a .values .now)) (a .ynd .«heightmap_count»))
+    c .pool-after .ensures
+    ∙ (λ i. poolAfter (held (c .before) i) (length (a .values .now)) (a .ynd .«heightmap_count»))
 
 -- the answer, by the values that the junction has
-answer-is : (c : tie.After-room-for-map) → let a = c .before .before .before .before .before .before .before .before .before .before .before .args in
+answer-is : (c : tie.After-room-for-map) → let a =
+    c .before .before .before .before .before .before .before .before .before .before .before .args in
     c .room-for-map .result
-    ≡ roomForMap (overLimit (a .ynd)) (a .ynd .«junction_count») (a .place) (length (a .values .now)) (a .width * a .height)
-    (poolAfter (heldIn (valueRange (a .junctions .now) (a .place)) (a .ynd .«heightmap_count»)) (length (a .values .now)) (a .ynd .«heightmap_count»))
+    ≡ roomForMap (overLimit (a .ynd)) (a .ynd .«junction_count») (a .place) (length (a .values .now))
+    (a .width * a .height)
+    (poolAfter (heldIn (valueRange (a .junctions .now) (a .place)) (a .ynd .«heightmap_count»))
+    (length (a .values .now)) (a .ynd .«heightmap_count»))
     (length (a .junctions .now)) (length (a .heights .now))
 answer-is c =
     let a = c .before .before .before .before .before .before .before .before .before .before .before .args in
     c .room-for-map .ensures
-    ∙ (λ i. roomForMap (c .before .before .over-limit .ensures i) (a .ynd .«junction_count») (a .place) (length (a .values .now)) (c .before .map-size .ensures .0 i)
+    ∙ (λ i. roomForMap (c .before .before .over-limit .ensures i) (a .ynd .«junction_count») (a .place)
+    (length (a .values .now)) (c .before .map-size .ensures .0 i)
     (after-is (c .before .before .before) i) (length (a .junctions .now)) (length (a .heights .now)))
 
 -- an accepted call has room
-room : (c : tie.After-enum-told) → let a = c .before .before .before .before .before .before .before .before .before .before .before .before .before .args in
-    MapRoom (a .ynd .«junction_count») (a .place) (length (a .values .now)) (c .before .before .before .map-size .result) (c .before .before .before .before .before .pool-after .result) (length (a .junctions .now)) (length (a .heights .now))
+room : (c : tie.After-enum-told) → let a =
+    c .before .before .before .before .before .before .before .before .before .before .before .before .before .args in
+    MapRoom (a .ynd .«junction_count») (a .place) (length (a .values .now))
+    (c .before .before .before .map-size .result) (c .before .before .before .before .before .pool-after .result)
+    (length (a .junctions .now)) (length (a .heights .now))
 room c = map-room _ _ _ _ _ _ _ _ (sym (c .before .before .room-for-map .ensures) ∙ c .enum-told .given .1)
 
-start-is : (c : tie.After-place-for) → let a = c .before .before .before .before .before .before .before .before .before .before .before .before .before .before .args in
+start-is : (c : tie.After-place-for) → let a =
+    c .before .before .before .before .before .before .before .before .before .before .before .before .before .before
+    .args in
     c .place-for .result
-    ≡ placeFor (valueStart (getD (a .junctions .now) (a .place) [])) (heldIn (valueRange (a .junctions .now) (a .place)) (a .ynd .«heightmap_count»))
+    ≡ placeFor (valueStart (getD (a .junctions .now) (a .place) []))
+    (heldIn (valueRange (a .junctions .now) (a .place)) (a .ynd .«heightmap_count»))
     (length (a .values .now)) (a .ynd .«heightmap_count»)
 start-is c =
-    let a = c .before .before .before .before .before .before .before .before .before .before .before .before .before .before .args in
-    c .place-for .ensures ∙ (λ i. placeFor (c .before .before .before .before .before .before .before .before .value-range .ensures i .start) (held (c .before .before .before .before .before .before .before) i) (length (a .values .now)) (a .ynd .«heightmap_count»))
+    let a = c .before .before .before .before .before .before .before .before .before .before .before .before .before
+    .before .args in
+    c .place-for .ensures
+    ∙ (λ i. placeFor (c .before .before .before .before .before .before .before .before .value-range .ensures i
+    .start) (held (c .before .before .before .before .before .before .before) i) (length (a .values .now))
+    (a .ynd .«heightmap_count»))
 
 returns : tie.Need-returns
 unfolding putHeightmap
@@ -63,11 +80,13 @@ place-map-requires : tie.Need-place-map-requires
 place-map-requires c κs =
     let at = c .before .before in
     let told = at .before in
-    let start = c .before .before .before .before .before .before .before .before .before .before .before .before .before .before .before .before in
+    let start = c .before .before .before .before .before .before .before .before .before .before .before .before
+    .before .before .before .before in
     let a = start .args in
     let r = room told in
     let range = valueRange (a .junctions .now) (a .place) in
-    let p = placing (range .start) (heldIn range (a .ynd .«heightmap_count»)) (length (a .values .now)) (a .ynd .«heightmap_count») (held-bound range (a .ynd .«heightmap_count») .0) in
+    let p = placing (range .start) (heldIn range (a .ynd .«heightmap_count»)) (length (a .values .now))
+    (a .ynd .«heightmap_count») (held-bound range (a .ynd .«heightmap_count») .0) in
     let is = start-is at in
     let after = after-is (told .before .before .before .before .before) in (
       omega (arith, r .place, r .junctions-fit),
@@ -79,11 +98,14 @@ returns-2 : tie.Need-returns-2
 unfolding putHeightmap
 returns-2 c = λ nodes links refs.
     let told = c .before .before .before .before .before .before .before .before in
-    let a = c .before .before .before .before .before .before .before .before .before .before .before .before .before .before .before .before .before .before .before .before .before .args in
+    let a = c .before .before .before .before .before .before .before .before .before .before .before .before .before
+    .before .before .before .before .before .before .before .before .args in
     let at = start-is (c .before .before .before .before .before .before .before) in
     let f = c .before .before .before .before .place-map .ensures in
-    let y = c .with-counts .ensures ∙ (λ i. withValueCount (a .ynd) (after-is (told .before .before .before .before .before) i)) in
-    let js = f .0 ∙ (λ i. set (a .junctions .now) (a .place) (mapped (a .width) (a .height) (at i) (getD (a .junctions .now) (a .place) []))) in
+    let y = c .with-counts .ensures
+    ∙ (λ i. withValueCount (a .ynd) (after-is (told .before .before .before .before .before) i)) in
+    let js = f .0 ∙ (λ i. set (a .junctions .now) (a .place)
+    (mapped (a .width) (a .height) (at i) (getD (a .junctions .now) (a .place) []))) in
     let hs = f .1 ∙ (λ i. put (a .heights .now) (at i) (a .values .now)) in
     (λ i. done (memory (y i) nodes links (js i) (hs i) refs))
     ∙ done-left _ _ _ _ (answer-is (told .before .before)) (told .enum-told .given .1)

@@ -17,10 +17,12 @@ answer-is c =
 
 returns : tie.Need-returns
 unfolding truncateNodes
-returns c = λ nodes links junctions refs heights. refused-left _ _ _ _ (answer-is (c .before .before)) _ _ (c .enum-told2 .given .1)
+returns c = λ nodes links junctions refs heights. refused-left _ _ _ _ (answer-is (c .before .before)) _ _
+    (c .enum-told2 .given .1)
 
 cast-with-counts : tie.Need-cast-with-counts
-cast-with-counts c = omega (arith, fewer-room _ _ _ (sym (c .before .before .fewer-of .ensures) ∙ c .enum-told .given .1))
+cast-with-counts c = omega
+    (arith, fewer-room _ _ _ (sym (c .before .before .fewer-of .ensures) ∙ c .enum-told .given .1))
 
 returns-2 : tie.Need-returns-2
 unfolding truncateNodes
