@@ -38,6 +38,10 @@ refuse cause place m = record { answer = Refused cause place; memory = m }
 abbrev pub unless : Answer → Memory → Left → Left
 unless a m next = otherwise a (λ cause place. refuse cause place m) next
 
+-- Section 4's limits: 65,536 nodes, 4,096 junctions. A struct that is over one of them was made by hand: 14, in every call
+unfoldable pub overLimit : Ynd → Bool
+overLimit y = ltb 65536 (y .«node_count») || ltb 4096 (y .«junction_count»)
+
 -- the first list that is shorter than its count, 5 if none is
 unfoldable pub shortOf : Ynd → ℕ → ℕ → ℕ → ℕ → ℕ → ℕ
 shortOf y nodes links junctions heights refs =
@@ -49,7 +53,3 @@ shortOf y nodes links junctions heights refs =
 
 abbrev pub short : Memory → ℕ
 short m = shortOf (m .ynd) (length (m .nodes)) (length (m .links)) (length (m .junctions)) (length (m .heights)) (length (m .refs))
-
--- Section 4's limits, of a struct that no call returned: at most 65,536 nodes, 4,096 junctions
-unfoldable pub overLimit : Ynd → Bool
-overLimit y = ltb 65536 (y .«node_count») || ltb 4096 (y .«junction_count»)
