@@ -23,6 +23,7 @@ mod ffi;
 mod fields;
 pub mod numbers;
 mod refusal;
+mod stores;
 mod walks;
 
 pub use cell::{count, Cell, Counts};

@@ -3,4 +3,5 @@ pub mod Answers
 pub mod Cells
 pub mod Found
 pub mod Parts
+pub mod Stores
 pub mod Values
