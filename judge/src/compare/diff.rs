@@ -1,7 +1,7 @@
 //! The whole run: every family of inputs in turn.
 use super::numbers::{area, cell_for_position, file_name, grid_cell, lane_offset, length_between, metres, position, steps_of};
 use super::run::Run;
-use super::{access, cells, files, programs, records, scripts, soak};
+use super::{access, cells, files, programs, records, scripts, soak, stores};
 use crate::inputs::{self, floats, limits, memories, names, rng::Rng, shrink};
 use crate::model::length;
 
@@ -22,6 +22,8 @@ pub fn diff(seed: u64, seconds: f64, full: bool, only: Option<String>) {
     run.random("any memory", seconds * 0.1, memories::any, |(m, aux)| cells::on_port(m, &mut Rng::new(*aux)), |_| Vec::new());
     lists(&run, LISTS[full as usize]);
     run.random("scripts", seconds * 0.25, inputs::scripts::script, scripts::check, inputs::scripts::smaller);
+    run.random("stores", seconds * 0.1, inputs::stores::stores, stores::check, inputs::stores::smaller);
+    run.random("stores in any memory", seconds * 0.05, inputs::stores::any, stores::in_any, |_| Vec::new());
     programs::programs(&run);
     println!("seed {seed}: {} inputs compared, all agree", run.compared());
 }

@@ -11,6 +11,7 @@ pub mod run;
 pub mod scripts;
 pub mod seen;
 pub mod soak;
+pub mod stores;
 pub mod walks;
 
 use std::fmt::Debug;

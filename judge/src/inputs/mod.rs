@@ -8,3 +8,4 @@ pub mod names;
 pub mod rng;
 pub mod scripts;
 pub mod shrink;
+pub mod stores;

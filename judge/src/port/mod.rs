@@ -5,6 +5,7 @@ pub mod edits;
 pub mod memory;
 pub mod numbers;
 pub mod sections;
+pub mod stores;
 pub mod walks;
 
 use crate::model::{Answer, Refused};
