@@ -11,7 +11,7 @@ YND_ARCHIVE ?= target/staticlib/libexports.a
 FUZZ_SECONDS ?= 60
 CC_HANDHELD ?= gcc
 C_FLAGS = -std=c11 -g -Wall -Wextra -Wpedantic -Werror -Iinclude
-HARD = $(addprefix hard/,lent.c model.c calls.c reach.c edits.c input.c)
+HARD = $(addprefix hard/,lent.c model.c calls.c reach.c edits.c stores.c input.c)
 DRIVE = $(HARD) hard/vectors.c hard/every.c hard/drive.c
 HARD_HEADS = $(wildcard hard/*.h) include/bofrashem.h
 CORPUS = target/hard/corpus

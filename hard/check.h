@@ -13,7 +13,8 @@ enum { MOST_CHOICES = 48, MOST_EDITS = 40 };
 enum what {
     COUNT, READ, SOUND, WRITE, WRITE_READ, WALK, RENUMBER, NODE, JUNCTION_OF, AREA, SHOWN_NODE, SHOWN_JUNCTION, SHOWN_VALUES, SHOWN_LINK,
     ADD_NODE, ADD_LINK, ADD_REF, ADD_JUNCTION, PUT_NODE, SET_POSITION, PUT_LINK, PUT_REF, PUT_JUNCTION, PUT_HEIGHT, GET_NODE, GET_LINK, GET_REF,
-    GET_JUNCTION, GET_HEIGHT, WITHIN, NEAREST, WHATS
+    GET_JUNCTION, GET_HEIGHT, WITHIN, NEAREST, PUT_LINKS, PUT_HEIGHTMAP,
+    TRUNCATE, WHATS
 };
 
 uint8_t byte(script *s);
@@ -36,5 +37,9 @@ void check_write(const lent *m, script *s);
 void check_write_read(lent *m, script *s, bool as_read);
 /* kept: ranges lie apart, so that an edit's effect on each node is known. */
 void check_edit(lent *m, script *s, bool kept);
+/* Its parts that stand in hard/stores.c: whether something was changed. */
+bool links_replaced(lent *m, script *s, const lent *before, size_t *place, bool kept);
+bool map_replaced(lent *m, script *s, const lent *before, size_t *place);
+bool list_cut(lent *m, script *s, const lent *before, size_t *place);
 
 #endif

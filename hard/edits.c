@@ -178,7 +178,7 @@ void check_edit(lent *m, script *s, bool kept)
 {
     size_t *place = block(sizeof *place);
     lent before = lend_copy(m);
-    unsigned what = byte(s) % 12;
+    unsigned what = byte(s) % 15;
     bool changed;
     switch (what) {
     case 0: case 1: changed = add_node(m, s, &before, place); break;
@@ -189,6 +189,9 @@ void check_edit(lent *m, script *s, bool kept)
     case 8: changed = position_stored(m, s, place); break;
     case 9: changed = link_stored(m, s, place); break;
     case 10: changed = ref_stored(m, s, place); break;
+    case 12: changed = links_replaced(m, s, &before, place, kept); break;
+    case 13: changed = map_replaced(m, s, &before, place); break;
+    case 14: changed = list_cut(m, s, &before, place); break;
     default: changed = junction_stored(m, s, &before, place); break;
     }
     CHECK(changed || same_lent(m, &before));

@@ -104,9 +104,9 @@ typedef struct ynd_cell {
     uint32_t ped_node_count;
     uint32_t unknowns[7];           /* unk24, unk34, unk48, unk4c, unk5c, unk68, unk6c of the root */
     uint32_t node_count;
-    uint32_t link_count;            /* links held over all nodes */
+    uint32_t link_count;            /* links of the list, also those that no node has any more */
     uint32_t junction_count;
-    uint32_t heightmap_count;       /* heightmap values held over all junctions */
+    uint32_t heightmap_count;       /* heightmap values of the list, likewise */
     uint32_t ref_count;
 } ynd_cell;
 
@@ -438,6 +438,50 @@ uint32_t ynd_put_junction(
 uint32_t ynd_put_height(
     const ynd_cell *ynd, const ynd_junction_entry *junctions, size_t junctions_len,
     uint8_t *heights, size_t heights_len, size_t at, size_t k, uint8_t value, size_t *place);
+
+/* ---- Words, lists and heightmaps stored ---- */
+
+/* Stores the cell's vft. Never refused. (Each of the four is as storing the field of `ynd` by hand.) */
+void ynd_set_vft(ynd_cell *ynd, uint32_t vft);
+
+/* Stores the count of nodes that are no ped nodes; renumbering sets it by the nodes. Never refused. */
+void ynd_set_vehicle_node_count(ynd_cell *ynd, uint32_t count);
+
+/* Stores the count of ped nodes; renumbering sets it by the nodes. Never refused. */
+void ynd_set_ped_node_count(ynd_cell *ynd, uint32_t count);
+
+/* Stores the root's words unk24, unk34, unk48, unk4c, unk5c, unk68 and unk6c. Never refused. */
+void ynd_set_unknowns(ynd_cell *ynd, const uint32_t unknowns[7]);
+
+/* The first `count` nodes stay; only node_count changes. Refused, in this order: 13 where there are fewer; 14 over
+ * 65,536 nodes or 4,096 junctions. */
+uint32_t ynd_truncate_nodes(ynd_cell *ynd, size_t count, size_t *place);
+
+/* The first `count` junctions stay; only junction_count changes. Refused, in this order: 13 where there are fewer;
+ * 14 over 65,536 nodes or 4,096 junctions. */
+uint32_t ynd_truncate_junctions(ynd_cell *ynd, size_t count, size_t *place);
+
+/* The first `count` refs stay; only ref_count changes. Refused, in this order: 13 where there are fewer; 14 over
+ * 65,536 nodes or 4,096 junctions. */
+uint32_t ynd_truncate_refs(ynd_cell *ynd, size_t count, size_t *place);
+
+/* The links of the node at place `at` are the given ones, in their order; none clear it. No more than the node has
+ * stand where these stood, more stand behind all links, and link_count grows by them; the node's old ones then stay
+ * in the list, and no node has them. Refused, in this order: 13 no such place; 14 over 65,536 nodes or 4,096
+ * junctions, over 255 given links, or where link_count would pass 32 bits; 7 at 0 where `nodes` is shorter than its
+ * count, 7 at 1 where `links` is shorter than its count afterwards (link_count + given_len entries always do). */
+uint32_t ynd_put_links(
+    ynd_cell *ynd, ynd_node_entry *nodes, size_t nodes_len, ynd_link_entry *links, size_t links_len, size_t at,
+    const ynd_link_entry *given, size_t given_len, size_t *place);
+
+/* The heightmap of the junction at place `at` is width times height of the given values; other fields stay. Where
+ * they stand is as for ynd_put_links. Refused, in this order: 13 no such place; 14 over 65,536 nodes or 4,096
+ * junctions, or where heightmap_count would pass 32 bits; 12 where the values are not width times height; 7 at 2
+ * where `junctions` is shorter than its count, 7 at 3 where `heights` is shorter than its count afterwards
+ * (heightmap_count + values_len entries always do). */
+uint32_t ynd_put_heightmap(
+    ynd_cell *ynd, ynd_junction_entry *junctions, size_t junctions_len, uint8_t *heights, size_t heights_len,
+    size_t at, uint8_t width, uint8_t height, const uint8_t *values, size_t values_len, size_t *place);
 
 /* ---- The fields of a node ---- */
 

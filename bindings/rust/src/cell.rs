@@ -46,7 +46,9 @@ impl PartialEq for Cell {
     fn eq(&self, o: &Cell) -> bool {
         let links = (0..self.nodes().len()).all(|p| self.links_of(p) == o.links_of(p));
         let values = (0..self.junctions().len()).all(|p| self.values_of(p) == o.values_of(p));
-        links && values && self.words == o.words && self.nodes() == o.nodes() && self.junctions() == o.junctions() && self.refs() == o.refs()
+        let own = self.vft() == o.vft() && self.kind_counts() == o.kind_counts() && self.unknowns() == o.unknowns();
+        let lists = self.nodes() == o.nodes() && self.junctions() == o.junctions() && self.refs() == o.refs();
+        links && values && own && lists
     }
 }
 
@@ -101,7 +103,14 @@ impl Cell {
     }
 
     /// How many links the cell holds over all nodes.
-    pub fn link_count(&self) -> usize { self.words.link_count as usize }
+    pub fn link_count(&self) -> usize {
+        (0..self.nodes().len()).flat_map(|p| self.links_of(p)).map(<[Link]>::len).sum()
+    }
+
+    /// How many heightmap values the cell holds over all junctions.
+    pub fn value_count(&self) -> usize {
+        (0..self.junctions().len()).flat_map(|p| self.values_of(p)).map(<[u8]>::len).sum()
+    }
 
     /// The counts of nodes that are no ped nodes and of ped nodes: as read, and set by renumbering.
     pub fn kind_counts(&self) -> [u32; 2] { [self.words.vehicle_node_count, self.words.ped_node_count] }
@@ -125,7 +134,8 @@ impl Cell {
     /// How long the cell is once it is written.
     pub fn written_length(&self) -> usize {
         let (mut addresses, mut total, w) = ([0; 5], 0, &self.words);
-        unsafe { ffi::ynd_lay_out(w.ref_count, w.heightmap_count, w.junction_count, w.link_count, w.node_count, &mut addresses, &mut total) };
+        let (n, l, j, h) = (w.node_count, self.link_count() as u32, w.junction_count, self.value_count() as u32);
+        unsafe { ffi::ynd_lay_out(w.ref_count, h, j, l, n, &mut addresses, &mut total) };
         total
     }
 

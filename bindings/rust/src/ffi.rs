@@ -113,6 +113,21 @@ extern "C" {
         ynd: &Words, junctions: *const Junction, junctions_len: usize, heights: *mut u8, heights_len: usize, at: usize, k: usize, value: u8,
         place: &mut usize,
     ) -> u32;
+    pub(crate) fn ynd_set_vft(ynd: &mut Words, vft: u32);
+    pub(crate) fn ynd_set_vehicle_node_count(ynd: &mut Words, count: u32);
+    pub(crate) fn ynd_set_ped_node_count(ynd: &mut Words, count: u32);
+    pub(crate) fn ynd_set_unknowns(ynd: &mut Words, unknowns: &[u32; 7]);
+    pub(crate) fn ynd_truncate_nodes(ynd: &mut Words, count: usize, place: &mut usize) -> u32;
+    pub(crate) fn ynd_truncate_junctions(ynd: &mut Words, count: usize, place: &mut usize) -> u32;
+    pub(crate) fn ynd_truncate_refs(ynd: &mut Words, count: usize, place: &mut usize) -> u32;
+    pub(crate) fn ynd_put_links(
+        ynd: &mut Words, nodes: *mut Node, nodes_len: usize, links: *mut Link, links_len: usize, at: usize,
+        given: *const Link, given_len: usize, place: &mut usize,
+    ) -> u32;
+    pub(crate) fn ynd_put_heightmap(
+        ynd: &mut Words, junctions: *mut Junction, junctions_len: usize, heights: *mut u8, heights_len: usize,
+        at: usize, width: u8, height: u8, values: *const u8, values_len: usize, place: &mut usize,
+    ) -> u32;
     pub(crate) fn ynd_node_off_road(node: &Node) -> bool;
     pub(crate) fn ynd_node_no_big_vehicles(node: &Node) -> bool;
     pub(crate) fn ynd_node_cannot_go_left(node: &Node) -> bool;

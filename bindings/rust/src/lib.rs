@@ -24,6 +24,7 @@ mod fields;
 pub mod numbers;
 mod reach;
 mod refusal;
+mod stores;
 mod walks;
 
 pub use cell::{count, Cell, Counts};

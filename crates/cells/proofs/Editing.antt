@@ -6,3 +6,6 @@ pub mod LinkAdded
 pub mod CellAdded
 pub mod CellStored
 pub mod PoolStored
+pub mod Replacing
+pub mod RangePut
+pub mod CellReplaced

@@ -2,3 +2,4 @@
 pub mod Pairs
 pub mod WritePairs
 pub mod Answers
+pub mod StoreAnswers

@@ -23,6 +23,12 @@ pub mod Edit
 pub mod Add
 pub mod AddLink
 pub mod EditedCell
+pub mod OwnWords
+pub mod Truncate
+pub mod Replace
+pub mod PutLinks
+pub mod PutHeightmap
+pub mod StoredCell
 pub mod Entries
 pub mod WriteChecks
 pub mod WriteCounts

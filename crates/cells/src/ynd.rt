@@ -2,6 +2,7 @@
 use numbers::answer::Answer;
 ghost use mathlib.Core.Path.{_≡_};
 ghost use Rattle.cells.specs.NewYnd.{newYnd};
+ghost use Rattle.cells.specs.OwnWords.{withVft, withVehicles, withPeds, withUnknowns};
 
 pub const NODE_DICTIONARY_VFT: u32 = 0x4061_E3B0;
 
@@ -41,5 +42,34 @@ impl Ynd {
             heightmap_count: 0,
             ref_count: 0,
         }
+    }
+
+    // The cell's own words, each stored as it is given; renumbering alone sets both counts by the nodes.
+    pub fn set_vft(mut self, vft: u32) -> Ynd
+        ensures { λ r. ⌜ r ≡ withVft self vft ⌝ }
+    {
+        self.vft = vft;
+        self
+    }
+
+    pub fn set_vehicle_node_count(mut self, count: u32) -> Ynd
+        ensures { λ r. ⌜ r ≡ withVehicles self count ⌝ }
+    {
+        self.vehicle_node_count = count;
+        self
+    }
+
+    pub fn set_ped_node_count(mut self, count: u32) -> Ynd
+        ensures { λ r. ⌜ r ≡ withPeds self count ⌝ }
+    {
+        self.ped_node_count = count;
+        self
+    }
+
+    pub fn set_unknowns(mut self, u: [u32; 7]) -> Ynd
+        ensures { λ r. ⌜ r ≡ withUnknowns self u ⌝ }
+    {
+        self.unknowns = u;
+        self
     }
 }

@@ -1,3 +1,4 @@
 -- Laws that the proofs of the calls share.
 pub mod Calls
+pub mod StoreCalls
 pub mod CopiedValues

@@ -17,6 +17,7 @@ pub mod renumbering;
 pub mod sections;
 pub mod showing;
 pub mod steps;
+pub mod storing;
 pub mod walking;
 mod words;
 pub mod writing;

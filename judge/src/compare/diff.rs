@@ -2,7 +2,7 @@
 use super::numbers::{area, cell_for_position, file_name, grid_cell, lane_offset, length_between, metres};
 use super::numbers::{next_to_square, position, steps_of};
 use super::run::Run;
-use super::{access, cells, far, files, large, page, programs, reach, records, scripts, soak, Mismatch, MODEL};
+use super::{access, cells, far, files, large, page, programs, reach, records, scripts, soak, stores, Mismatch, MODEL};
 use crate::inputs::{self, floats, limits, memories, names, rng::Rng, shrink, squares};
 use crate::model::length;
 
@@ -36,6 +36,8 @@ pub fn diff(seed: u64, seconds: f64, full: bool, only: Option<String>) {
     reach::family(&run);
     lists(&run, of(LISTS));
     run.random("scripts", seconds * 0.25, inputs::scripts::script, scripts::check, inputs::scripts::smaller);
+    run.random("stores", seconds * 0.1, inputs::stores::stores, stores::check, inputs::stores::smaller);
+    run.random("stores in any memory", seconds * 0.05, inputs::stores::any, stores::in_any, |_| Vec::new());
     programs::programs(&run);
     run.report.close();
 }

@@ -118,6 +118,13 @@ pub const FAMILIES: &[Family] = &[
         (Edge(Infinite), 5_000), (Edge(Third), 5_000), (Edge(Empty), 5_000), (Edge(JustLong), 50_000),
         (Edge(OneShort), 50_000), (Edge(MostNodes), 20),
     ]),
+    cells("stores", "words, links, heightmaps and list lengths stored as a whole, beside the Rust's fields", &[
+        (Yes(Edit), 20_000), (No(Edit, 13), 500), (No(Edit, 14), 100), (No(Edit, 12), 200), (At(Edit, 7, 1), 100),
+        (At(Edit, 7, 3), 50),
+    ]),
+    cells("stores in any memory", "the same into structs and lists made by hand", &[
+        (Yes(Edit), 2_000), (No(Edit, 13), 500), (No(Edit, 14), 200), (At(Edit, 7, 0), 20), (At(Edit, 7, 2), 20),
+    ]),
     cells("lists of calls on sound cells", "demand 3 as it is stated", &[
         (Edge(Sound), 15_000), (Edge(Moved), 3_000), (Edge(Done), 10_000), (Edge(NoLink), 10_000),
         (Edge(Left), 10_000), (Edge(Followed), 100_000), (At(Renumber, 7, 6), 3_000), (At(Renumber, 7, 7), 1_000),

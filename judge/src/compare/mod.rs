@@ -21,6 +21,7 @@ pub mod scripts;
 pub mod seen;
 pub mod shown;
 pub mod soak;
+pub mod stores;
 pub mod walks;
 
 use std::fmt::Debug;

@@ -12,3 +12,4 @@ pub mod rng;
 pub mod scripts;
 pub mod shrink;
 pub mod squares;
+pub mod stores;

@@ -11,6 +11,7 @@ pub mod numbers;
 pub mod reach;
 pub mod sections;
 pub mod shown;
+pub mod stores;
 pub mod walks;
 pub mod words;
 

@@ -35,3 +35,15 @@ pub fn node_put(m: &mut Memory, at: usize, given: &[u32; 8], answer: Answer<()>)
     }
     answer
 }
+
+/// `put_links` with fewer links than before leaves the node's count as it was.
+pub fn links_appended(m: &mut Memory, old: &Memory, at: usize, number: u32) {
+    if !on(Slip::LinksAppended) || number != 0 { return; }
+    if m.nodes[at][6] >> 16 < old.nodes[at][6] >> 16 { m.nodes[at][6] = old.nodes[at][6]; }
+}
+
+/// `put_heightmap` stores the width and the values alone.
+pub fn old_height(m: &mut Memory, old: &Memory, at: usize, number: u32) {
+    if !on(Slip::OldHeight) || number != 0 { return; }
+    m.junctions[at][4] = m.junctions[at][4] & 0xFF | old.junctions[at][4] & 0xFF00;
+}

@@ -95,7 +95,7 @@ byte-same r k c =
 byte-one : (a c : ℕ) → (a % 65536 + c * 65536) / 256 % 256 ≡ a / 256 % 256
 byte-one a c = let e : a % 65536 + a / 65536 * 65536 ≡ a = omega arith in byte-same (a % 65536) (a / 65536) c ∙ ap (λ (x : ℕ). x / 256 % 256) e
 
-node-ranged : (P : List Link) (s c : ℕ) (w : List ℕ) → c < 256
+pub node-ranged : (P : List Link) (s c : ℕ) (w : List ℕ) → c < 256
     → nodeWith P (ranged s c w) ≡ record { area = areaOf w; number = numberOf w; links = take c (drop s P); body = bodyOf w }
 unfolding ranged areaOf numberOf bodyOf toNode
 node-ranged P s c w hc =

@@ -51,7 +51,7 @@ module _ {A : Type 0} where
   part-own (suc s) c k (suc i) y (x ∷ xs) e h = part-own s c k i y xs (omega arith) h
 
 -- all but one stay
-change-one : {A B : Type 0} (f g : A → B) (l : List A) (p : ℕ) (d : A) (z : B) → p < length l
+pub change-one : {A B : Type 0} (f g : A → B) (l : List A) (p : ℕ) (d : A) (z : B) → p < length l
     → ((q : ℕ) → q < length l → (q ≡ p → ⊥) → g (getD l q d) ≡ f (getD l q d)) → g (getD l p d) ≡ z → map g l ≡ set (map f l) p z
 change-one f g [] p d z h other own = absurd (omega arith)
 change-one {A} {B} f g (x ∷ xs) zero d z h other own = λ i. own i ∷ each xs (λ q lt. other (suc q) (omega arith) (λ e. absurd (omega (arith, e)))) i
