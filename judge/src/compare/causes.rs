@@ -21,8 +21,8 @@ pub fn entry(m: &Memory, at: usize, needed: &[usize]) -> Answer<()> {
     lists(m, needed)
 }
 
-/// Where link k of the node at a place stands. A place that the list has not has no range; a range that leaves its pool
-/// is cut.
+/// Where link k of the node at a place stands. A place that the list has not has no range; a range that leaves its
+/// pool is cut.
 pub fn link(m: &Memory, at: usize, k: usize) -> Answer<usize> {
     of_range(m, [NODES, LINKS], at, k, m.nodes.get(at).map_or((0, 0), link_range))
 }

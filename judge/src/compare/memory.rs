@@ -49,8 +49,8 @@ pub fn renumbering(memory: &Memory, scratch: usize, places: usize, r: &mut Rng) 
     every_list(memory, &after, &cell, &moved)
 }
 
-/// Nodes move with their ranges; links and refs are renamed, those that no node has too; junctions and heightmaps stay,
-/// and so does all beyond the counts.
+/// Nodes move with their ranges; links and refs are renamed, those that no node has too; junctions and heightmaps
+/// stay, and so does all beyond the counts.
 fn every_list(memory: &Memory, after: &Memory, cell: &Cell, moved: &[usize]) -> Verdict {
     let mut laid = memory.clone();
     laid.ynd[1] = cell.vehicle_node_count;

@@ -20,8 +20,8 @@ pub fn page() -> String {
 /// A number with its thousands set apart.
 pub fn grouped(n: u64) -> String {
     let digits = n.to_string();
-    let parts: Vec<&str> = digits.as_bytes().rchunks(3).rev().map(|c| std::str::from_utf8(c).expect("digits")).collect();
-    parts.join(",")
+    let parts = digits.as_bytes().rchunks(3).rev().map(|c| std::str::from_utf8(c).expect("digits"));
+    parts.collect::<Vec<_>>().join(",")
 }
 
 /// Ends where the page has another table.

@@ -57,7 +57,8 @@ impl Report {
     /// The end of a run in which all sides agree: fails where a kind was met too seldom.
     pub fn close(&self) {
         let sums = self.sums.lock().expect("one thread reports");
-        let parts: Vec<String> = DOMAINS.iter().zip(sums.0).map(|(name, n)| format!("{} {name}", grouped(n))).collect();
+        let parts = DOMAINS.iter().zip(sums.0).map(|(name, n)| format!("{} {name}", grouped(n)));
+        let parts: Vec<String> = parts.collect();
         println!("seed {}: {} compared, all agree", self.seed, parts.join(", "));
         for line in &sums.1 { println!("MET TOO SELDOM: {line}"); }
         if !sums.1.is_empty() { std::process::exit(1); }

@@ -34,7 +34,8 @@ fn control(seed: u64) -> bool {
 
 fn run(seed: u64, args: &[&str]) -> (String, Option<i32>) {
     let own = std::env::current_exe().expect("the judge's own file");
-    let run = Command::new(own).args(["diff", "--seed", &seed.to_string()]).args(args).output().expect("the judge runs");
+    let run = Command::new(own).args(["diff", "--seed", &seed.to_string()]).args(args).output();
+    let run = run.expect("the judge runs");
     (String::from_utf8_lossy(&run.stdout).into_owned(), run.status.code())
 }
 
