@@ -228,9 +228,9 @@ uint32_t ynd_read(
 
 /* Renumbers: nodes that are no ped nodes come first, then ped nodes, each in their old order, numbered by place.
  * Links and refs of the own area follow; both node counts of `ynd` are set. `places` gets the new place of the
- * node at each old place. The scratch holds anything afterwards. Refused, in this order: 14 over 65,536 nodes; 7
- * at 0 to 4 where a list is shorter than its count, 7 at 6 where the scratch has under YND_SCRATCH entries, 7 at 7
- * where `places` has fewer entries than there are nodes. */
+ * node at each old place. The scratch holds anything after an accepted call. Refused, in this order: 14 over 65,536
+ * nodes; 7 at 0 to 4 where a list is shorter than its count, 7 at 6 where the scratch has under YND_SCRATCH entries,
+ * 7 at 7 where `places` has fewer entries than there are nodes. */
 uint32_t ynd_renumber(
     ynd_cell *ynd, ynd_node_entry *nodes, size_t nodes_len, ynd_link_entry *links, size_t links_len,
     const ynd_junction_entry *junctions, size_t junctions_len, const uint8_t *heights, size_t heights_len,

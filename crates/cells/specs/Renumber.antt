@@ -1,7 +1,7 @@
 -- Section 4, renumbering: what the call answers, and what it leaves of the cell and of the lists lent to it.
--- The scratch is not part of the state: its content afterwards is free. Junctions and heightmaps are lent to be counted and stay.
+-- The scratch is not part of the state (`scratchLeft`). Junctions and heightmaps are lent to be counted and stay.
 use Prim.Native.Nat.{ℕ}
-use mathlib.Core.Bool.{cond}
+use mathlib.Core.Path.{_≡_}
 use mathlib.Core.List.{List, [], _∷_, _++_, map}
 use lib.Dec.{ltb}
 use lib.ListN.{length, take, drop}
@@ -95,3 +95,9 @@ leftBy (Refused cause place) m places = record { answer = Refused cause place; m
 -- the whole call, with a scratch of this many entries and a list for the new places
 unfoldable pub renumber : Memory → ℕ → List ℕ → Renumbered
 renumber m scratch places = leftBy (answerOf (m .ynd .«node_count») (short m) scratch (length places)) m places
+
+-- The scratch: a refused call leaves it as it was. After an accepted one it is free (section 4, "Contracts and their sham
+-- rivals"): it is as long as it was, and may hold anything.
+abbrev pub scratchLeft : Answer → List ℕ → List ℕ → Type 0
+scratchLeft Done before after = length after ≡ length before
+scratchLeft (Refused cause place) before after = after ≡ before

@@ -3,7 +3,7 @@ ghost use mathlib.Core.Path.{_≡_};
 ghost use Prim.Native.Nat.{_≤_};
 ghost use lib.ListN.{length};
 ghost use Rattle.cells.specs.Memory.{memory};
-ghost use Rattle.cells.specs.Renumber.{lists, renumberedBy, vehicles, renumberLists, recounted, answerOf, renumber};
+ghost use Rattle.cells.specs.Renumber.{lists, renumberedBy, vehicles, renumberLists, recounted, answerOf, renumber, scratchLeft};
 use crate::junction::JunctionWords;
 use crate::link::LinkWords;
 use crate::node::NodeWords;
@@ -69,7 +69,8 @@ fn recount(ynd: Ynd, v: u32, p: u32) -> Ynd
     y
 }
 
-// Renumbers the cell, and fills `places` with each node's new place. The scratch holds anything afterwards; a refusal changes nothing.
+// Renumbers the cell, and fills `places` with each node's new place. The scratch holds anything after an accepted call;
+// a refusal changes nothing.
 pub fn recalculate_node_indices(
     ynd: Ynd,
     nodes: &mut [NodeWords],
@@ -82,6 +83,7 @@ pub fn recalculate_node_indices(
 ) -> Outcome
     ensures { λ r. ⌜ renumberedBy r (now (nodes .exit)) (now (links .exit)) (now (junctions .entry)) (now (heights .entry)) (now (refs .exit)) (now (places .exit))
         ≡ renumber (memory ynd (now (nodes .entry)) (now (links .entry)) (now (junctions .entry)) (now (heights .entry)) (now (refs .entry))) (length (now (scratch .entry))) (now (places .entry)) ⌝ }
+    ensures { λ r. ⌜ scratchLeft (r .answer) (now (scratch .entry)) (now (scratch .exit)) ⌝ }
 {
     let n = ynd.node_count as usize;
     let l = ynd.link_count as usize;

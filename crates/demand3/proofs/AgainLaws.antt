@@ -13,7 +13,7 @@ use Rattle.cells.specs.Cell.{Cell}
 use Rattle.cells.specs.CellOf.{nodesOf, cellOf}
 use Rattle.cells.specs.FileCell.{fileCell}
 use Rattle.cells.specs.Read.{readOf}
-use Rattle.cells.specs.Renumber.{Renumbered, renumber}
+use Rattle.cells.specs.Renumber.{Renumbered, renumber, scratchLeft}
 use Rattle.cells.specs.WriteRead.{Both, writeReadOf}
 use Rattle.cells.proofs.Sequences.Tests.{by-test}
 use Rattle.cells.proofs.Reading.FileRead.{read-cell}
@@ -24,7 +24,7 @@ use Rattle.walks.specs.Sound.{sound}
 use Rattle.walks.specs.SoundCall.{SoundLeft, soundCall}
 use Rattle.walks.specs.WalkCall.{Route, route, WalkLeft, walkCall}
 use Rattle.walks.specs.Calls.{after, run, renumbers, moved}
-use Rattle.demand3.specs.Again.{AgainLeft, RenewLeft, renew, placeAfter, bothWalks, stopped, ifSound, soundWalks, ifRead, walkAgain, calls, SamePlaces, SameWalks}
+use Rattle.demand3.specs.Again.{AgainLeft, RenewLeft, renew, placeAfter, bothWalks, stopped, ifSound, soundWalks, ifRead, walkAgain, scratchAfter, calls, SamePlaces, SameWalks}
 use Rattle.walks.specs.declared.sound.Soundness.{Soundness}
 use Rattle.walks.specs.declared.sound.Soundness.the-variants as soundness
 use Rattle.demand3.specs.declared.again.Walks.{Walks}
@@ -54,6 +54,12 @@ both-made m scratch places section choices start visited later b n a at eb en ea
     let a′ = e ∙ (λ i. walkCall (en i .memory) choices (at′ i) later) in
     λ i. record { walks = walks.Both (eb i .answer) (a′ i .answer); memory = en i .memory; places = en i .places; section = en i .section; visited = eb i .visited; later = a′ i .visited }
 
+-- the scratch, by the renumbering's answer
+pub renewed-scratch : (m : Memory) (k : ℕ) (places section s t : List ℕ) (n : RenewLeft) → n ≡ renew m k places section
+    → scratchLeft (n .answer) s t → scratchLeft (renumber m k places .answer) s t
+unfolding renew
+renewed-scratch m k places section s t n e h = subst (λ (l : RenewLeft). scratchLeft (l .answer) s t) e h
+
 module _ (m : Memory) (scratch places section choices : List ℕ) (start : ℕ) (visited later : List ℕ) where
   abbrev stop : Walks → AgainLeft
   stop = stopped m places section visited later
@@ -63,24 +69,32 @@ module _ (m : Memory) (scratch places section choices : List ℕ) (start : ℕ) 
 
   module _ (s : SoundLeft) (e : s ≡ soundCall m scratch) where
     by-sound : (x : Soundness) → s .answer ≡ x
-        → ifSound x stop (cond (leb (m .ynd .«node_count») start) (stop (walks.Refused 13 0)) (bothWalks m (length scratch) places section choices start visited later)) ≡ made
+        → ifSound x stop (cond (leb (m .ynd .«node_count») start) (stop walks.NoStart) (bothWalks m (length scratch) places section choices start visited later)) ≡ made
     unfolding soundWalks
     by-sound x h =
-        ap (λ (y : Soundness). ifSound y stop (cond (leb (m .ynd .«node_count») start) (stop (walks.Refused 13 0)) (bothWalks m (length scratch) places section choices start visited later)))
+        ap (λ (y : Soundness). ifSound y stop (cond (leb (m .ynd .«node_count») start) (stop walks.NoStart) (bothWalks m (length scratch) places section choices start visited later)))
         (sym h ∙ ap (λ (l : SoundLeft). l .answer) e)
 
     pub not-sound : s .answer ≡ soundness.Unsound → stop walks.Unsound ≡ made
     not-sound h = by-sound soundness.Unsound h
 
-    pub not-checked : (cause place : ℕ) → s .answer ≡ soundness.Refused cause place → stop (walks.Refused cause place) ≡ made
+    pub not-checked : (cause place : ℕ) → s .answer ≡ soundness.Refused cause place → stop (walks.NotChecked cause place) ≡ made
     not-checked cause place h = by-sound (soundness.Refused cause place) h
 
-    pub no-start : s .answer ≡ soundness.Sound → m .ynd .«node_count» ≤ start → stop (walks.Refused 13 0) ≡ made
+    pub no-start : s .answer ≡ soundness.Sound → m .ynd .«node_count» ≤ start → stop walks.NoStart ≡ made
     no-start h out = rw (le-leb _ _ out) at (by-sound soundness.Sound h)
 
     pub walks-made : s .answer ≡ soundness.Sound → start < m .ynd .«node_count» → (k : ℕ) → k ≡ length scratch
         → (x : AgainLeft) → x ≡ bothWalks m k places section choices start visited later → x ≡ made
     walks-made h lt k ek x ex = ex ∙ (λ i. bothWalks m (ek i) places section choices start visited later) ∙ rw (lt-leb _ _ lt) at (by-sound soundness.Sound h)
+
+    pub both-scratch : (k : ℕ) → k ≡ length scratch → (x : AgainLeft) → x ≡ bothWalks m k places section choices start visited later
+        → (t : List ℕ) → scratchLeft (renumber m k places .answer) (s .scratch) t → scratchAfter (x .walks) m places scratch t
+    unfolding bothWalks
+    both-scratch k ek x ex t h =
+        subst (λ (y : AgainLeft). scratchAfter (y .walks) m places scratch t) (sym ex)
+        (subst (λ (j : ℕ). scratchLeft (renumber m j places .answer) (soundCall m scratch .scratch) t) ek
+        (subst (λ (l : SoundLeft). scratchLeft (renumber m k places .answer) (l .scratch) t) e h))
 
 module _ (system graphics : List ℕ) (lent : Memory) (scratch places section choices : List ℕ) (start : ℕ) (visited later : List ℕ) (r : Left) (e : r ≡ readOf system graphics lent) where
   by-reading : (x : Answer) → r .answer ≡ x → ifRead x (stopped (r .memory) places section visited later) (soundWalks (r .memory) scratch places section choices start visited later)
@@ -97,6 +111,11 @@ module _ (system graphics : List ℕ) (lent : Memory) (scratch places section ch
   pub was-read : r .answer ≡ answer.Done → (x : AgainLeft) → x ≡ soundWalks (r .memory) scratch places section choices start visited later
       → x ≡ walkAgain system graphics lent scratch places section choices start visited later
   was-read h x ex = ex ∙ by-reading answer.Done h
+
+-- the scratch, by the memory read
+pub read-scratch : (w : Walks) (places scratch t : List ℕ) (r d : Left) → r ≡ d
+    → scratchAfter w (r .memory) places scratch t → scratchAfter w (d .memory) places scratch t
+read-scratch w places scratch t r d e h = subst (λ (l : Left). scratchAfter w (l .memory) places scratch t) e h
 
 -- ---- what demand 3 says
 
@@ -156,11 +175,11 @@ module _ (system graphics : List ℕ) (lent : Memory) (scratch places section ch
   again-same e = reading (readOf system graphics lent .answer) refl
     where
       starting : readOf system graphics lent .answer ≡ answer.Done → soundCall m scratch .answer ≡ soundness.Sound
-          → Same (cond (leb (m .ynd .«node_count») start) (stopped m places section visited later (walks.Refused 13 0)) (bothWalks m (length scratch) places section choices start visited later))
+          → Same (cond (leb (m .ynd .«node_count») start) (stopped m places section visited later walks.NoStart) (bothWalks m (length scratch) places section choices start visited later))
       starting done s = by-test (leb (m .ynd .«node_count») start) (λ t. rw t tt) (λ g. rw g (both-same e done (says-yes m scratch s) (leb-false _ _ g)))
 
       checking : readOf system graphics lent .answer ≡ answer.Done → (s : Soundness) → soundCall m scratch .answer ≡ s
-          → Same (ifSound s (stopped m places section visited later) (cond (leb (m .ynd .«node_count») start) (stopped m places section visited later (walks.Refused 13 0)) (bothWalks m (length scratch) places section choices start visited later)))
+          → Same (ifSound s (stopped m places section visited later) (cond (leb (m .ynd .«node_count») start) (stopped m places section visited later walks.NoStart) (bothWalks m (length scratch) places section choices start visited later)))
       checking done soundness.Sound h = starting done h
       checking done soundness.Unsound h = tt
       checking done (soundness.Refused cause place) h = tt

@@ -8,7 +8,7 @@ use lib.Dec.{leb}
 use lib.ListN.{length, getD, take}
 use Rattle.cells.specs.Memory.{Memory, memory}
 use Rattle.cells.specs.Read.{readOf}
-use Rattle.cells.specs.Renumber.{renumber}
+use Rattle.cells.specs.Renumber.{renumber, scratchLeft}
 use Rattle.cells.specs.declared.ynd.Outcome.{Outcome}
 use Rattle.cells.specs.WriteRead.{writeReadOf}
 use Rattle.numbers.specs.declared.answer.Answer.{Answer}
@@ -21,10 +21,10 @@ use Rattle.walks.specs.declared.sound.Soundness.the-variants as soundness
 use Rattle.walks.specs.declared.walk.Walked.{Walked}
 use Rattle.walks.specs.declared.walk.Walked.the-variants as walked
 use Rattle.demand3.specs.declared.again.Walks.{Walks}
-use Rattle.demand3.specs.declared.again.Walks.the-variants.{Both, Unsound, Refused}
+use Rattle.demand3.specs.declared.again.Walks.the-variants.{Both, NoStart, Unsound, NotChecked, Refused}
 use Rattle.demand3.specs.declared.again.Again.{Again}
 
--- what the call answers, and what it leaves of the cell's memory and of the lists lent. The scratch is free: renumbering leaves anything in it
+-- what the call answers, and what it leaves of the cell's memory and of the lists lent; for the scratch see `scratchAfter`
 pub record AgainLeft : Type 0 where
   pub walks : Walks
   pub memory : Memory
@@ -81,14 +81,14 @@ stopped m places section visited later w = record { walks = w; memory = m; place
 abbrev pub ifSound : Soundness → (Walks → AgainLeft) → AgainLeft → AgainLeft
 ifSound soundness.Sound stop next = next
 ifSound soundness.Unsound stop next = stop Unsound
-ifSound (soundness.Refused cause place) stop next = stop (Refused cause place)
+ifSound (soundness.Refused cause place) stop next = stop (NotChecked cause place)
 
--- from the memory that a reading left; 13 where no node is at the start
+-- from the memory that a reading left
 unfoldable pub soundWalks : Memory → List ℕ → List ℕ → List ℕ → List ℕ → ℕ → List ℕ → List ℕ → AgainLeft
 soundWalks m scratch places section choices start visited later =
     let stop = stopped m places section visited later in
     ifSound (soundCall m scratch .answer) stop
-    (cond (leb (m .ynd .«node_count») start) (stop (Refused 13 0))
+    (cond (leb (m .ynd .«node_count») start) (stop NoStart)
     (bothWalks m (length scratch) places section choices start visited later))
 
 abbrev pub ifRead : Answer → (Walks → AgainLeft) → AgainLeft → AgainLeft
@@ -99,6 +99,15 @@ unfoldable pub walkAgain : List ℕ → List ℕ → Memory → List ℕ → Lis
 walkAgain system graphics lent scratch places section choices start visited later =
     let r = readOf system graphics lent in
     ifRead (r .answer) (stopped (r .memory) places section visited later) (soundWalks (r .memory) scratch places section choices start visited later)
+
+-- The scratch, of the memory m that a reading left: as it was where the reading was refused; after the check as the check
+-- leaves it; after the calls as renumbering leaves it.
+abbrev pub scratchAfter : Walks → Memory → List ℕ → List ℕ → List ℕ → Type 0
+scratchAfter (Both before after) m places scratch left = scratchLeft (renumber m (length scratch) places .answer) (soundCall m scratch .scratch) left
+scratchAfter NoStart m places scratch left = left ≡ soundCall m scratch .scratch
+scratchAfter Unsound m places scratch left = left ≡ soundCall m scratch .scratch
+scratchAfter (NotChecked cause place) m places scratch left = left ≡ soundCall m scratch .scratch
+scratchAfter (Refused cause place) m places scratch left = left ≡ scratch
 
 -- ---- what demand 3 says of it
 
@@ -113,5 +122,7 @@ SamePlaces f (walked.Refused cause place) visited later = Unit {0}
 -- Both walks answer the same, and the places visited are those of the first, each moved on.
 abbrev pub SameWalks : (ℕ → ℕ) → Walks → List ℕ → List ℕ → Type 0
 SameWalks f (Both before after) visited later = (after ≡ before) × SamePlaces f after visited later
+SameWalks f NoStart visited later = Unit {0}
 SameWalks f Unsound visited later = Unit {0}
+SameWalks f (NotChecked cause place) visited later = Unit {0}
 SameWalks f (Refused cause place) visited later = Unit {0}

@@ -4,8 +4,9 @@ ghost use Prim.Native.Nat.{ℕ};
 ghost use lib.ListN.{length};
 ghost use Rattle.cells.specs.Memory.{memory};
 ghost use Rattle.cells.specs.Read.{readOf};
+ghost use Rattle.cells.specs.Renumber.{renumber, scratchLeft};
 ghost use Rattle.walks.specs.Calls.{moved};
-ghost use Rattle.demand3.specs.Again.{againLeft, renewLeft, renew, placeAfter, bothWalks, soundWalks, walkAgain, calls, SameWalks};
+ghost use Rattle.demand3.specs.Again.{againLeft, renewLeft, renew, placeAfter, bothWalks, soundWalks, walkAgain, scratchAfter, calls, SameWalks};
 use cells::junction::JunctionWords;
 use cells::link::LinkWords;
 use cells::node::NodeWords;
@@ -20,10 +21,13 @@ use walks::sound::sound;
 use walks::walk::Walked;
 use walks::walk::walk;
 
-// What the two walks answer; or the cell is not sound, or a call before them was refused.
+// What the two walks answer. Or reading was refused, and all is as it was; or the cell was read, and then its check was
+// refused (the scratch is too short), it is not sound, or no node is at the start.
 pub enum Walks {
     Both(Walked, Walked),
+    NoStart,
     Unsound,
+    NotChecked(u32, usize),
     Refused(u32, usize),
 }
 
@@ -62,6 +66,7 @@ fn renewed(
         (now (places .exit)) (now (section .exit))
         ≡ renew (memory ynd (now (nodes .entry)) (now (links .entry)) (now (junctions .entry)) (now (heights .entry)) (now (refs .entry)))
         (length (now (scratch .entry))) (now (places .entry)) (now (section .entry)) ⌝ }
+    ensures { λ r. ⌜ scratchLeft (r .answer) (now (scratch .entry)) (now (scratch .exit)) ⌝ }
 {
     let r = recalculate_node_indices(ynd, nodes, links, junctions, heights, refs, scratch, places);
     let between = r.ynd;
@@ -91,6 +96,9 @@ fn both_walks(
         (now (places .exit)) (now (section .exit)) (now (visited .exit)) (now (later .exit))
         ≡ bothWalks (memory ynd (now (nodes .entry)) (now (links .entry)) (now (junctions .entry)) (now (heights .entry)) (now (refs .entry)))
         (length (now (scratch .entry))) (now (places .entry)) (now (section .entry)) (now (choices .entry)) start (now (visited .entry)) (now (later .entry)) ⌝ }
+    ensures { λ _. ⌜ scratchLeft (renumber
+        (memory ynd (now (nodes .entry)) (now (links .entry)) (now (junctions .entry)) (now (heights .entry)) (now (refs .entry)))
+        (length (now (scratch .entry))) (now (places .entry)) .answer) (now (scratch .entry)) (now (scratch .exit)) ⌝ }
 {
     let before = walk(ynd, nodes, links, start, choices, visited);
     let r = renewed(
@@ -134,6 +142,9 @@ fn sound_walks(
         (now (places .exit)) (now (section .exit)) (now (visited .exit)) (now (later .exit))
         ≡ soundWalks (memory ynd (now (nodes .entry)) (now (links .entry)) (now (junctions .entry)) (now (heights .entry)) (now (refs .entry)))
         (now (scratch .entry)) (now (places .entry)) (now (section .entry)) (now (choices .entry)) start (now (visited .entry)) (now (later .entry)) ⌝ }
+    ensures { λ r. ⌜ scratchAfter (r .walks)
+        (memory ynd (now (nodes .entry)) (now (links .entry)) (now (junctions .entry)) (now (heights .entry)) (now (refs .entry)))
+        (now (places .entry)) (now (scratch .entry)) (now (scratch .exit)) ⌝ }
 {
     let s = sound(ynd, nodes, links, refs, scratch);
     match s {
@@ -145,7 +156,7 @@ fn sound_walks(
         }
         Soundness::Refused(cause, place) => {
             return Again {
-                walks: Walks::Refused(cause, place),
+                walks: Walks::NotChecked(cause, place),
                 ynd,
             };
         }
@@ -153,7 +164,7 @@ fn sound_walks(
     }
     if ynd.node_count as usize <= start {
         return Again {
-            walks: Walks::Refused(13, 0),
+            walks: Walks::NoStart,
             ynd,
         };
     }
@@ -174,8 +185,9 @@ fn sound_walks(
     )
 }
 
-// Reads a cell; if it is sound, walks, renumbers it, writes and reads it again, and walks again from where the start then stands.
-// Lent visited lists of equal length, both walks answer the same, and the places of the second are those of the first, each moved on.
+// Reads a cell; if it is sound, walks, renumbers it, writes and reads it again, and walks again from where the start then
+// stands. Lent visited lists of equal length, both walks answer the same, and the places of the second are those of the
+// first, each moved on. Only `Refused` leaves everything as it was: behind it nothing has been stored.
 pub fn walk_again<'a>(
     ynd: Ynd,
     system: &'a [u8],
@@ -203,6 +215,9 @@ pub fn walk_again<'a>(
         (memory ynd (now (nodes .entry)) (now (links .entry)) (now (junctions .entry)) (now (heights .entry)) (now (refs .entry))) .memory)
         (calls (now (scratch .entry)) (now (places .entry)) (now (section .entry))))
         (r .walks) (now (visited .exit)) (now (later .exit))) ⌝ }
+    ensures { λ r. ⌜ scratchAfter (r .walks) (readOf (now (system .entry)) (now (graphics .entry))
+        (memory ynd (now (nodes .entry)) (now (links .entry)) (now (junctions .entry)) (now (heights .entry)) (now (refs .entry))) .memory)
+        (now (places .entry)) (now (scratch .entry)) (now (scratch .exit)) ⌝ }
 {
     let a = read(
         ynd,

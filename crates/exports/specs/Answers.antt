@@ -11,6 +11,8 @@ use Rattle.numbers.specs.declared.grid.CellBounds.{CellBounds}
 use Rattle.numbers.specs.declared.grid.CellBounds.the-variants as bounds
 use Rattle.numbers.specs.declared.names.AreaId.{AreaId}
 use Rattle.numbers.specs.declared.names.AreaId.the-variants.{Known, Nothing}
+use Rattle.cells.specs.declared.write.Written.{Written}
+use Rattle.cells.specs.declared.write.Written.the-variants as written
 
 abbrev pub answerNumber : Answer → ℕ
 answerNumber answer.Done = 0
@@ -24,6 +26,10 @@ answerPlace (answer.Refused number place) = place
 abbrev pub ifDone : {A : Type 0} → Answer → A → A → A
 ifDone answer.Done new old = new
 ifDone (answer.Refused number place) new old = old
+
+abbrev pub ifWrote : {A : Type 0} → Written → A → A → A
+ifWrote (written.Wrote n) new old = new
+ifWrote (written.Refused number place) new old = old
 
 abbrev pub areaNumber : GridArea → ℕ
 areaNumber (area.Area n) = 0

@@ -6,7 +6,7 @@ use Rattle.cells.specs.declared.ynd.Ynd.{Ynd}
 use Rattle.cells.specs.Memory.{Memory, memory, Left}
 use Rattle.cells.specs.Renumber.{Renumbered}
 use Rattle.cells.specs.WriteRead.{Both}
-use Rattle.exports.specs.Answers.{answerNumber, answerPlace}
+use Rattle.exports.specs.Answers.{answerNumber, answerPlace, ifDone, ifWrote}
 use Rattle.exports.specs.Found.{writtenTold}
 
 -- fifteen words: vft, the counts of vehicle and ped nodes, the seven unknowns, the counts of nodes, links, junctions, heightmap values and refs
@@ -61,17 +61,18 @@ abbrev pub called : ℕ → ℕ → List ℕ → List (List ℕ) → List (List 
 called r p w nodes links junctions heights refs =
     record { number = r; place = p; ynd = w; nodes = nodes; links = links; junctions = junctions; heights = heights; refs = refs }
 
-unfoldable pub callOf : Left → Called
-callOf l =
-    called (answerNumber (l .answer)) (answerPlace (l .answer)) (yndWords (l .memory .ynd))
+-- of a call on a cell whose words were w: a refusal leaves these, word by word
+unfoldable pub callOf : List ℕ → Left → Called
+callOf w l =
+    called (answerNumber (l .answer)) (answerPlace (l .answer)) (ifDone (l .answer) (yndWords (l .memory .ynd)) w)
     (l .memory .nodes) (l .memory .links) (l .memory .junctions) (l .memory .heights) (l .memory .refs)
 
 -- the same of write-then-read, whose section and length stand beside it
-unfoldable pub bothCalled : Both → Called
-bothCalled b =
-    called (writtenTold (b .answer) 0 .number) (writtenTold (b .answer) 0 .place) (yndWords (b .memory .ynd))
+unfoldable pub bothCalled : List ℕ → Both → Called
+bothCalled w b =
+    called (writtenTold (b .answer) 0 .number) (writtenTold (b .answer) 0 .place) (ifWrote (b .answer) (yndWords (b .memory .ynd)) w)
     (b .memory .nodes) (b .memory .links) (b .memory .junctions) (b .memory .heights) (b .memory .refs)
 
 -- the same of renumbering, whose list of new places stands beside it
-unfoldable pub renumberedOf : Renumbered → Called
-renumberedOf r = callOf (record { answer = r .answer; memory = r .memory })
+unfoldable pub renumberedOf : List ℕ → Renumbered → Called
+renumberedOf w r = callOf w (record { answer = r .answer; memory = r .memory })

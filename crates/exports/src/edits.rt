@@ -1,8 +1,8 @@
 // Entries added. A node, link, junction or ref is lent as its words.
 use crate::answers::number_of;
 use crate::answers::place_of;
+use crate::words::words_done;
 use crate::words::ynd_of;
-use crate::words::ynd_words;
 use cells::junction::path_junction_of;
 use cells::junction_ref::ref_of;
 use cells::link::link_of;
@@ -28,12 +28,15 @@ pub extern "C" fn ynd_add_node(
 ) -> u32
     ensures { λ r. ⌜ ((links junctions refs : List (List ℕ)) (heights : List ℕ) →
         called r (now (place .exit)) (now (ynd .exit)) (now (nodes .exit)) links junctions heights refs
-        ≡ callOf (addNode (lent (now (ynd .entry)) (now (nodes .entry)) links junctions heights refs) «area_id» (record { x = x; y = y; z = z }))) ⌝ }
+        ≡ callOf (now (ynd .entry))
+        (addNode (lent (now (ynd .entry)) (now (nodes .entry)) links junctions heights refs) «area_id»
+        (record { x = x; y = y; z = z }))) ⌝ }
 {
-    let cell = ynd_of(*ynd);
+    let old = *ynd;
+    let cell = ynd_of(old);
     let o = cells::add_node::add_node(cell, nodes, area_id, Vec3 { x, y, z });
     let a = o.answer;
-    let w = ynd_words(o.ynd);
+    let w = words_done(a, o.ynd, old);
     *ynd = w;
     *place = place_of(a);
     number_of(a)
@@ -51,13 +54,16 @@ pub extern "C" fn ynd_add_link(
 ) -> u32
     ensures { λ r. ⌜ ((junctions refs : List (List ℕ)) (heights : List ℕ) →
         called r (now (place .exit)) (now (ynd .exit)) (now (nodes .exit)) (now (links .exit)) junctions heights refs
-        ≡ callOf (addLink (lent (now (ynd .entry)) (now (nodes .entry)) (now (links .entry)) junctions heights refs) at (toLink (now (link .entry))))) ⌝ }
+        ≡ callOf (now (ynd .entry))
+        (addLink (lent (now (ynd .entry)) (now (nodes .entry)) (now (links .entry)) junctions heights refs) at
+        (toLink (now (link .entry))))) ⌝ }
 {
-    let cell = ynd_of(*ynd);
+    let old = *ynd;
+    let cell = ynd_of(old);
     let l = link_of(*link);
     let o = cells::add_link::add_link(cell, nodes, links, at, l);
     let a = o.answer;
-    let w = ynd_words(o.ynd);
+    let w = words_done(a, o.ynd, old);
     *ynd = w;
     *place = place_of(a);
     number_of(a)
@@ -73,13 +79,16 @@ pub extern "C" fn ynd_add_ref(
 ) -> u32
     ensures { λ r. ⌜ ((nodes links junctions : List (List ℕ)) (heights : List ℕ) →
         called r (now (place .exit)) (now (ynd .exit)) nodes links junctions heights (now (refs .exit))
-        ≡ callOf (addRef (lent (now (ynd .entry)) nodes links junctions heights (now (refs .entry))) (toRef (now (added .entry))))) ⌝ }
+        ≡ callOf (now (ynd .entry))
+        (addRef (lent (now (ynd .entry)) nodes links junctions heights (now (refs .entry)))
+        (toRef (now (added .entry))))) ⌝ }
 {
-    let cell = ynd_of(*ynd);
+    let old = *ynd;
+    let cell = ynd_of(old);
     let f = ref_of(*added);
     let o = cells::add_ref::add_ref(cell, refs, f);
     let a = o.answer;
-    let w = ynd_words(o.ynd);
+    let w = words_done(a, o.ynd, old);
     *ynd = w;
     *place = place_of(a);
     number_of(a)
@@ -97,13 +106,16 @@ pub extern "C" fn ynd_add_junction(
 ) -> u32
     ensures { λ r. ⌜ ((nodes links refs : List (List ℕ)) →
         called r (now (place .exit)) (now (ynd .exit)) nodes links (now (junctions .exit)) (now (heights .exit)) refs
-        ≡ callOf (addJunction (lent (now (ynd .entry)) nodes links (now (junctions .entry)) (now (heights .entry)) refs) (toJunction (now (junction .entry))) (now (values .entry)))) ⌝ }
+        ≡ callOf (now (ynd .entry))
+        (addJunction (lent (now (ynd .entry)) nodes links (now (junctions .entry)) (now (heights .entry)) refs)
+        (toJunction (now (junction .entry))) (now (values .entry)))) ⌝ }
 {
-    let cell = ynd_of(*ynd);
+    let old = *ynd;
+    let cell = ynd_of(old);
     let j = path_junction_of(*junction);
     let o = cells::add_junction::add_junction(cell, junctions, heights, j, values);
     let a = o.answer;
-    let w = ynd_words(o.ynd);
+    let w = words_done(a, o.ynd, old);
     *ynd = w;
     *place = place_of(a);
     number_of(a)

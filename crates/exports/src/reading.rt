@@ -1,6 +1,7 @@
 // Reading and counting.
 use crate::answers::number_of;
 use crate::answers::place_of;
+use crate::words::words_done;
 use crate::words::ynd_of;
 use crate::words::ynd_words;
 use cells::count::Counted;
@@ -34,13 +35,15 @@ pub extern "C" fn ynd_read<'a>(
     place: &mut usize,
 ) -> u32
     ensures { λ r. ⌜ called r (now (place .exit)) (now (ynd .exit)) (now (nodes .exit)) (now (links .exit)) (now (junctions .exit)) (now (heights .exit)) (now (refs .exit))
-        ≡ callOf (readOf (now (system .entry)) (now (graphics .entry))
+        ≡ callOf (now (ynd .entry))
+        (readOf (now (system .entry)) (now (graphics .entry))
         (lent (now (ynd .entry)) (now (nodes .entry)) (now (links .entry)) (now (junctions .entry)) (now (heights .entry)) (now (refs .entry)))) ⌝ }
 {
-    let y = ynd_of(*ynd);
+    let old = *ynd;
+    let y = ynd_of(old);
     let o = cells::read::read(y, system, graphics, nodes, links, junctions, heights, refs);
     let a = o.answer;
-    let w = ynd_words(o.ynd);
+    let w = words_done(a, o.ynd, old);
     *ynd = w;
     *place = place_of(a);
     number_of(a)

@@ -1,14 +1,14 @@
 // Renumbering.
 use crate::answers::number_of;
 use crate::answers::place_of;
+use crate::words::words_done;
 use crate::words::ynd_of;
-use crate::words::ynd_words;
 ghost use mathlib.Core.Path.{_≡_};
 ghost use lib.ListN.{length};
-ghost use Rattle.cells.specs.Renumber.{renumber};
+ghost use Rattle.cells.specs.Renumber.{renumber, scratchLeft};
 ghost use Rattle.exports.specs.Cells.{lent, called, renumberedOf};
 
-// `recalculate_node_indices`. `places` gets each node's new place; the scratch holds anything afterwards.
+// `recalculate_node_indices`. `places` gets each node's new place; the scratch holds anything after an accepted call.
 #[no_mangle]
 pub extern "C" fn ynd_renumber(
     ynd: &mut [u32; 15],
@@ -22,13 +22,18 @@ pub extern "C" fn ynd_renumber(
     place: &mut usize,
 ) -> u32
     ensures { λ r. ⌜ called r (now (place .exit)) (now (ynd .exit)) (now (nodes .exit)) (now (links .exit)) (now (junctions .entry)) (now (heights .entry)) (now (refs .exit))
-        ≡ renumberedOf (renumber (lent (now (ynd .entry)) (now (nodes .entry)) (now (links .entry)) (now (junctions .entry)) (now (heights .entry)) (now (refs .entry)))
+        ≡ renumberedOf (now (ynd .entry))
+        (renumber (lent (now (ynd .entry)) (now (nodes .entry)) (now (links .entry)) (now (junctions .entry)) (now (heights .entry)) (now (refs .entry)))
         (length (now (scratch .entry))) (now (places .entry))) ⌝ }
     ensures { λ _. ⌜ now (places .exit)
         ≡ renumber (lent (now (ynd .entry)) (now (nodes .entry)) (now (links .entry)) (now (junctions .entry)) (now (heights .entry)) (now (refs .entry)))
         (length (now (scratch .entry))) (now (places .entry)) .places ⌝ }
+    ensures { λ _. ⌜ scratchLeft
+        (renumber (lent (now (ynd .entry)) (now (nodes .entry)) (now (links .entry)) (now (junctions .entry)) (now (heights .entry)) (now (refs .entry)))
+        (length (now (scratch .entry))) (now (places .entry)) .answer) (now (scratch .entry)) (now (scratch .exit)) ⌝ }
 {
-    let y = ynd_of(*ynd);
+    let old = *ynd;
+    let y = ynd_of(old);
     let o = cells::renumber::recalculate_node_indices(
         y,
         nodes,
@@ -40,7 +45,7 @@ pub extern "C" fn ynd_renumber(
         places,
     );
     let a = o.answer;
-    let w = ynd_words(o.ynd);
+    let w = words_done(a, o.ynd, old);
     *ynd = w;
     *place = place_of(a);
     number_of(a)

@@ -4,9 +4,8 @@ use records::section::Section;
 ghost use mathlib.Core.Path.{_≡_};
 ghost use mathlib.Core.List.{[], _∷_};
 ghost use lib.ListN.{length, replicate};
-ghost use Rattle.records.specs.Put.{joined, putIn};
-ghost use Rattle.records.specs.Bytes.{byteAt, le16, le32, le64, signed16, bytes32};
-ghost use Rattle.records.specs.Root.{rootOf, rootBytes};
+ghost use Rattle.records.specs.Bytes.{byteAt, le16, le32, le64, signed16};
+ghost use Rattle.records.specs.Root.{rootOf, rootWords};
 ghost use Rattle.records.specs.Records.{nodeAt, nodeBytes, linkAt, linkBytes, junctionAt, junctionBytes, refAt, refBytes};
 ghost use Rattle.records.specs.Sections.{located};
 ghost use Rattle.records.specs.Layout.{placesOf, sizes};
@@ -84,7 +83,7 @@ pub extern "C" fn ynd_u64_at(section: &[u8], at: u32) -> u64
 // The root at the section's start, as it is written: 28 words.
 #[no_mangle]
 pub extern "C" fn ynd_root(section: &[u8], words: &mut [u32; 28])
-    ensures { λ _. ⌜ joined bytes32 (now (words .exit)) ≡ rootBytes (rootOf (now (section .entry))) ⌝ }
+    ensures { λ _. ⌜ now (words .exit) ≡ rootWords (rootOf (now (section .entry))) ⌝ }
 {
     let w = records::root::root_words(records::root::root_of(section));
     *words = w;

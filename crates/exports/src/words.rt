@@ -1,6 +1,9 @@
 // A cell's own words, as a caller in C lends them.
+use cells::write::Written;
 use cells::ynd::Ynd;
+use numbers::answer::Answer;
 ghost use mathlib.Core.Path.{_≡_};
+ghost use Rattle.exports.specs.Answers.{ifDone, ifWrote};
 ghost use Rattle.exports.specs.Cells.{toYnd, yndWords};
 
 pub(crate) fn ynd_of(w: [u32; 15]) -> Ynd
@@ -41,4 +44,23 @@ pub(crate) fn ynd_words(y: Ynd) -> [u32; 15]
         y.heightmap_count,
         y.ref_count,
     ]
+}
+
+// The words after a call: the cell's, or after a refusal the old ones.
+pub(crate) fn words_done(a: Answer, y: Ynd, old: [u32; 15]) -> [u32; 15]
+    ensures { λ r. ⌜ r ≡ ifDone a (yndWords y) old ⌝ }
+{
+    match a {
+        Answer::Done => ynd_words(y),
+        Answer::Refused(_, _) => old,
+    }
+}
+
+pub(crate) fn words_wrote(a: Written, y: Ynd, old: [u32; 15]) -> [u32; 15]
+    ensures { λ r. ⌜ r ≡ ifWrote a (yndWords y) old ⌝ }
+{
+    match a {
+        Written::Wrote(_) => ynd_words(y),
+        Written::Refused(_, _) => old,
+    }
 }

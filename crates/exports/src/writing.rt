@@ -1,6 +1,6 @@
 // Writing.
+use crate::words::words_wrote;
 use crate::words::ynd_of;
-use crate::words::ynd_words;
 use cells::write::Written;
 ghost use mathlib.Core.Path.{_≡_};
 ghost use Rattle.cells.specs.Write.{writeCall};
@@ -56,18 +56,20 @@ pub extern "C" fn ynd_write_then_read(
     place: &mut usize,
 ) -> u32
     ensures { λ r. ⌜ called r (now (place .exit)) (now (ynd .exit)) (now (nodes .exit)) (now (links .exit)) (now (junctions .exit)) (now (heights .exit)) (now (refs .exit))
-        ≡ bothCalled (writeReadOf (lent (now (ynd .entry)) (now (nodes .entry)) (now (links .entry)) (now (junctions .entry)) (now (heights .entry)) (now (refs .entry))) (now (section .entry))) ⌝ }
+        ≡ bothCalled (now (ynd .entry))
+        (writeReadOf (lent (now (ynd .entry)) (now (nodes .entry)) (now (links .entry)) (now (junctions .entry)) (now (heights .entry)) (now (refs .entry))) (now (section .entry))) ⌝ }
     ensures { λ r. ⌜ told r (now (place .exit)) (now (length .exit))
         ≡ writtenTold (writeReadOf (lent (now (ynd .entry)) (now (nodes .entry)) (now (links .entry)) (now (junctions .entry)) (now (heights .entry)) (now (refs .entry))) (now (section .entry)) .answer)
         (now (length .entry)) ⌝ }
     ensures { λ _. ⌜ now (section .exit)
         ≡ writeReadOf (lent (now (ynd .entry)) (now (nodes .entry)) (now (links .entry)) (now (junctions .entry)) (now (heights .entry)) (now (refs .entry))) (now (section .entry)) .section ⌝ }
 {
-    let y = ynd_of(*ynd);
+    let old = *ynd;
+    let y = ynd_of(old);
     let o = cells::write_read::write_then_read(y, nodes, links, junctions, heights, refs, section);
-    let w = ynd_words(o.ynd);
-    *ynd = w;
     let a = o.answer;
+    let w = words_wrote(a, o.ynd, old);
+    *ynd = w;
     match a {
         Written::Wrote(n) => {
             *length = n;

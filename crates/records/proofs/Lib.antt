@@ -3,6 +3,7 @@ pub mod Windows
 pub mod Shape
 pub mod RecordBack
 pub mod RootBack
+pub mod RootWords
 pub mod Puts
 pub mod Laid
 pub mod SectionBack

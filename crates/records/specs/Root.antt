@@ -1,5 +1,5 @@
 -- Section 2: the root, 112 bytes at the start of the system section.
-use Prim.Native.Nat.{ℕ}
+use Prim.Native.Nat.{ℕ, _*_, _/_, _%_}
 use mathlib.Core.List.{List, [], _∷_, _++_}
 use lib.ListN.{getD}
 use Rattle.records.specs.Bytes.{le16, le32, le64, bytes16, bytes32, bytes64}
@@ -41,3 +41,36 @@ rootBytes r =
     ++ bytes64 (r .junctions) ++ bytes64 (r .heightmap) ++ bytes32 (getD (r .unknowns) 2 0) ++ bytes32 (getD (r .unknowns) 3 0)
     ++ bytes64 (r .refs) ++ bytes16 (r .«ref_count») ++ bytes16 (r .«ref_count») ++ bytes32 (getD (r .unknowns) 4 0)
     ++ bytes32 (r .«junction_count») ++ bytes32 (r .«heightmap_count») ++ bytes32 (getD (r .unknowns) 5 0) ++ bytes32 (getD (r .unknowns) 6 0)
+
+-- The same in 28 words of 32 bits: an address takes two, the low one first; both ref counts stand in one.
+unfoldable pub rootWords : Root → List ℕ
+rootWords r =
+    r .vft
+    ∷ 1
+    ∷ pagesAddress
+    ∷ 0
+    ∷ r .nodes % 4294967296
+    ∷ r .nodes / 4294967296
+    ∷ r .«node_count»
+    ∷ r .«vehicle_node_count»
+    ∷ r .«ped_node_count»
+    ∷ getD (r .unknowns) 0 0
+    ∷ r .links % 4294967296
+    ∷ r .links / 4294967296
+    ∷ r .«link_count»
+    ∷ getD (r .unknowns) 1 0
+    ∷ r .junctions % 4294967296
+    ∷ r .junctions / 4294967296
+    ∷ r .heightmap % 4294967296
+    ∷ r .heightmap / 4294967296
+    ∷ getD (r .unknowns) 2 0
+    ∷ getD (r .unknowns) 3 0
+    ∷ r .refs % 4294967296
+    ∷ r .refs / 4294967296
+    ∷ r .«ref_count» * 65537
+    ∷ getD (r .unknowns) 4 0
+    ∷ r .«junction_count»
+    ∷ r .«heightmap_count»
+    ∷ getD (r .unknowns) 5 0
+    ∷ getD (r .unknowns) 6 0
+    ∷ []

@@ -1,9 +1,7 @@
 // The root, 112 bytes at the start of the system section.
 ghost use mathlib.Core.Path.{_≡_};
 ghost use Prim.Native.Nat.{_*_, _/_, _%_};
-ghost use Rattle.records.specs.Bytes.{bytes32};
-ghost use Rattle.records.specs.Put.{joined};
-ghost use Rattle.records.specs.Root.{rootOf, rootBytes};
+ghost use Rattle.records.specs.Root.{rootOf, rootWords};
 use crate::cursor::next_u16;
 use crate::cursor::next_u32;
 use crate::cursor::next_u64;
@@ -94,7 +92,7 @@ fn twice(n: u16) -> u32
 
 // The root as written, in words of 32 bits.
 pub fn root_words(root: Root) -> [u32; 28]
-    ensures { λ r. ⌜ joined bytes32 r ≡ rootBytes root ⌝ }
+    ensures { λ r. ⌜ r ≡ rootWords root ⌝ }
 {
     let u = root.unknowns;
     [

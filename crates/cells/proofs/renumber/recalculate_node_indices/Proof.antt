@@ -1,11 +1,12 @@
 use Prim.Native.Nat.{ℕ, _-_, _≤_}
-use mathlib.Core.Path.{_≡_, sym, ap, _∙_}
+use mathlib.Core.Path.{_≡_, refl, sym, ap, _∙_}
+use mathlib.Core.List.{List}
 use native.Mathlib.Omega.{arith}
 use lib.ListN.{length}
 use Rattle.numbers.specs.declared.answer.Answer.{Answer}
-use Rattle.numbers.specs.declared.answer.Answer.the-variants.{Done}
+use Rattle.numbers.specs.declared.answer.Answer.the-variants.{Done, Refused}
 use Rattle.cells.specs.Memory.{Memory, memory, short}
-use Rattle.cells.specs.Renumber.{peds, recounted, answerOf, newLists, leftBy, renumberMemory, renumber}
+use Rattle.cells.specs.Renumber.{peds, recounted, answerOf, newLists, leftBy, renumberMemory, renumber, scratchLeft}
 use Rattle.cells.specs.RenumberParts.{Room}
 use Rattle.cells.proofs.Renumbering.Placed.{vehicles-few, peds-are}
 use Rattle.cells.proofs.Renumbering.CellRenumbered.{accepted}
@@ -24,13 +25,20 @@ answer-is c =
     let a = c .before .before .before .before .before .before .before .before .args in
     c .answer-of .ensures ∙ ap (λ (x : ℕ). answerOf (a .ynd .«node_count») x (length (a .scratch .now)) (length (a .places .now))) (c .before .lacking .ensures)
 
+-- what nobody touches
+untouched : (a : Answer) (s : List ℕ) → scratchLeft a s s
+untouched Done s = refl
+untouched (Refused cause place) s = refl
+
 returns : tie.Need-returns
 unfolding renumber
 returns c =
     let s = c .before .before .before .before .before .before .before .before .before .before in
     let ps = s .args .places .now in
-    let t = c .enum-told2 .given .1 in
-    (λ i. record { answer = t i; memory = cell s; places = ps }) ∙ sym (ap (λ (x : Answer). leftBy x (cell s) ps) (sym (answer-is (c .before .before)) ∙ t))
+    let t = c .enum-told2 .given .1 in (
+      (λ i. record { answer = t i; memory = cell s; places = ps }) ∙ sym (ap (λ (x : Answer). leftBy x (cell s) ps) (sym (answer-is (c .before .before)) ∙ t)),
+      untouched (c .before .before .answer-of .result) (s .args .scratch .now),
+    )
 
 -- an accepted call has room
 room : (c : tie.After-enum-told) → let s = c .before .before .before .before .before .before .before .before .before .before in Room (cell s) (length (s .args .scratch .now)) (length (s .args .places .now))
@@ -71,9 +79,11 @@ returns-2 c =
     let f = c .before .before .before .before .before .before .before .before .renumber-lists in
     let p : n - f .result ≡ peds n (a .nodes .now) = ap (λ (x : ℕ). n - x) (f .ensures .0) ∙ peds-are n (a .nodes .now) (room told .nodes-fit) in
     let ynd = c .recount .ensures ∙ (λ i. recounted (a .ynd) (f .ensures .0 i) (p i)) in
-    let held = f .ensures .1 in
-    (λ i. record { answer = Done; memory = memory (ynd i) (held i .nodes) (held i .links) (a .junctions .now) (a .heights .now) (held i .refs); places = held i .places })
-    ∙ sym (ap (λ (x : Answer). leftBy x (cell s) ps) (sym (answer-is (told .before .before)) ∙ told .enum-told .given .1))
+    let held = f .ensures .1 in (
+      (λ i. record { answer = Done; memory = memory (ynd i) (held i .nodes) (held i .links) (a .junctions .now) (a .heights .now) (held i .refs); places = held i .places })
+          ∙ sym (ap (λ (x : Answer). leftBy x (cell s) ps) (sym (answer-is (told .before .before)) ∙ told .enum-told .given .1)),
+      search needs,
+    )
 
 pub recalculate-node-indices-spec : {M : Type 1} → statement M
 recalculate-node-indices-spec =

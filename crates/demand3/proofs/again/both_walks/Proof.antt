@@ -1,4 +1,4 @@
-use Rattle.demand3.proofs.AgainLaws.{both-made}
+use Rattle.demand3.proofs.AgainLaws.{both-made, renewed-scratch}
 use borrow.Author.Needs.{needs}
 use Rattle.demand3.proofs.again.both_walks.Statement.{statement}
 use Rattle.demand3.proofs.again.both_walks.Tie as tie
@@ -11,7 +11,10 @@ returns c =
     let w = c .before .before in
     let p = w .before .before .before .before .before in
     let n = p .before .before .before .before .before .before .before .before .before .before .before .before .before .before in
-    both-made _ _ _ _ _ _ _ _ _ _ _ _ (n .before .before .before .before .before .before .before .before .before .before .before .walk .ensures _ _ _) (n .renewed .ensures) (p .place-after .ensures) (w .walk2 .ensures _ _ _)
+    let before = n .before .before .before .before .before .before .before .before .before .before .before in (
+      both-made _ _ _ _ _ _ _ _ _ _ _ _ (before .walk .ensures _ _ _) (n .renewed .ensures .0) (p .place-after .ensures) (w .walk2 .ensures _ _ _),
+      renewed-scratch _ _ _ _ _ _ _ (n .renewed .ensures .0) (n .renewed .ensures .1),
+    )
 
 pub both-walks-spec : {M : Type 1} → statement M
 both-walks-spec =

@@ -6,7 +6,8 @@ use Rattle.demand3.proofs.again.renewed.Tie as tie
 returns : tie.Need-returns
 returns c =
     let w = c .before .before .before .before .before .before .before .before .before in
-    renewed-made _ _ _ _ _ _ (w .before .before .before .before .before .before .before .before .before .before .before .before .before .before .before .recalculate-node-indices .ensures) (w .write-then-read .ensures)
+    let r = w .before .before .before .before .before .before .before .before .before .before .before .before .before .before .before .recalculate-node-indices in
+    (renewed-made _ _ _ _ _ _ (r .ensures .0) (w .write-then-read .ensures), r .ensures .1)
 
 pub renewed-spec : {M : Type 1} → statement M
 renewed-spec =

@@ -1,5 +1,5 @@
-use mathlib.Core.Path.{_∙_}
-use Rattle.demand3.proofs.AgainLaws.{not-read, was-read, told}
+use mathlib.Core.Path.{refl, _∙_}
+use Rattle.demand3.proofs.AgainLaws.{not-read, was-read, read-scratch, told}
 use borrow.Author.Needs.{needs}
 use Rattle.demand3.proofs.again.walk_again.Statement.{statement}
 use Rattle.demand3.proofs.again.walk_again.Tie as tie
@@ -7,7 +7,7 @@ use Rattle.demand3.proofs.again.walk_again.Tie as tie
 returns : tie.Need-returns
 returns c =
     let e = not-read _ _ _ _ _ _ _ _ _ _ _ (c .before .before .before .before .before .before .before .before .before .before .read .ensures) _ _ (c .before .answer .given .1) in
-    (e, told _ _ _ _ _ _ _ _ _ _ _ e)
+    (e, (told _ _ _ _ _ _ _ _ _ _ _ e, refl))
 
 same-length-6 : tie.Need-same-length-6
 same-length-6 c = c .before .before .before .before .before .before .before .before .before .before .before .before .before .before .before .nodes2 .given ∙ c .before .before .before .before .before .before .before .before .before .before .before .before .before .before .before .before .before .before .before .before .before .before .before .before .before .before .before .before .before .before .before .before .before .before .before .nodes .given
@@ -28,8 +28,9 @@ returns-2 : tie.Need-returns-2
 returns-2 c =
     let s = c .before .before .before .before .before .before .before .before .before .before .before .before .before .before .before .before in
     let f = s .before .before .before .before .before .before .before .before .before .before .before in
-    let e = was-read _ _ _ _ _ _ _ _ _ _ _ (f .before .before .before .before .before .before .before .before .before .read .ensures) (f .enum-told .given .1) _ (s .sound-walks .ensures) in
-    (e, told _ _ _ _ _ _ _ _ _ _ _ e)
+    let r = f .before .before .before .before .before .before .before .before .before .read .ensures in
+    let e = was-read _ _ _ _ _ _ _ _ _ _ _ r (f .enum-told .given .1) _ (s .sound-walks .ensures .0) in
+    (e, (told _ _ _ _ _ _ _ _ _ _ _ e, read-scratch (s .sound-walks .result .walks) _ _ _ _ _ r (s .sound-walks .ensures .1)))
 
 pub walk-again-spec : {M : Type 1} → statement M
 walk-again-spec =

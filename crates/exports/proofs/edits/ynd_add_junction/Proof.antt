@@ -10,7 +10,7 @@ use Rattle.exports.proofs.edits.ynd_add_junction.Tie as tie
 returns : tie.Need-returns
 returns c =
     let a = c .before .before .before .before .before .before .before .before .before .before .before .before .before .before .before .args in
-    λ nodes links refs. call-by (c .before .before .before .before .before .before .add-junction .result) (c .number-of .ensures) (c .before .place-of .ensures) (c .before .before .ynd-words .ensures)
+    λ nodes links refs. call-by (c .before .before .before .before .before .before .add-junction .result) (a .ynd .now) (c .number-of .ensures) (c .before .place-of .ensures) (c .before .before .words-done .ensures)
     (c .before .before .before .before .before .before .add-junction .ensures nodes links refs ∙ (λ i. addJunction (memory (c .before .before .before .before .before .before .before .before .before .before .before .ynd-of .ensures i) nodes links (a .junctions .now) (a .heights .now) refs) (c .before .before .before .before .before .before .before .before .before .path-junction-of .ensures i) (a .values .now)))
 
 pub ynd-add-junction-spec : {M : Type 1} → statement M

@@ -10,7 +10,7 @@ use Rattle.exports.proofs.edits.ynd_add_link.Tie as tie
 returns : tie.Need-returns
 returns c =
     let a = c .before .before .before .before .before .before .before .before .before .before .before .before .args in
-    λ junctions refs heights. call-by (c .before .before .before .before .before .add-link .result) (c .number-of .ensures) (c .before .place-of .ensures) (c .before .before .ynd-words .ensures)
+    λ junctions refs heights. call-by (c .before .before .before .before .before .add-link .result) (a .ynd .now) (c .number-of .ensures) (c .before .place-of .ensures) (c .before .before .words-done .ensures)
     (c .before .before .before .before .before .add-link .ensures junctions refs heights ∙ (λ i. addLink (memory (c .before .before .before .before .before .before .before .before .before .before .ynd-of .ensures i) (a .nodes .now) (a .links .now) junctions heights refs) (a .at) (c .before .before .before .before .before .before .before .before .link-of .ensures i)))
 
 pub ynd-add-link-spec : {M : Type 1} → statement M

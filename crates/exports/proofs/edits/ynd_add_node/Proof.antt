@@ -10,7 +10,7 @@ use Rattle.exports.proofs.edits.ynd_add_node.Tie as tie
 returns : tie.Need-returns
 returns c =
     let a = c .before .before .before .before .before .before .before .before .args in
-    λ links junctions refs heights. call-by (c .before .before .before .before .add-node .result) (c .number-of .ensures) (c .before .place-of .ensures) (c .before .before .ynd-words .ensures)
+    λ links junctions refs heights. call-by (c .before .before .before .before .add-node .result) (a .ynd .now) (c .number-of .ensures) (c .before .place-of .ensures) (c .before .before .words-done .ensures)
     (c .before .before .before .before .add-node .ensures links junctions refs heights ∙ ap (λ (y : Ynd). addNode (memory y (a .nodes .now) links junctions heights refs) (a .area-id) (record { x = a .x; y = a .y; z = a .z })) (c .before .before .before .before .before .before .ynd-of .ensures))
 
 pub ynd-add-node-spec : {M : Type 1} → statement M

@@ -10,7 +10,7 @@ use Rattle.exports.proofs.edits.ynd_add_ref.Tie as tie
 returns : tie.Need-returns
 returns c =
     let a = c .before .before .before .before .before .before .before .before .before .before .args in
-    λ nodes links junctions heights. call-by (c .before .before .before .before .add-ref .result) (c .number-of .ensures) (c .before .place-of .ensures) (c .before .before .ynd-words .ensures)
+    λ nodes links junctions heights. call-by (c .before .before .before .before .add-ref .result) (a .ynd .now) (c .number-of .ensures) (c .before .place-of .ensures) (c .before .before .words-done .ensures)
     (c .before .before .before .before .add-ref .ensures nodes links junctions heights ∙ (λ i. addRef (memory (c .before .before .before .before .before .before .before .before .ynd-of .ensures i) nodes links junctions heights (a .refs .now)) (c .before .before .before .before .before .before .ref-of .ensures i)))
 
 pub ynd-add-ref-spec : {M : Type 1} → statement M

@@ -15,7 +15,7 @@ returns c =
     let e = c .before .before .before .before .before .before .before .before .before .before .before .before .write-then-read .ensures
     ∙ ap (λ (y : Ynd). writeReadOf (memory y (a .nodes .now) (a .links .now) (a .junctions .now) (a .heights .now) (a .refs .now)) (a .section .now)) (c .before .before .before .before .before .before .before .before .before .before .before .before .before .before .before .before .before .before .before .ynd-of .ensures) in
     let told = sym (c .before .a .given .1) in (
-      both-by (c .before .before .before .before .before .before .before .before .before .before .before .before .write-then-read .result) (ap (λ (w : Written). writtenTold w 0 .number) told) (ap (λ (w : Written). writtenTold w 0 .place) told) (c .before .before .before .ynd-words .ensures) e,
+      both-by (c .before .before .before .before .before .before .before .before .before .before .before .before .write-then-read .result) (a .ynd .now) (ap (λ (w : Written). writtenTold w 0 .number) told) (ap (λ (w : Written). writtenTold w 0 .place) told) (c .before .before .before .words-wrote .ensures) e,
       (ap (λ (w : Written). writtenTold w (a .length .now)) (told ∙ ap (λ (d : Both). d .answer) e), ap (λ (d : Both). d .section) e),
     )
 
@@ -25,7 +25,7 @@ returns-2 c =
     let e = c .before .before .before .before .before .before .before .before .before .before .before .before .write-then-read .ensures
     ∙ ap (λ (y : Ynd). writeReadOf (memory y (a .nodes .now) (a .links .now) (a .junctions .now) (a .heights .now) (a .refs .now)) (a .section .now)) (c .before .before .before .before .before .before .before .before .before .before .before .before .before .before .before .before .before .before .before .ynd-of .ensures) in
     let told = sym (c .before .a2 .given .1) in (
-      both-by (c .before .before .before .before .before .before .before .before .before .before .before .before .write-then-read .result) (ap (λ (w : Written). writtenTold w 0 .number) told) (ap (λ (w : Written). writtenTold w 0 .place) told) (c .before .before .before .ynd-words .ensures) e,
+      both-by (c .before .before .before .before .before .before .before .before .before .before .before .before .write-then-read .result) (a .ynd .now) (ap (λ (w : Written). writtenTold w 0 .number) told) (ap (λ (w : Written). writtenTold w 0 .place) told) (c .before .before .before .words-wrote .ensures) e,
       (ap (λ (w : Written). writtenTold w (a .length .now)) (told ∙ ap (λ (d : Both). d .answer) e), ap (λ (d : Both). d .section) e),
     )
 
