@@ -1,4 +1,3 @@
 -- Laws that the proofs of the calls share.
 pub mod Calls
-pub mod StoreCalls
 pub mod CopiedValues

@@ -4,5 +4,4 @@ pub mod Cells
 pub mod Found
 pub mod Near
 pub mod Parts
-pub mod Stores
 pub mod Values

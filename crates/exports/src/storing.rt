@@ -1,10 +1,9 @@
 // The cell's own words stored, lists cut off at the end, all links of a node and a heightmap replaced.
 use crate::answers::number_of;
 use crate::answers::place_of;
+use crate::words::words_done;
 use crate::words::ynd_of;
 use crate::words::ynd_words;
-use cells::ynd::Ynd;
-use numbers::answer::Answer;
 ghost use mathlib.Core.Path.{_≡_};
 ghost use mathlib.Core.List.{List};
 ghost use Prim.Native.Nat.{ℕ};
@@ -12,19 +11,7 @@ ghost use Rattle.cells.specs.OwnWords.{withVft, withVehicles, withPeds, withUnk
 ghost use Rattle.cells.specs.Truncate.{truncateNodes, truncateJunctions, truncateRefs};
 ghost use Rattle.cells.specs.PutLinks.{putLinks};
 ghost use Rattle.cells.specs.PutHeightmap.{putHeightmap};
-ghost use Rattle.exports.specs.Answers.{ifDone};
-ghost use Rattle.exports.specs.Cells.{toYnd, yndWords, lent, called};
-ghost use Rattle.exports.specs.Stores.{storeOf};
-
-// The words after a call: the cell's, or after a refusal the old ones.
-fn words_after(a: Answer, y: Ynd, old: [u32; 15]) -> [u32; 15]
-    ensures { λ r. ⌜ r ≡ ifDone a (yndWords y) old ⌝ }
-{
-    match a {
-        Answer::Done => ynd_words(y),
-        Answer::Refused(_, _) => old,
-    }
-}
+ghost use Rattle.exports.specs.Cells.{toYnd, yndWords, lent, called, callOf};
 
 #[no_mangle]
 pub extern "C" fn ynd_set_vft(ynd: &mut [u32; 15], vft: u32)
@@ -67,13 +54,13 @@ pub extern "C" fn ynd_set_unknowns(ynd: &mut [u32; 15], unknowns: &[u32; 7])
 pub extern "C" fn ynd_truncate_nodes(ynd: &mut [u32; 15], count: usize, place: &mut usize) -> u32
     ensures { λ r. ⌜ ((nodes links junctions refs : List (List ℕ)) (heights : List ℕ) →
         called r (now (place .exit)) (now (ynd .exit)) nodes links junctions heights refs
-        ≡ storeOf (now (ynd .entry))
+        ≡ callOf (now (ynd .entry))
         (truncateNodes (lent (now (ynd .entry)) nodes links junctions heights refs) count)) ⌝ }
 {
     let old = *ynd;
     let o = cells::truncate::truncate_nodes(ynd_of(old), count);
     let a = o.answer;
-    let w = words_after(a, o.ynd, old);
+    let w = words_done(a, o.ynd, old);
     *ynd = w;
     *place = place_of(a);
     number_of(a)
@@ -88,13 +75,13 @@ pub extern "C" fn ynd_truncate_junctions(
 ) -> u32
     ensures { λ r. ⌜ ((nodes links junctions refs : List (List ℕ)) (heights : List ℕ) →
         called r (now (place .exit)) (now (ynd .exit)) nodes links junctions heights refs
-        ≡ storeOf (now (ynd .entry))
+        ≡ callOf (now (ynd .entry))
         (truncateJunctions (lent (now (ynd .entry)) nodes links junctions heights refs) count)) ⌝ }
 {
     let old = *ynd;
     let o = cells::truncate::truncate_junctions(ynd_of(old), count);
     let a = o.answer;
-    let w = words_after(a, o.ynd, old);
+    let w = words_done(a, o.ynd, old);
     *ynd = w;
     *place = place_of(a);
     number_of(a)
@@ -105,13 +92,13 @@ pub extern "C" fn ynd_truncate_junctions(
 pub extern "C" fn ynd_truncate_refs(ynd: &mut [u32; 15], count: usize, place: &mut usize) -> u32
     ensures { λ r. ⌜ ((nodes links junctions refs : List (List ℕ)) (heights : List ℕ) →
         called r (now (place .exit)) (now (ynd .exit)) nodes links junctions heights refs
-        ≡ storeOf (now (ynd .entry))
+        ≡ callOf (now (ynd .entry))
         (truncateRefs (lent (now (ynd .entry)) nodes links junctions heights refs) count)) ⌝ }
 {
     let old = *ynd;
     let o = cells::truncate::truncate_refs(ynd_of(old), count);
     let a = o.answer;
-    let w = words_after(a, o.ynd, old);
+    let w = words_done(a, o.ynd, old);
     *ynd = w;
     *place = place_of(a);
     number_of(a)
@@ -129,14 +116,14 @@ pub extern "C" fn ynd_put_links(
 ) -> u32
     ensures { λ r. ⌜ ((junctions refs : List (List ℕ)) (heights : List ℕ) →
         called r (now (place .exit)) (now (ynd .exit)) (now (nodes .exit)) (now (links .exit)) junctions heights refs
-        ≡ storeOf (now (ynd .entry))
+        ≡ callOf (now (ynd .entry))
         (putLinks (lent (now (ynd .entry)) (now (nodes .entry)) (now (links .entry)) junctions heights refs) at
         (now (given .entry)))) ⌝ }
 {
     let old = *ynd;
     let o = cells::put_links::put_links(ynd_of(old), nodes, links, at, given);
     let a = o.answer;
-    let w = words_after(a, o.ynd, old);
+    let w = words_done(a, o.ynd, old);
     *ynd = w;
     *place = place_of(a);
     number_of(a)
@@ -156,7 +143,7 @@ pub extern "C" fn ynd_put_heightmap(
 ) -> u32
     ensures { λ r. ⌜ ((nodes links refs : List (List ℕ)) →
         called r (now (place .exit)) (now (ynd .exit)) nodes links (now (junctions .exit)) (now (heights .exit)) refs
-        ≡ storeOf (now (ynd .entry))
+        ≡ callOf (now (ynd .entry))
         (putHeightmap (lent (now (ynd .entry)) nodes links (now (junctions .entry)) (now (heights .entry)) refs) at
         width height (now (values .entry)))) ⌝ }
 {
@@ -171,7 +158,7 @@ pub extern "C" fn ynd_put_heightmap(
         values,
     );
     let a = o.answer;
-    let w = words_after(a, o.ynd, old);
+    let w = words_done(a, o.ynd, old);
     *ynd = w;
     *place = place_of(a);
     number_of(a)

@@ -1,7 +1,7 @@
 use mathlib.Core.Path.{_∙_}
 use Rattle.cells.specs.Memory.{memory}
 use Rattle.cells.specs.PutLinks.{putLinks}
-use Rattle.exports.proofs.StoreCalls.{store-by}
+use Rattle.exports.proofs.Calls.{call-by}
 use borrow.Author.Needs.{needs}
 use Rattle.exports.proofs.storing.ynd_put_links.Statement.{statement}
 use Rattle.exports.proofs.storing.ynd_put_links.Tie as tie
@@ -12,8 +12,8 @@ returns c =
     let cell = c .before .before .before .before .before .before .before .before .ynd-of .ensures in
     let call = c .before .before .before .before .before .put-links in
     λ junctions refs heights.
-    store-by (call .result) (a .ynd .now) (c .number-of .ensures) (c .before .place-of .ensures)
-    (c .before .before .words-after .ensures)
+    call-by (call .result) (a .ynd .now) (c .number-of .ensures) (c .before .place-of .ensures)
+    (c .before .before .words-done .ensures)
     (call .ensures junctions refs heights
     ∙ (λ i. putLinks (memory (cell i) (a .nodes .now) (a .links .now) junctions heights refs) (a .at) (a .given .now)))
 

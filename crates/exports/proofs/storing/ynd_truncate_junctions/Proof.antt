@@ -1,7 +1,7 @@
 use mathlib.Core.Path.{_∙_}
 use Rattle.cells.specs.Memory.{memory}
 use Rattle.cells.specs.Truncate.{truncateJunctions}
-use Rattle.exports.proofs.StoreCalls.{store-by}
+use Rattle.exports.proofs.Calls.{call-by}
 use borrow.Author.Needs.{needs}
 use Rattle.exports.proofs.storing.ynd_truncate_junctions.Statement.{statement}
 use Rattle.exports.proofs.storing.ynd_truncate_junctions.Tie as tie
@@ -12,8 +12,8 @@ returns c =
     let cell = c .before .before .before .before .ynd-of .ensures in
     let call = c .before .before .before .truncate-junctions in
     λ nodes links junctions refs heights.
-    store-by (call .result) (a .ynd .now) (c .number-of .ensures) (c .before .place-of .ensures)
-    (c .before .before .words-after .ensures)
+    call-by (call .result) (a .ynd .now) (c .number-of .ensures) (c .before .place-of .ensures)
+    (c .before .before .words-done .ensures)
     (call .ensures nodes links junctions refs heights
     ∙ (λ i. truncateJunctions (memory (cell i) nodes links junctions heights refs) (a .count)))
 
