@@ -153,8 +153,8 @@ fn found(b: &[u8], nodes: &mut [[u32; 8]]) -> bool {
 }
 
 // The nearest node.
-//   0 x, 2 y, 4 how many nodes are lent; 6 the struct's nodes, 10 its junctions; 14 number and place, 17 whether there is
-//   one, 18 its place, 20 its squared distance; 28 the nodes.
+//   0 x, 2 y, 4 how many nodes are lent; 6 the struct's nodes, 10 its junctions; 14 number and place, 17 whether there
+//   is one, 18 its place, 20 its squared distance; 28 the nodes.
 pub fn nearest(b: &[u8]) -> bool {
     let mut nodes = [[0u32; 8]; 64];
     found(b, &mut nodes)
