@@ -1,6 +1,6 @@
 -- A cell with the memory lent to it, and what a call leaves of both.
 use Prim.Native.Nat.{ℕ}
-use mathlib.Core.Bool.{cond}
+use mathlib.Core.Bool.{Bool, cond, _||_}
 use mathlib.Core.List.{List}
 use lib.Dec.{ltb}
 use lib.ListN.{length}
@@ -37,6 +37,10 @@ refuse cause place m = record { answer = Refused cause place; memory = m }
 
 abbrev pub unless : Answer → Memory → Left → Left
 unless a m next = otherwise a (λ cause place. refuse cause place m) next
+
+-- Section 4's limits: 65,536 nodes, 4,096 junctions. A struct that is over one of them was made by hand: 14, in every call
+unfoldable pub overLimit : Ynd → Bool
+overLimit y = ltb 65536 (y .«node_count») || ltb 4096 (y .«junction_count»)
 
 -- the first list that is shorter than its count, 5 if none is
 unfoldable pub shortOf : Ynd → ℕ → ℕ → ℕ → ℕ → ℕ → ℕ

@@ -30,7 +30,7 @@ pub mod read;
 mod recount;
 pub mod relink;
 pub mod renumber;
-mod room;
+pub mod room;
 mod room_check;
 mod shift;
 pub mod special;

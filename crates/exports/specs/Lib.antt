@@ -3,4 +3,3 @@ pub mod Answers
 pub mod Cells
 pub mod Found
 pub mod Parts
-pub mod Values

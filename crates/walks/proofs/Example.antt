@@ -17,7 +17,7 @@ use Rattle.records.specs.Layout.{pages, headerBytes, gapFor, padded, startOf, l
 use Rattle.cells.specs.Lists.{upTo, joinTo, sumTo, every}
 use Rattle.cells.specs.Words.{pathNode, pathLink, nodeWords, linkWords, toNode, toLink}
 use Rattle.cells.specs.Checks.{sizesCheck, arraysFound, scan, arraysCheck}
-use Rattle.cells.specs.Memory.{Memory, memory, shortOf}
+use Rattle.cells.specs.Memory.{Memory, memory, overLimit, shortOf}
 use Rattle.cells.specs.Read.{linksFrom, nodeIn, linksIn, roomCheck, cellRead, filled, readArrays, readOf}
 use Rattle.cells.specs.Order.{keep, rank, parted, newPlace, listed, newPlaces, lastWith, newNumber, belongs, renamed}
 use Rattle.cells.specs.NodeWords.{areaOf, numberOf, isPed, numbered, numberFrom, reordered, firstArea, oldOf, relinked}
@@ -114,11 +114,11 @@ abbrev stored-read : Call
 stored-read = write-read (replicate 1400 9)
 
 pub renumbered : renumbers first accepted ≡ true
-unfolding bytes room rootBytes nodeBytes linkBytes numberBytes bits16 readOf sizesCheck arraysFound located rootOf unknownsOf numberAt bytesOf extent readArrays arraysCheck scan nodeAt linkAt junctionAt sumTo upTo joinTo roomCheck filled cellRead nodeIn linksIn linksFrom linkWords pathLink pathNode nodeWords renumbers renumber answerOf shortOf
+unfolding bytes room rootBytes nodeBytes linkBytes numberBytes bits16 readOf sizesCheck arraysFound located rootOf unknownsOf numberAt bytesOf extent readArrays arraysCheck scan nodeAt linkAt junctionAt sumTo upTo joinTo roomCheck filled cellRead nodeIn linksIn linksFrom linkWords pathLink pathNode nodeWords renumbers renumber overLimit answerOf shortOf
 renumbered = refl
 
 pub not-renumbered : renumbers (after first accepted) refused ≡ false
-unfolding bytes room rootBytes nodeBytes linkBytes numberBytes bits16 readOf sizesCheck arraysFound located rootOf unknownsOf numberAt bytesOf extent readArrays arraysCheck scan nodeAt linkAt junctionAt sumTo upTo joinTo roomCheck filled cellRead nodeIn linksIn linksFrom linkWords pathLink pathNode nodeWords renumbers renumber answerOf shortOf after run renumberMemory newLists renumberLists recounted vehicles peds reordered numberFrom numbered parted keep isPed areaOf numberOf oldOf firstArea relinked renamed newNumber newPlace newPlaces listed rank lastWith belongs
+unfolding bytes room rootBytes nodeBytes linkBytes numberBytes bits16 readOf sizesCheck arraysFound located rootOf unknownsOf numberAt bytesOf extent readArrays arraysCheck scan nodeAt linkAt junctionAt sumTo upTo joinTo roomCheck filled cellRead nodeIn linksIn linksFrom linkWords pathLink pathNode nodeWords renumbers renumber overLimit answerOf shortOf after run renumberMemory newLists renumberLists recounted vehicles peds reordered numberFrom numbered parted keep isPed areaOf numberOf oldOf firstArea relinked renamed newNumber newPlace newPlaces listed rank lastWith belongs
 not-renumbered = refl
 
 abbrev pub isWrote : Written → Bool
@@ -126,10 +126,10 @@ isWrote (answer.Wrote n) = true
 isWrote (answer.Refused cause place) = false
 
 pub written-read : isWrote (writeReadOf (run first (accepted ∷ refused ∷ [])) (replicate 1400 9) .answer) ≡ true
-unfolding bytes room rootBytes nodeBytes linkBytes numberBytes bits16 readOf sizesCheck arraysFound located rootOf unknownsOf numberAt bytesOf extent readArrays arraysCheck scan nodeAt linkAt junctionAt sumTo upTo joinTo roomCheck filled cellRead nodeIn linksIn linksFrom linkWords pathLink pathNode nodeWords renumber answerOf shortOf after run renumberMemory newLists renumberLists recounted vehicles peds reordered numberFrom numbered parted keep isPed areaOf numberOf oldOf firstArea relinked renamed newNumber newPlace newPlaces listed rank lastWith belongs writeReadOf writeCall writeHeld held checkNodes checkJunctions stored written arrays laid joined fileNode toNode fileLink toLink rootFor pages headerBytes sectionBytes lay padded gapFor startOf offset total address placesOf entries.linksIn stepOf unstep signed16
+unfolding bytes room rootBytes nodeBytes linkBytes numberBytes bits16 readOf sizesCheck arraysFound located rootOf unknownsOf numberAt bytesOf extent readArrays arraysCheck scan nodeAt linkAt junctionAt sumTo upTo joinTo roomCheck filled cellRead nodeIn linksIn linksFrom linkWords pathLink pathNode nodeWords renumber overLimit answerOf shortOf after run renumberMemory newLists renumberLists recounted vehicles peds reordered numberFrom numbered parted keep isPed areaOf numberOf oldOf firstArea relinked renamed newNumber newPlace newPlaces listed rank lastWith belongs writeReadOf writeCall writeHeld held checkNodes checkJunctions stored written arrays laid joined fileNode toNode fileLink toLink rootFor pages headerBytes sectionBytes lay padded gapFor startOf offset total address placesOf entries.linksIn stepOf unstep signed16
 written-read = refl
 
 -- where the three nodes stand after all three calls
 pub moves : map (moved first (accepted ∷ refused ∷ stored-read ∷ [])) (0 ∷ 1 ∷ 2 ∷ []) ≡ 0 ∷ 2 ∷ 1 ∷ []
-unfolding bytes room rootBytes nodeBytes linkBytes numberBytes bits16 readOf sizesCheck arraysFound located rootOf unknownsOf numberAt bytesOf extent readArrays arraysCheck scan nodeAt linkAt junctionAt sumTo upTo joinTo roomCheck filled cellRead nodeIn linksIn linksFrom linkWords pathLink pathNode nodeWords renumbers renumber answerOf shortOf after run renumberMemory newLists renumberLists recounted vehicles peds reordered numberFrom numbered parted keep isPed areaOf numberOf oldOf firstArea relinked renamed newNumber newPlace newPlaces listed rank lastWith belongs writeReadOf writeCall writeHeld held checkNodes checkJunctions stored written arrays laid joined fileNode toNode fileLink toLink rootFor pages headerBytes sectionBytes lay padded gapFor startOf offset total address placesOf entries.linksIn stepOf unstep signed16 moved cellOf nodesOf bodyOf
+unfolding bytes room rootBytes nodeBytes linkBytes numberBytes bits16 readOf sizesCheck arraysFound located rootOf unknownsOf numberAt bytesOf extent readArrays arraysCheck scan nodeAt linkAt junctionAt sumTo upTo joinTo roomCheck filled cellRead nodeIn linksIn linksFrom linkWords pathLink pathNode nodeWords renumbers renumber overLimit answerOf shortOf after run renumberMemory newLists renumberLists recounted vehicles peds reordered numberFrom numbered parted keep isPed areaOf numberOf oldOf firstArea relinked renamed newNumber newPlace newPlaces listed rank lastWith belongs writeReadOf writeCall writeHeld held checkNodes checkJunctions stored written arrays laid joined fileNode toNode fileLink toLink rootFor pages headerBytes sectionBytes lay padded gapFor startOf offset total address placesOf entries.linksIn stepOf unstep signed16 moved cellOf nodesOf bodyOf
 moves = refl

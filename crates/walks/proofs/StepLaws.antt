@@ -9,7 +9,7 @@ use mathlib.Core.Option.{Option, none, some}
 use lib.ListN.{length, getD, getElem?, take, drop, length-map}
 use lib.Seq.{length-take-le, getD-take}
 use borrow.Author.Tests.{le-ltb}
-use Rattle.cells.specs.Memory.{Memory}
+use Rattle.cells.specs.Memory.{Memory, overLimit}
 use Rattle.cells.specs.NodeWords.{areaOf, linkStart, linkCount}
 use Rattle.cells.specs.Order.{belongs}
 use Rattle.cells.specs.Cell.{Link, Node, noNode, nodeAt, numbers, firstOf}
@@ -133,10 +133,10 @@ module _ (m : Memory) where
       next-left p b lt h lq ne = rw (link-in p b lt h lq, area-in p lt, ne)
 
       -- a link of the cell's own area leads to what `node` finds
-      pub next-own : (p b : ℕ) → p < n → b < count p → start p + b < l → belongs (areaOf (getD (m .nodes) 0 [])) (getD (getD (m .links) (start p + b) []) 0 0) ≡ true
+      pub next-own : overLimit (m .ynd) ≡ false → (p b : ℕ) → p < n → b < count p → start p + b < l → belongs (areaOf (getD (m .nodes) 0 [])) (getD (getD (m .links) (start p + b) []) 0 0) ≡ true
           → stepTo (nodeCall (m .ynd) (m .nodes) (getD (getD (m .links) (start p + b) []) 1 0)) ≡ stepIn m p b
       unfolding stepIn next nodeCall findIn
-      next-own p b lt h lq e = rw (link-in p b lt h lq, area-in p lt, e, same-numbers, le-ltb _ _ fits) (go (find _ _))
+      next-own o p b lt h lq e = rw (o, link-in p b lt h lq, area-in p lt, e, same-numbers, le-ltb _ _ fits) (go (find _ _))
         where
           go : (o : Option ℕ) → stepTo (placeOf o) ≡ stepOf (arrive o)
           go (some q) = refl

@@ -4,7 +4,7 @@ use super::{same, seen, Verdict, MODEL, PORT};
 use crate::inputs::rng::Rng;
 use crate::model::cell::{Cell, Node};
 use crate::model::walk::is_sound;
-use crate::model::{refuse_if, renumber, room, walk, write, Answer, Refused};
+use crate::model::{refuse_if, renumber, room, walk, write, Answer, Refused, MOST_JUNCTIONS, MOST_NODES};
 use crate::port::memory::{junction, node, Memory};
 use std::cell::RefCell;
 
@@ -27,17 +27,31 @@ thread_local! { static SCRATCH: RefCell<Vec<u32>> = RefCell::new((0..70_000u32).
 /// A scratch of so many entries, with what earlier calls left in it.
 pub fn with_scratch<T>(length: usize, f: impl FnOnce(&mut [u32]) -> T) -> T { SCRATCH.with(|s| f(&mut s.borrow_mut()[..length])) }
 
+/// 14: the struct is over a limit, whatever is lent.
+fn within(memory: &Memory) -> Answer<()> {
+    refuse_if(memory.counts()[0] > MOST_NODES || memory.counts()[2] > MOST_JUNCTIONS, 14, 0)
+}
+
+/// Writing's causes before 7: refs are counted by the struct. Then 7 for a list that is shorter than its count.
+fn writable(memory: &Memory, cell: &Cell) -> Answer<()> {
+    within(memory)?;
+    write::check(cell)?;
+    refuse_if(memory.counts()[4] > 65_535, 11, 0)?;
+    match memory.lacking() { Some(list) => Err(Refused(7, list)), None => Ok(()) }
+}
+
 pub fn renumbering(memory: &Memory, scratch: usize, places: usize, r: &mut Rng) -> Verdict {
     let n = memory.counts()[0];
     let old_places: Vec<u32> = (0..places).map(|_| r.u32()).collect();
     let (mut after, mut new_places) = (memory.clone(), old_places.clone());
     let (port, scratch_stays) = with_scratch(scratch, |s| {
-        let refused = scratch < 65_536 || places < n || memory.lacking().is_some();
+        let refused = scratch < 65_536 || places < n || memory.lacking().is_some() || within(memory).is_err();
         let before = refused.then(|| s.to_vec());
         (after.renumber(s, &mut new_places), before.is_none_or(|b| b == *s))
     });
     let mut cell = memory.cell();
-    let model = match memory.lacking() { Some(list) => Err(Refused(7, list)), None => renumber::renumber(&mut cell, scratch, places) };
+    let lists = within(memory).and_then(|_| match memory.lacking() { Some(list) => Err(Refused(7, list)), None => Ok(()) });
+    let model = lists.and_then(|_| renumber::renumber(&mut cell, scratch, places));
     seen::note(&model);
     same("renumbering's answer", PORT, &port, MODEL, &model.as_ref().map(|_| ()).map_err(|e| *e))?;
     let Ok(moved) = model else {
@@ -73,7 +87,7 @@ pub fn writing(memory: &Memory, length: usize, r: &mut Rng) -> Verdict {
     let mut expected = section.clone();
     let port = memory.write(&mut section);
     let cell = memory.cell();
-    let model = write::check(&cell).and_then(|_| match memory.lacking() { Some(list) => Err(Refused(7, list)), None => write::write(&cell, &mut expected) });
+    let model = writable(memory, &cell).and_then(|_| write::write(&cell, &mut expected));
     seen::note(&model);
     same("writing's answer", PORT, &port, MODEL, &model)?;
     same("the section after writing", PORT, &section, MODEL, &expected)
@@ -86,8 +100,7 @@ pub fn writing_then_reading(memory: &Memory, length: usize, r: &mut Rng) -> Verd
     let mut after = memory.clone();
     let port = after.write_then_read(&mut section);
     let mut cell = memory.cell();
-    let lacking = write::check(&cell).and_then(|_| match memory.lacking() { Some(list) => Err(Refused(7, list)), None => Ok(()) });
-    let model = lacking.and_then(|_| write::write_then_read(&mut cell, &mut expected, memory.lent()));
+    let model = writable(memory, &cell).and_then(|_| write::write_then_read(&mut cell, &mut expected, memory.lent()));
     seen::note(&model);
     same("write-then-read's answer", PORT, &port, MODEL, &model)?;
     same("the section after write-then-read", PORT, &section, MODEL, &expected)?;
@@ -98,7 +111,10 @@ pub fn writing_then_reading(memory: &Memory, length: usize, r: &mut Rng) -> Verd
 /// Lookups and entries taken out, at places that are there and places that aren't.
 pub fn lookups(memory: &Memory, r: &mut Rng) -> Verdict {
     let cell = memory.cell();
-    let short = |lists: &[usize]| lists.iter().find(|&&i| memory.lent()[i] < memory.counts()[i]).map(|&i| Refused(7, i));
+    let short = |lists: &[usize]| {
+        let list = || lists.iter().find(|&&i| memory.lent()[i] < memory.counts()[i]).map(|&i| Refused(7, i));
+        within(memory).err().or_else(list)
+    };
     let or_short = |lists: &[usize], found: Option<usize>| match short(lists) { Some(e) => Err(e), None => Ok(found) };
     let area = match short(&[0]) { Some(e) => Err(e), None => Ok(cell.nodes.first().map(|n| n.area_id as u32)) };
     same("the cell's area", PORT, &memory.area(), MODEL, &(area, true))?;
@@ -117,16 +133,21 @@ pub fn lookups(memory: &Memory, r: &mut Rng) -> Verdict {
 /// The entry at a place of each list, and the k-th link and value there.
 fn entries(memory: &Memory, at: usize, k: usize) -> Verdict {
     let (counts, lent, cell) = (memory.counts(), memory.lent(), memory.cell());
-    let at_list = |i: usize| -> Answer<()> { refuse_if(at >= counts[i], 13, 0)?; refuse_if(lent[i] < counts[i], 7, i) };
+    let at_list = |i: usize| -> Answer<()> {
+        refuse_if(at >= counts[i], 13, 0)?;
+        within(memory)?;
+        refuse_if(lent[i] < counts[i], 7, i)
+    };
     let got = memory.get_node(at);
     same("get_node", PORT, &(got.0.map(|w| (node(&w), w[6] >> 16, w[7])), got.1), MODEL, &(at_list(0).map(|_| (bare(&cell.nodes[at]), memory.nodes[at][6] >> 16 & 255, memory.nodes[at][7])), true))?;
     same("get_ref", PORT, &memory.get_ref(at), MODEL, &(at_list(4).map(|_| cell.refs[at]), true))?;
     let got = memory.get_junction(at);
     let expected = at_list(2).map(|_| (junction(&memory.junctions[at]), memory.junctions[at][4] & 0xFFFF, memory.junctions[at][5]));
     same("get_junction", PORT, &(got.0.map(|w| (junction(&w), w[4], w[5])), got.1), MODEL, &(expected, true))?;
-    // A place that the list has not has no range, and a range that leaves its pool is cut.
+    // A range that leaves its pool is cut; at a place that is not lent nothing is known of it.
     let of_range = |i: usize, start: usize, count: usize| -> Answer<usize> {
-        refuse_if(at >= counts[i] || k >= count.min(counts[i + 1].saturating_sub(start)), 13, 0)?;
+        refuse_if(at >= counts[i] || at < lent[i] && k >= count.min(counts[i + 1].saturating_sub(start)), 13, 0)?;
+        within(memory)?;
         room(i, &counts[i..i + 2], &lent[i..i + 2])?;
         Ok(start + k)
     };
@@ -144,6 +165,7 @@ pub fn walking(memory: &Memory, start: usize, choices: &[u8], visited: usize, r:
     let mut new = old.clone();
     let port = memory.walk(start, choices, &mut new);
     let model = refuse_if(start >= memory.counts()[0], 13, 0)
+        .and_then(|_| within(memory))
         .and_then(|_| room(0, &memory.counts()[..2], &memory.lent()[..2]))
         .and_then(|_| walk::walk_into(&memory.cell(), start, choices, visited));
     seen::note(&model);
@@ -157,7 +179,7 @@ pub fn soundness(memory: &Memory, scratch: usize) -> Verdict {
     let (counts, lent) = (memory.counts(), memory.lent());
     let cell = memory.cell();
     let needed = |i: usize| refuse_if(lent[i] < counts[i], 7, i);
-    let model = needed(0).and_then(|_| needed(1)).and_then(|_| needed(4)).and_then(|_| refuse_if(scratch < 65_536, 7, 6)).map(|_| is_sound(&cell));
+    let model = within(memory).and_then(|_| needed(0)).and_then(|_| needed(1)).and_then(|_| needed(4)).and_then(|_| refuse_if(scratch < 65_536, 7, 6)).map(|_| is_sound(&cell));
     let (port, stays) = with_scratch(scratch, |s| {
         let mut expected = s.to_vec();
         if model.is_ok() { for (i, n) in cell.nodes.iter().enumerate() { expected[n.node_id as usize] = i as u32; } }
@@ -171,7 +193,7 @@ pub fn soundness(memory: &Memory, scratch: usize) -> Verdict {
 pub fn showing(memory: &Memory, cell: &Cell, at: usize, choice: u8) -> Verdict {
     let (counts, lent) = (memory.counts(), memory.lent());
     let needed = |i: usize| refuse_if(lent[i] < counts[i], 7, i);
-    let there = |i: usize| refuse_if(at >= counts[i], 13, 0);
+    let there = |i: usize| refuse_if(at >= counts[i], 13, 0).and_then(|_| within(memory));
     let node = there(0).and_then(|_| needed(0)).and_then(|_| needed(1)).and_then(|_| needed(2)).and_then(|_| needed(4)).map(|_| {
         let n = &cell.nodes[at];
         let junction = cell.junction_of(n.area_id, n.node_id);
