@@ -52,7 +52,7 @@ void check_sound(const lent *m)
     if (!answer(SOUND, number, *place))
         CHECK(*sound == model_sound(m));
     number = ynd_sound(m->ynd, NODES(m), LINKS(m), REFS(m), scratch + 1, YND_SCRATCH - 1, sound, place);
-    CHECK(answer(SOUND, number, *place) == YND_LENT_TOO_SHORT);
+    CHECK(answer(SOUND, number, *place) == (over_limit(m) ? YND_AT_LIMIT : YND_LENT_TOO_SHORT));
     unblock(scratch, YND_SCRATCH * sizeof *scratch);
     unblock(place, sizeof *place);
     unblock(sound, sizeof *sound);
@@ -88,6 +88,10 @@ void check_walk(const lent *m, size_t start, const uint8_t *choices, size_t n)
     ynd_walk_end how = { 0, 0, 0 };
     if (start >= m->ynd->node_count) {
         CHECK(walk_with(m, start, choices, n, n + 1, visited, 0, how) == YND_NO_SUCH_PLACE);
+        return;
+    }
+    if (over_limit(m)) {
+        CHECK(walk_with(m, start, choices, n, n + 1, visited, 0, how) == YND_AT_LIMIT);
         return;
     }
     if (m->n < m->ynd->node_count || m->l < m->ynd->link_count) {
@@ -183,7 +187,7 @@ void check_renumber(lent *m, script *s)
         CHECK(same_lent(m, &before));
         for (size_t i = 0; i < room - fewer; i++)
             CHECK(places[i] == 0xA5A5A5A5u);
-        CHECK(number == (before.ynd->node_count > YND_NODES_MOST ? YND_AT_LIMIT : YND_LENT_TOO_SHORT));
+        CHECK(number == (over_limit(&before) ? YND_AT_LIMIT : YND_LENT_TOO_SHORT));
         CHECK(number != YND_LENT_TOO_SHORT || *place == (short_list(m) < 5 ? short_list(m) : less ? YND_SCRATCH_LIST : YND_NEW_PLACES));
     } else {
         uint32_t *expected = malloc(room * sizeof *expected + 1);
@@ -202,7 +206,7 @@ void check_renumber(lent *m, script *s)
 static size_t section_length(const lent *m, script *s)
 {
     size_t links = 0, values = 0, *total, length;
-    if (short_list(m) < 5)
+    if (short_list(m) < 5 || over_limit(m))
         return byte(s) * 16u;
     for (size_t p = 0; p < m->ynd->node_count; p++)
         links += links_held(m, p);

@@ -1,5 +1,10 @@
 #include "model.h"
 
+bool over_limit(const lent *m)
+{
+    return m->ynd->node_count > YND_NODES_MOST || m->ynd->junction_count > YND_JUNCTIONS_MOST;
+}
+
 static size_t least(size_t a, size_t b)
 {
     return a < b ? a : b;

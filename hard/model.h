@@ -4,6 +4,8 @@
 
 #include "lent.h"
 
+/* Over 65,536 nodes or 4,096 junctions: every call on such a struct is refused with 14, after 13. */
+bool over_limit(const lent *m);
 /* The links that a node holds, cut where its range leaves the links held. */
 size_t links_held(const lent *m, size_t p);
 /* The heightmap values that a junction holds, cut likewise. */

@@ -8,7 +8,9 @@
  *
  * Refusals. A call that can be refused returns the refusal's number, or 0 (YND_ACCEPTED), and always sets *place: to the place
  * that the number speaks of, or 0. A refusal changes nothing else that was lent. Where several causes fit, the first one in the
- * order given with the call is returned, with the lowest place.
+ * order given with the call is returned, with the lowest place. "14 over a limit" is a struct made by hand, with over
+ * 65,536 nodes or 4,096 junctions, whichever lists the call is lent. A place, link or value that the struct counts and the lists
+ * don't hold is 7.
  *
  * Threads. There is no state beside what is lent: calls on different memory may run at the same time.
  *
@@ -45,7 +47,7 @@ extern "C" {
  * | 11 | refs over 65,535 on writing | 0 |
  * | 12 | heightmap values not width × height | 0 |
  * | 13 | no such place, or a grid number over 31 | 0 |
- * | 14 | the cell is at a limit: 65,536 nodes, 4,096 junctions, 255 links of a node | 0 |
+ * | 14 | the cell is at or over a limit: 65,536 nodes, 4,096 junctions, 255 links of a node | 0 |
  */
 enum ynd_refusal {
     YND_ACCEPTED = 0,
@@ -227,10 +229,10 @@ uint32_t ynd_read(
 /* ---- Renumbering ---- */
 
 /* Renumbers: nodes that are no ped nodes come first, then ped nodes, each in their old order, numbered by place.
- * Links and refs of the own area follow; both node counts of `ynd` are set. `places` gets the new place of the
- * node at each old place. The scratch holds anything after an accepted call. Refused, in this order: 14 over 65,536
- * nodes; 7 at 0 to 4 where a list is shorter than its count, 7 at 6 where the scratch has under YND_SCRATCH entries,
- * 7 at 7 where `places` has fewer entries than there are nodes. */
+ * Links and refs of the own area follow; both node counts of `ynd` are set. `places` gets the new place of the node
+ * at each old place. The scratch holds anything after an accepted call. Refused, in this order: 14 over a limit; 7
+ * at 0 to 4 where a list is shorter than its count, 7 at 6 where the scratch has under YND_SCRATCH entries, 7 at 7
+ * where `places` has fewer entries than there are nodes. */
 uint32_t ynd_renumber(
     ynd_cell *ynd, ynd_node_entry *nodes, size_t nodes_len, ynd_link_entry *links, size_t links_len,
     const ynd_junction_entry *junctions, size_t junctions_len, const uint8_t *heights, size_t heights_len,
@@ -240,8 +242,8 @@ uint32_t ynd_renumber(
 /* ---- Writing ---- */
 
 /* Writes the cell into `section`, from its first byte on; later bytes stay. `length` gets how many bytes were
- * written. Refused, in this order: 8 and 9 node by node, 10, 11, 7 at 0 to 4 where a list is shorter than its
- * count, 7 at 5 where the section is too short. */
+ * written. Refused, in this order: 14 over a limit, 8 and 9 node by node, 10, 11, 7 at 0 to 4 where a list is
+ * shorter than its count, 7 at 5 where the section is too short. */
 uint32_t ynd_write(
     const ynd_cell *ynd, const ynd_node_entry *nodes, size_t nodes_len,
     const ynd_link_entry *links, size_t links_len, const ynd_junction_entry *junctions, size_t junctions_len,
@@ -249,9 +251,9 @@ uint32_t ynd_write(
     uint8_t *section, size_t section_len, size_t *length, size_t *place);
 
 /* Writes the cell into `section` and reads just those bytes back into the cell's own lists. `length` gets how many
- * bytes were written. Refused as ynd_write is; a cell made by hand is also refused where reading back would be: 2,
- * 6, 5, and 7 at 0 to 4 where a list is too short for copies of ranges that overlap. A refusal leaves cell, lists
- * and section as they were. */
+ * bytes were written. Refused as ynd_write is; a cell made by hand is also refused where reading back would be: 5,
+ * and 7 at 0 to 4 where a list is too short for copies of ranges that overlap. A refusal leaves cell, lists and
+ * section as they were. */
 uint32_t ynd_write_then_read(
     ynd_cell *ynd, ynd_node_entry *nodes, size_t nodes_len, ynd_link_entry *links, size_t links_len,
     ynd_junction_entry *junctions, size_t junctions_len, uint8_t *heights, size_t heights_len,
@@ -261,8 +263,9 @@ uint32_t ynd_write_then_read(
 
 /* Walks from the node at place `start`, by a byte a choice: each byte chooses a link by its place among the node's
  * links. `end` gets how the walk ended, `visited` the places from its front on (later entries stay), `count` how
- * many they are: one more than the links followed. Refused, in this order: 13 no such place; 7 at 0 and 1 where a
- * list is shorter than its count; 7 at 8 where `visited` is too short (choices_len + 1 entries always do). */
+ * many they are: one more than the links followed. Refused, in this order: 13 no such place; 14 over a limit; 7 at
+ * 0 and 1 where a list is shorter than its count; 7 at 8 where `visited` is too short (choices_len + 1 entries
+ * always do). */
 uint32_t ynd_walk(
     const ynd_cell *ynd, const ynd_node_entry *nodes, size_t nodes_len,
     const ynd_link_entry *links, size_t links_len, size_t start, const uint8_t *choices, size_t choices_len,
@@ -270,8 +273,8 @@ uint32_t ynd_walk(
 
 /* Whether the cell is sound: all nodes have one area, their numbers differ, and each link and ref of the own area
  * names a node of the cell. The scratch then holds at each number the last place that has it. Refused, in this
- * order: 7 at 0, 1 and 4 where a list is shorter than its count; 7 at 6 where the scratch has under YND_SCRATCH
- * entries. */
+ * order: 14 over a limit; 7 at 0, 1 and 4 where a list is shorter than its count; 7 at 6 where the scratch has
+ * under YND_SCRATCH entries. */
 uint32_t ynd_sound(
     const ynd_cell *ynd, const ynd_node_entry *nodes, size_t nodes_len,
     const ynd_link_entry *links, size_t links_len, const ynd_ref_entry *refs, size_t refs_len,
@@ -279,30 +282,30 @@ uint32_t ynd_sound(
 
 /* ---- What a walk shows ---- */
 
-/* What a walk shows of the node at place `at`. Fills `shown`. Refused, in this order: 13 no such place; 7 at 0, 1,
- * 2 and 4 where a list is shorter than its count. */
+/* What a walk shows of the node at place `at`. Fills `shown`. Refused, in this order: 13 no such place; 14 over a
+ * limit; 7 at 0, 1, 2 and 4 where a list is shorter than its count. */
 uint32_t ynd_shown_node(
     const ynd_cell *ynd, const ynd_node_entry *nodes, size_t nodes_len,
     const ynd_link_entry *links, size_t links_len, const ynd_junction_entry *junctions, size_t junctions_len,
     const ynd_ref_entry *refs, size_t refs_len, size_t at, ynd_seen_node *shown, size_t *place);
 
-/* What a walk shows of the junction at place `at`, its values aside (ynd_shown_values). Fills `shown`. Refused: 13
- * no such place; 7 at 2 where a list is shorter than its count. */
+/* What a walk shows of the junction at place `at`, its values aside (ynd_shown_values). Fills `shown`. Refused, in
+ * this order: 13 no such place; 14 over a limit; 7 at 2 where a list is shorter than its count. */
 uint32_t ynd_shown_junction(
     const ynd_cell *ynd, const ynd_junction_entry *junctions, size_t junctions_len, size_t at,
     ynd_seen_junction *shown, size_t *place);
 
 /* Copies the heightmap values of the junction at place `at` to the front of `values` (later entries stay) and how
- * many they are into `count`: 65,025 entries always do. Refused, in this order: 13 no such place; 7 at 2 and 3
- * where a list is shorter than its count; 7 at 3 where `values` is too short. */
+ * many they are into `count`: 65,025 entries always do. Refused, in this order: 13 no such place; 14 over a limit;
+ * 7 at 2 and 3 where a list is shorter than its count; 7 at 3 where `values` is too short. */
 uint32_t ynd_shown_values(
     const ynd_cell *ynd, const ynd_junction_entry *junctions, size_t junctions_len,
     const uint8_t *heights, size_t heights_len, size_t at, uint8_t *values, size_t values_len, size_t *count,
     size_t *place);
 
 /* What a walk shows of the link that a byte chooses at place `at`: `shown` gets found = 1 and the link's flags and
- * length, or five zeros where there is no such link. Refused, in this order: 13 no such place; 7 at 0 and 1 where
- * a list is shorter than its count. */
+ * length, or five zeros where there is no such link. Refused, in this order: 13 no such place; 14 over a limit; 7
+ * at 0 and 1 where a list is shorter than its count. */
 uint32_t ynd_shown_link(
     const ynd_cell *ynd, const ynd_node_entry *nodes, size_t nodes_len,
     const ynd_link_entry *links, size_t links_len, size_t at, uint8_t choice, ynd_seen_link *shown,
@@ -311,20 +314,20 @@ uint32_t ynd_shown_link(
 /* ---- Lookups. Nothing found is no refusal ---- */
 
 /* The place of the node that has a number: `found` says whether there is one, `at` gets its place (else `at`
- * stays). Refused: 7 at 0 where a list is shorter than its count. */
+ * stays). Refused: 14 over a limit; 7 at 0 where a list is shorter than its count. */
 uint32_t ynd_node(
     const ynd_cell *ynd, const ynd_node_entry *nodes, size_t nodes_len, uint16_t node_id, bool *found,
     size_t *at, size_t *place);
 
 /* The place of the junction that the refs give to a node, by area and number: `found`, and then `at` (else `at`
- * stays). Refused: 7 at 0 and 4 where a list is shorter than its count. */
+ * stays). Refused: 14 over a limit; 7 at 0 and 4 where a list is shorter than its count. */
 uint32_t ynd_junction_of(
     const ynd_cell *ynd, const ynd_node_entry *nodes, size_t nodes_len,
     const ynd_ref_entry *refs, size_t refs_len, uint16_t area_id, uint16_t node_id, bool *found, size_t *at,
     size_t *place);
 
-/* The cell's own area, the first node's: `found` is false in a cell with no node, and `area` stays. Refused: 7 at
- * 0 where a list is shorter than its count. */
+/* The cell's own area, the first node's: `found` is false in a cell with no node, and `area` stays. Refused: 14
+ * over a limit; 7 at 0 where a list is shorter than its count. */
 uint32_t ynd_area_of_cell(
     const ynd_cell *ynd, const ynd_node_entry *nodes, size_t nodes_len, bool *found, uint32_t *area,
     size_t *place);
@@ -350,91 +353,96 @@ uint32_t ynd_nearest(
 /* ---- Entries added ---- */
 
 /* Adds a node behind all others, with no flags and no links; its number is its place, its position is stored in
- * whole steps. Refused: 14 at 65,536 nodes; 7 at 0 where `nodes` has no free entry. */
+ * whole steps. Refused: 14 over a limit, or at 65,536 nodes; 7 at 0 where `nodes` has no free entry. */
 uint32_t ynd_add_node(
     ynd_cell *ynd, ynd_node_entry *nodes, size_t nodes_len, uint16_t area_id, float x, float y, float z,
     size_t *place);
 
 /* Adds a link as the last one of the node at place `at`; the links behind it move up by one, and so do the ranges
- * there. Refused, in this order: 13 no such place; 14 at 255 links of the node; 7 at 0 where `nodes` is shorter
- * than its count, 7 at 1 where `links` has no free entry. */
+ * there. Refused, in this order: 13 no such place; 14 over a limit, or at 255 links of the node; 7 at 0 where
+ * `nodes` is shorter than its count, 7 at 1 where `links` has no free entry. */
 uint32_t ynd_add_link(
     ynd_cell *ynd, ynd_node_entry *nodes, size_t nodes_len, ynd_link_entry *links, size_t links_len, size_t at,
     const ynd_link_entry *link, size_t *place);
 
-/* Adds a ref behind all others. Refused: 14 where the count would pass 32 bits; 7 at 4 where `refs` has no free
- * entry. */
+/* Adds a ref behind all others. Refused: 14 over a limit, or where the count would pass 32 bits; 7 at 4 where
+ * `refs` has no free entry. */
 uint32_t ynd_add_ref(
     ynd_cell *ynd, ynd_ref_entry *refs, size_t refs_len, const ynd_ref_entry *added, size_t *place);
 
 /* Adds a junction behind all others, and its heightmap values behind all others; `junction` says width and height,
- * its heightmap_start is not looked at. Refused, in this order: 14 at 4,096 junctions or where the count of values
- * would pass 32 bits; 12 where the values are not width times height; 7 at 2 and 3 where `junctions` or `heights`
- * have no room. */
+ * its heightmap_start is not looked at. Refused, in this order: 14 over a limit, at 4,096 junctions, or where the
+ * count of values would pass 32 bits; 12 where the values are not width times height; 7 at 2 and 3 where
+ * `junctions` or `heights` have no room. */
 uint32_t ynd_add_junction(
     ynd_cell *ynd, ynd_junction_entry *junctions, size_t junctions_len, uint8_t *heights, size_t heights_len,
     const ynd_junction_entry *junction, const uint8_t *values, size_t values_len, size_t *place);
 
 /* ---- Entries taken out and stored, by place ---- */
 
-/* Copies the node at place `at`. Refused: 13 no such place; 7 at 0 where a list is shorter than its count. */
+/* Copies the node at place `at`. Refused: 13 no such place; 14 over a limit; 7 at 0 where a list is shorter than
+ * its count. */
 uint32_t ynd_get_node(
     const ynd_cell *ynd, const ynd_node_entry *nodes, size_t nodes_len, size_t at, ynd_node_entry *node,
     size_t *place);
 
-/* Copies link k of the node at place `at`. Refused: 13 no such node or link; 7 at 0 and 1 where a list is shorter
- * than its count. */
+/* Copies link k of the node at place `at`. Refused: 13 no such node or link; 14 over a limit; 7 at 0 and 1 where a
+ * list is shorter than its count. */
 uint32_t ynd_get_link(
     const ynd_cell *ynd, const ynd_node_entry *nodes, size_t nodes_len,
     const ynd_link_entry *links, size_t links_len, size_t at, size_t k, ynd_link_entry *link, size_t *place);
 
-/* Copies the ref at place `at`. Refused: 13 no such place; 7 at 4 where a list is shorter than its count. */
+/* Copies the ref at place `at`. Refused: 13 no such place; 14 over a limit; 7 at 4 where a list is shorter than its
+ * count. */
 uint32_t ynd_get_ref(
     const ynd_cell *ynd, const ynd_ref_entry *refs, size_t refs_len, size_t at, ynd_ref_entry *taken,
     size_t *place);
 
-/* Copies the junction at place `at`. Refused: 13 no such place; 7 at 2 where a list is shorter than its count. */
+/* Copies the junction at place `at`. Refused: 13 no such place; 14 over a limit; 7 at 2 where a list is shorter
+ * than its count. */
 uint32_t ynd_get_junction(
     const ynd_cell *ynd, const ynd_junction_entry *junctions, size_t junctions_len, size_t at,
     ynd_junction_entry *junction, size_t *place);
 
-/* Copies heightmap value k of the junction at place `at`. Refused: 13 no such junction or value; 7 at 2 and 3
- * where a list is shorter than its count. */
+/* Copies heightmap value k of the junction at place `at`. Refused: 13 no such junction or value; 14 over a limit; 7
+ * at 2 and 3 where a list is shorter than its count. */
 uint32_t ynd_get_height(
     const ynd_cell *ynd, const ynd_junction_entry *junctions, size_t junctions_len,
     const uint8_t *heights, size_t heights_len, size_t at, size_t k, uint8_t *value, size_t *place);
 
 /* Stores every field of the node at place `at` but where its links are (link_start, link_count); the position is
- * taken as it is. Refused: 13 no such place; 7 at 0 where a list is shorter than its count. */
+ * taken as it is. Refused: 13 no such place; 14 over a limit; 7 at 0 where a list is shorter than its count. */
 uint32_t ynd_put_node(
     const ynd_cell *ynd, ynd_node_entry *nodes, size_t nodes_len, size_t at, const ynd_node_entry *node,
     size_t *place);
 
-/* Stores a position, in whole steps, of the node at place `at`. Refused: 13 no such place; 7 at 0 where a list is
- * shorter than its count. */
+/* Stores a position, in whole steps, of the node at place `at`. Refused: 13 no such place; 14 over a limit; 7 at 0
+ * where a list is shorter than its count. */
 uint32_t ynd_set_position(
     const ynd_cell *ynd, ynd_node_entry *nodes, size_t nodes_len, size_t at, float x, float y, float z,
     size_t *place);
 
-/* Stores link k of the node at place `at`. Refused: 13 no such node or link; 7 at 0 and 1 where a list is shorter
- * than its count. */
+/* Stores link k of the node at place `at`. Refused: 13 no such node or link; 14 over a limit; 7 at 0 and 1 where a
+ * list is shorter than its count. */
 uint32_t ynd_put_link(
     const ynd_cell *ynd, const ynd_node_entry *nodes, size_t nodes_len, ynd_link_entry *links, size_t links_len,
     size_t at, size_t k, const ynd_link_entry *link, size_t *place);
 
-/* Stores the ref at place `at`. Refused: 13 no such place; 7 at 4 where a list is shorter than its count. */
+/* Stores the ref at place `at`. Refused: 13 no such place; 14 over a limit; 7 at 4 where a list is shorter than its
+ * count. */
 uint32_t ynd_put_ref(
     const ynd_cell *ynd, ynd_ref_entry *refs, size_t refs_len, size_t at, const ynd_ref_entry *put,
     size_t *place);
 
 /* Stores every field of the junction at place `at` but where its heightmap starts. Refused, in this order: 13 no
- * such place; 12 where width times height is not what it was; 7 at 2 where a list is shorter than its count. */
+ * such place; 14 over a limit; 12 where width times height is not what it was; 7 at 2 where a list is shorter than
+ * its count. */
 uint32_t ynd_put_junction(
     const ynd_cell *ynd, ynd_junction_entry *junctions, size_t junctions_len, size_t at,
     const ynd_junction_entry *junction, size_t *place);
 
-/* Stores heightmap value k of the junction at place `at`. Refused: 13 no such junction or value; 7 at 2 and 3
- * where a list is shorter than its count. */
+/* Stores heightmap value k of the junction at place `at`. Refused: 13 no such junction or value; 14 over a limit; 7
+ * at 2 and 3 where a list is shorter than its count. */
 uint32_t ynd_put_height(
     const ynd_cell *ynd, const ynd_junction_entry *junctions, size_t junctions_len,
     uint8_t *heights, size_t heights_len, size_t at, size_t k, uint8_t value, size_t *place);

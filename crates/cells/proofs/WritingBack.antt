@@ -4,6 +4,7 @@ pub mod Kept
 pub mod BlocksBack
 pub mod SectionBack
 pub mod WrittenBack
+pub mod WrittenFew
 pub mod BackCheck
 pub mod BackAnswer
 pub mod AsRead

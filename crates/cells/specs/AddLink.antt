@@ -1,7 +1,7 @@
 -- Section 4, other calls: adding a link. It comes last of its node's links; the entries behind it move up by one, and so do the ranges there.
 -- Causes of refusal, in their order: 13, 14, 7.
 use Prim.Native.Nat.{ℕ, _+_, _-_, _*_, _%_, _≤_, _<_}
-use mathlib.Core.Bool.{cond}
+use mathlib.Core.Bool.{Bool, cond}
 use mathlib.Core.List.{List, [], _∷_, _++_, map}
 use lib.Dec.{eqb, ltb, leb}
 use lib.ListN.{length, getD, set, take, drop}
@@ -10,7 +10,7 @@ use Rattle.numbers.specs.declared.answer.Answer.{Answer}
 use Rattle.numbers.specs.declared.answer.Answer.the-variants.{Done}
 use Rattle.cells.specs.NodeWords.{linkStart, linkCount}
 use Rattle.cells.specs.Words.{linkWords}
-use Rattle.cells.specs.Memory.{Memory, memory, Left, unless}
+use Rattle.cells.specs.Memory.{Memory, memory, Left, unless, overLimit}
 use Rattle.cells.specs.Edit.{linkRange, heldIn}
 use Rattle.cells.specs.Add.{moreLinks, done}
 use Rattle.cells.specs.declared.link.PathLink.{PathLink}
@@ -44,10 +44,11 @@ nodesAfter n l p nodes =
     (ranged (atIn nodes p l - heldAt nodes p l) (heldAt nodes p l + 1) (getD nodes p []))
 
 -- for n nodes, l links, a place p whose node has e links; the count of links is a number of 32 bits
-unfoldable pub roomForLink : ℕ → ℕ → ℕ → ℕ → ℕ → ℕ → Answer
-roomForLink n l p e nodes links =
+unfoldable pub roomForLink : Bool → ℕ → ℕ → ℕ → ℕ → ℕ → ℕ → Answer
+roomForLink over n l p e nodes links =
     decided
     (when (leb n p) 13 0
+    ∷ when over 14 0
     ∷ when (leb 4294967295 l) 14 0
     ∷ when (leb 255 e) 14 0
     ∷ when (ltb nodes n) 7 0
@@ -56,7 +57,8 @@ roomForLink n l p e nodes links =
 
 unfoldable pub addLink : Memory → ℕ → PathLink → Left
 addLink m p x =
-    unless (roomForLink (m .ynd .«node_count») (m .ynd .«link_count») p (heldAt (m .nodes) p (m .ynd .«link_count»)) (length (m .nodes)) (length (m .links))) m
+    unless (roomForLink (overLimit (m .ynd)) (m .ynd .«node_count») (m .ynd .«link_count») p
+    (heldAt (m .nodes) p (m .ynd .«link_count»)) (length (m .nodes)) (length (m .links))) m
     (done (memory (moreLinks (m .ynd))
     (nodesAfter (m .ynd .«node_count») (m .ynd .«link_count») p (m .nodes))
     (inserted (atIn (m .nodes) p (m .ynd .«link_count»)) (m .ynd .«link_count») (linkWords x) (m .links))

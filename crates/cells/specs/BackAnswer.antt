@@ -31,7 +31,7 @@ wroteIf a n = otherwise a Refused (Wrote n)
 unfoldable pub backAnswer : Memory → Counts → ℕ → Written
 backAnswer h lent section =
     let lack = shortOf (h .ynd) (lent .nodes) (lent .links) (lent .junctions) (lent .heights) (lent .refs) in
-    ifCounted (writeCounts (h .nodes) (h .links) (h .junctions) (h .heights) (h .refs))
+    ifCounted (writeCounts (h .ynd) (h .nodes) (h .links) (h .junctions) (h .heights) (h .refs))
     (notIf (ltb lack 5) 7 lack
     (notIf (ltb section (length (written h))) 7 5
     (wroteIf (backCheck h lent) (length (written h)))))

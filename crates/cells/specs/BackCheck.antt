@@ -7,11 +7,11 @@ use lib.ListN.{length, getD, take}
 use Rattle.numbers.specs.Refusals.{unless as otherwise}
 use Rattle.records.specs.Put.{joined}
 use Rattle.cells.specs.Lists.{sumTo}
-use Rattle.cells.specs.Checks.{refuseIf, scan}
+use Rattle.cells.specs.Checks.{scan}
 use Rattle.cells.specs.Memory.{Memory}
 use Rattle.cells.specs.Read.{roomCheck}
 use Rattle.cells.specs.Entries.{linksIn, valuesIn}
-use Rattle.cells.specs.Blocks.{heightsBlock, written}
+use Rattle.cells.specs.Blocks.{heightsBlock}
 use Rattle.cells.specs.declared.count.Counts.{Counts}
 use Rattle.numbers.specs.declared.answer.Answer.{Answer}
 use Rattle.numbers.specs.declared.answer.Answer.the-variants.{Done, Refused}
@@ -48,15 +48,13 @@ backCounts h = readCounts (heldCounts h) (h .junctions)
 abbrev pub lengths : Memory → Counts
 lengths m = record { nodes = length (m .nodes); links = length (m .links); junctions = length (m .junctions); heights = length (m .heights); refs = length (m .refs) }
 
--- 2, 6, 5, 7: a section of `total` bytes with k entries and these heightmaps, read into lists of so many entries
-unfoldable pub backTests : ℕ → Counts → List ℕ → List (List ℕ) → Counts → Answer
-backTests total k heights js lent =
-    refuseIf (ltb 16777216 total) 2 0
-    (refuseIf (ltb 65536 (k .nodes)) 6 0
-    (refuseIf (ltb 4096 (k .junctions)) 6 1
-    (then (scan 5 (lacks heights js) 0 (length js))
-    (roomCheck (readCounts k js) (lent .nodes) (lent .links) (lent .junctions) (lent .heights) (lent .refs)))))
+-- 5, 7: a section with k entries and these heightmaps, read into lists of so many entries. 2 and 6 never come: what is
+-- written keeps to section 4's limits (proofs WrittenFew)
+unfoldable pub backTests : Counts → List ℕ → List (List ℕ) → Counts → Answer
+backTests k heights js lent =
+    then (scan 5 (lacks heights js) 0 (length js))
+    (roomCheck (readCounts k js) (lent .nodes) (lent .links) (lent .junctions) (lent .heights) (lent .refs))
 
 -- the cell h, written, read into lists of so many entries
 unfoldable pub backCheck : Memory → Counts → Answer
-backCheck h lent = backTests (length (written h)) (heldCounts h) (h .heights) (h .junctions) lent
+backCheck h lent = backTests (heldCounts h) (h .heights) (h .junctions) lent

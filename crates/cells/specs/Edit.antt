@@ -1,6 +1,7 @@
--- Section 4, other calls: entries taken out and stored by place. Causes of refusal, in their order: 13 no such place, 12, 7 a list shorter than its count.
+-- Section 4, other calls: entries taken out and stored by place. Causes of refusal, in their order: 13 no such place, 14 a
+-- struct over a limit, 12, 7 a list shorter than its count. What needs an entry is asked of one that is lent.
 use Prim.Native.Nat.{ℕ, _+_, _-_, _*_, min}
-use mathlib.Core.Bool.{Bool, true, false, not, cond}
+use mathlib.Core.Bool.{Bool, true, false, not, cond, _&&_}
 use mathlib.Core.List.{List, [], _∷_}
 use lib.Dec.{eqb, ltb, leb}
 use lib.ListN.{length, getD, set}
@@ -8,6 +9,7 @@ use Rattle.numbers.specs.Refusals.{when, decided, unless as otherwise}
 use Rattle.cells.specs.NodeWords.{linkStart, linkCount, valueStart, valueCount}
 use Rattle.cells.specs.Words.{toNode, nodeWords, toLink, linkWords, toJunction, junctionWords, toRef, refWords}
 use Rattle.cells.specs.NodeAccess.{withPosition, withRange}
+use Rattle.cells.specs.Memory.{overLimit}
 use Rattle.numbers.specs.Positions.{quantised, dequantised}
 use Rattle.numbers.specs.declared.math.Vec3.{Vec3}
 use Rattle.numbers.specs.declared.answer.Answer.{Answer}
@@ -36,9 +38,9 @@ use Rattle.cells.specs.declared.get.GotHeight.the-variants as got-height
 abbrev pub entryIf : Bool → ℕ → ℕ → Entry → Entry
 entryIf b cause place next = cond b (Refused cause place) next
 
--- the entry at the place p of n, in a list of this length, whose own place is `list`
-unfoldable pub entryAt : ℕ → ℕ → ℕ → ℕ → Entry
-entryAt n len list p = otherwise (decided (when (leb n p) 13 0 ∷ when (ltb len n) 7 list ∷ [])) Refused (At p)
+-- the entry at the place p of n, in a list of this length, whose own place is `list`; `over` says that a limit is passed
+unfoldable pub entryAt : Bool → ℕ → ℕ → ℕ → ℕ → Entry
+entryAt over n len list p = otherwise (decided (when (leb n p) 13 0 ∷ when over 14 0 ∷ when (ltb len n) 7 list ∷ [])) Refused (At p)
 
 -- Section 4: a node's range of links, a junction's range of values; none at a place that the list has not
 abbrev pub linkRange : List (List ℕ) → ℕ → Range
@@ -52,31 +54,34 @@ unfoldable pub heldIn : Range → ℕ → ℕ
 heldIn r l = min (r .count) (l - r .start)
 
 -- entry k of the range r, which belongs to the place p of n and lies among l entries of a pool; both lists' lengths, and their own places a and b
-unfoldable pub rangeEntry : ℕ → ℕ → ℕ → ℕ → ℕ → ℕ → ℕ → Range → ℕ → Entry
-rangeEntry n len a l pool b p r k =
+unfoldable pub rangeEntry : Bool → ℕ → ℕ → ℕ → ℕ → ℕ → ℕ → ℕ → Range → ℕ → Entry
+rangeEntry over n len a l pool b p r k =
     otherwise
     (decided
     (when (leb n p) 13 0
-    ∷ when (leb (heldIn r l) k) 13 0
+    ∷ when (ltb p len && leb (heldIn r l) k) 13 0
+    ∷ when over 14 0
     ∷ when (ltb len n) 7 a
     ∷ when (ltb pool l) 7 b
     ∷ []))
     Refused (At (r .start + k))
 
 unfoldable pub nodeEntry : Ynd → List (List ℕ) → ℕ → Entry
-nodeEntry y nodes p = entryAt (y .«node_count») (length nodes) 0 p
+nodeEntry y nodes p = entryAt (overLimit y) (y .«node_count») (length nodes) 0 p
 
 unfoldable pub linkEntry : Ynd → List (List ℕ) → ℕ → ℕ → ℕ → Entry
-linkEntry y nodes links p k = rangeEntry (y .«node_count») (length nodes) 0 (y .«link_count») links 1 p (linkRange nodes p) k
+linkEntry y nodes links p k =
+    rangeEntry (overLimit y) (y .«node_count») (length nodes) 0 (y .«link_count») links 1 p (linkRange nodes p) k
 
 unfoldable pub refEntry : Ynd → List (List ℕ) → ℕ → Entry
-refEntry y refs p = entryAt (y .«ref_count») (length refs) 4 p
+refEntry y refs p = entryAt (overLimit y) (y .«ref_count») (length refs) 4 p
 
 unfoldable pub junctionEntry : Ynd → List (List ℕ) → ℕ → Entry
-junctionEntry y junctions p = entryAt (y .«junction_count») (length junctions) 2 p
+junctionEntry y junctions p = entryAt (overLimit y) (y .«junction_count») (length junctions) 2 p
 
 unfoldable pub heightEntry : Ynd → List (List ℕ) → ℕ → ℕ → ℕ → Entry
-heightEntry y junctions heights p k = rangeEntry (y .«junction_count») (length junctions) 2 (y .«heightmap_count») heights 3 p (valueRange junctions p) k
+heightEntry y junctions heights p k =
+    rangeEntry (overLimit y) (y .«junction_count») (length junctions) 2 (y .«heightmap_count») heights 3 p (valueRange junctions p) k
 
 -- ---- taken out
 
@@ -144,12 +149,20 @@ startAt j start = record {
 }
 
 -- 12: the values stay as many
-unfoldable pub sizedEntry : ℕ → ℕ → ℕ → ℕ → ℕ → Entry
-sizedEntry n len p values held = otherwise (decided (when (leb n p) 13 0 ∷ when (not (eqb values held)) 12 0 ∷ when (ltb len n) 7 2 ∷ [])) Refused (At p)
+unfoldable pub sizedEntry : Bool → ℕ → ℕ → ℕ → ℕ → ℕ → Entry
+sizedEntry over n len p values held =
+    otherwise
+    (decided
+    (when (leb n p) 13 0
+    ∷ when over 14 0
+    ∷ when (ltb p len && not (eqb values held)) 12 0
+    ∷ when (ltb len n) 7 2
+    ∷ []))
+    Refused (At p)
 
 unfoldable pub putJunction : Ynd → List (List ℕ) → ℕ → PathJunction → Stored (List ℕ)
 putJunction y junctions p j =
-    changeAt (sizedEntry (y .«junction_count») (length junctions) p (j .width * j .height) (valueRange junctions p .count))
+    changeAt (sizedEntry (overLimit y) (y .«junction_count») (length junctions) p (j .width * j .height) (valueRange junctions p .count))
     (λ w. junctionWords (startAt j (valueStart w))) [] junctions
 
 unfoldable pub putHeight : Ynd → List (List ℕ) → List ℕ → ℕ → ℕ → ℕ → Stored ℕ

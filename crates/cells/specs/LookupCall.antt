@@ -1,4 +1,5 @@
--- Section 4, other calls: what the lookups answer over lent lists. A list shorter than its count is refused (7).
+-- Section 4, other calls: what the lookups answer over lent lists. A struct over a limit is refused (14), then a list shorter
+-- than its count (7).
 use Prim.Native.Nat.{ℕ}
 use mathlib.Core.Bool.{cond}
 use mathlib.Core.List.{List, [], _∷_, map}
@@ -6,6 +7,7 @@ use mathlib.Core.Option.{Option, none, some}
 use lib.Dec.{ltb}
 use lib.ListN.{length, take, getElem?}
 use Rattle.cells.specs.NodeWords.{areaOf, numberOf, firstArea}
+use Rattle.cells.specs.Memory.{overLimit}
 use Rattle.cells.specs.Cell.{Junction}
 use Rattle.cells.specs.CellOf.{refOf as toRef}
 use Rattle.cells.specs.Lookup.{firstWith, find, refOf}
@@ -21,7 +23,9 @@ areaOfFirst (w ∷ ws) = own-area.Area (areaOf w)
 
 -- Section 4, renumbering: the own area is the first node's
 unfoldable pub areaIdCall : Ynd → List (List ℕ) → OwnArea
-areaIdCall y nodes = cond (ltb (length nodes) (y .«node_count»)) (own-area.Refused 7 0) (areaOfFirst (take (y .«node_count») nodes))
+areaIdCall y nodes =
+    cond (overLimit y) (own-area.Refused 14 0)
+    (cond (ltb (length nodes) (y .«node_count»)) (own-area.Refused 7 0) (areaOfFirst (take (y .«node_count») nodes)))
 
 abbrev pub placeOf : Option ℕ → Place
 placeOf (some i) = At i
@@ -38,7 +42,9 @@ unfoldable pub findIn : ℕ → List (List ℕ) → ℕ → Place
 findIn n nodes k = placeOf (find (numbersIn n nodes) k)
 
 unfoldable pub nodeCall : Ynd → List (List ℕ) → ℕ → Place
-nodeCall y nodes k = cond (ltb (length nodes) (y .«node_count»)) (Refused 7 0) (findIn (y .«node_count») nodes k)
+nodeCall y nodes k =
+    cond (overLimit y) (Refused 14 0)
+    (cond (ltb (length nodes) (y .«node_count»)) (Refused 7 0) (findIn (y .«node_count») nodes k))
 
 -- the junction number of the first of these refs for the area a and the number k, in a cell of the area own
 unfoldable pub refIn : ℕ → List (List ℕ) → ℕ → ℕ → Option ℕ
@@ -52,9 +58,10 @@ below count (Refused cause place) = Refused cause place
 
 unfoldable pub junctionOfCall : Ynd → List (List ℕ) → List (List ℕ) → ℕ → ℕ → Place
 junctionOfCall y nodes refs a k =
-    cond (ltb (length nodes) (y .«node_count»)) (Refused 7 0)
+    cond (overLimit y) (Refused 14 0)
+    (cond (ltb (length nodes) (y .«node_count»)) (Refused 7 0)
     (cond (ltb (length refs) (y .«ref_count»)) (Refused 7 4)
-    (below (y .«junction_count») (placeOf (refIn (firstArea (take (y .«node_count») nodes)) (take (y .«ref_count») refs) a k))))
+    (below (y .«junction_count») (placeOf (refIn (firstArea (take (y .«node_count») nodes)) (take (y .«ref_count») refs) a k)))))
 
 -- the junction at a place that the call answered
 abbrev pub atPlace : List Junction → Place → Option Junction

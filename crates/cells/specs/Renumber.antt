@@ -2,13 +2,14 @@
 -- The scratch is not part of the state (`scratchLeft`). Junctions and heightmaps are lent to be counted and stay.
 use Prim.Native.Nat.{ℕ}
 use mathlib.Core.Path.{_≡_}
+use mathlib.Core.Bool.{Bool}
 use mathlib.Core.List.{List, [], _∷_, _++_, map}
 use lib.Dec.{ltb}
 use lib.ListN.{length, take, drop}
 use Rattle.numbers.specs.Refusals.{when, decided}
 use Rattle.cells.specs.Order.{keep, newPlaces}
 use Rattle.cells.specs.NodeWords.{isPed, isVehicle, reordered, oldOf, relinked}
-use Rattle.cells.specs.Memory.{Memory, memory, short}
+use Rattle.cells.specs.Memory.{Memory, memory, overLimit, short}
 use Rattle.cells.specs.declared.ynd.Ynd.{Ynd}
 use Rattle.cells.specs.declared.ynd.Outcome.{Outcome}
 use Rattle.numbers.specs.declared.answer.Answer.{Answer}
@@ -67,11 +68,11 @@ recounted y v p = record {
   «ref_count» = y .«ref_count»;
 }
 
--- too many nodes (14); a list shorter than its count (7, its place); scratch and new places too short (7, places 6 and 7)
-unfoldable pub answerOf : ℕ → ℕ → ℕ → ℕ → Answer
-answerOf n lack scratch places =
+-- over a limit (14); a list shorter than its count (7, its place); scratch and new places too short (7, places 6 and 7)
+unfoldable pub answerOf : Bool → ℕ → ℕ → ℕ → ℕ → Answer
+answerOf over n lack scratch places =
     decided
-    (when (ltb 65536 n) 14 0
+    (when over 14 0
     ∷ when (ltb lack 5) 7 lack
     ∷ when (ltb scratch 65536) 7 6
     ∷ when (ltb places n) 7 7
@@ -94,7 +95,7 @@ leftBy (Refused cause place) m places = record { answer = Refused cause place; m
 
 -- the whole call, with a scratch of this many entries and a list for the new places
 unfoldable pub renumber : Memory → ℕ → List ℕ → Renumbered
-renumber m scratch places = leftBy (answerOf (m .ynd .«node_count») (short m) scratch (length places)) m places
+renumber m scratch places = leftBy (answerOf (overLimit (m .ynd)) (m .ynd .«node_count») (short m) scratch (length places)) m places
 
 -- The scratch: a refused call leaves it as it was. After an accepted one it is free (section 4, "Contracts and their sham
 -- rivals"): it is as long as it was, and may hold anything.

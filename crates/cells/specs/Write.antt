@@ -1,4 +1,4 @@
--- The call: refusals in their order, then the section.
+-- The call: refusals in their order (14, 8 to 11, 7), then the section. Refs are counted by the struct.
 use Prim.Native.Nat.{ℕ}
 use mathlib.Core.Bool.{Bool, cond}
 use mathlib.Core.List.{List, _++_}
@@ -10,7 +10,7 @@ use Rattle.cells.specs.declared.count.Total.{Total}
 use Rattle.cells.specs.declared.count.Total.the-variants.{Sum, Refused}
 use Rattle.cells.specs.declared.write.Written.{Written}
 use Rattle.cells.specs.declared.write.Written.the-variants as written
-use Rattle.cells.specs.Memory.{Memory, memory, short}
+use Rattle.cells.specs.Memory.{Memory, memory, overLimit, short}
 use Rattle.cells.specs.Blocks.{written}
 
 -- what a call answers, and the section after it
@@ -46,11 +46,12 @@ stored h s =
 -- the cell h written into s, where the list `lack` is too short, or none is (5)
 unfoldable pub writeHeld : Memory → ℕ → List ℕ → WriteLeft
 writeHeld h lack s =
-    after (checkNodes (λ n. length (linksIn (h .links) n)) 0 0 (h .nodes)) s
+    orElse (overLimit (h .ynd)) (refuse 14 0 s)
+    (after (checkNodes (λ n. length (linksIn (h .links) n)) 0 0 (h .nodes)) s
     (after (checkJunctions (λ j. length (valuesIn (h .heights) j)) 0 0 (h .junctions)) s
-    (orElse (ltb 65535 (length (h .refs))) (refuse 11 0 s)
+    (orElse (ltb 65535 (h .ynd .«ref_count»)) (refuse 11 0 s)
     (orElse (ltb lack 5) (refuse 7 lack s)
-    (stored h s))))
+    (stored h s)))))
 
 unfoldable pub writeCall : Memory → List ℕ → WriteLeft
 writeCall m s = writeHeld (held m) (short m) s

@@ -2,7 +2,7 @@
 ghost use mathlib.Core.Path.{_≡_};
 ghost use mathlib.Core.List.{List};
 ghost use Prim.Native.Nat.{ℕ, _+_, _<_};
-ghost use Rattle.cells.specs.Memory.{memory, left};
+ghost use Rattle.cells.specs.Memory.{memory, left, overLimit};
 ghost use Rattle.cells.specs.Add.{roomForJunction, addJunction};
 use crate::junction::JunctionWords;
 use crate::junction::PathJunction;
@@ -10,12 +10,14 @@ use crate::junction::junction_words;
 use crate::range::map_size;
 use crate::range::start_at;
 use crate::recount::with_counts;
+use crate::room::over_limit;
 use crate::ynd::Outcome;
 use crate::ynd::Ynd;
 use numbers::answer::Answer;
 use records::put::put_bytes;
 
 fn room_for_junction(
+    ynd: Ynd,
     n: usize,
     h: usize,
     size: usize,
@@ -24,8 +26,11 @@ fn room_for_junction(
     heights: usize,
 ) -> Answer
     requires { ⌜ h + v < 18446744073709551616 ⌝ }
-    ensures { λ a. ⌜ a ≡ roomForJunction n h size v junctions heights ⌝ }
+    ensures { λ a. ⌜ a ≡ roomForJunction (overLimit ynd) n h size v junctions heights ⌝ }
 {
+    if over_limit(ynd) {
+        return Answer::Refused(14, 0);
+    }
     if 4096 <= n {
         return Answer::Refused(14, 0);
     }
@@ -58,7 +63,15 @@ pub fn add_junction(
     let n = ynd.junction_count as usize;
     let h = ynd.heightmap_count as usize;
     let size = map_size(j.width, j.height);
-    let a = room_for_junction(n, h, size, values.len(), junctions.len(), heights.len());
+    let a = room_for_junction(
+        ynd,
+        n,
+        h,
+        size,
+        values.len(),
+        junctions.len(),
+        heights.len(),
+    );
     let Answer::Done = a else {
         return Outcome { answer: a, ynd };
     };

@@ -3,7 +3,7 @@ ghost use mathlib.Core.Path.{_≡_};
 ghost use mathlib.Core.List.{List};
 ghost use Prim.Native.Nat.{ℕ, _+_, _<_, _≤_};
 ghost use lib.ListN.{length};
-ghost use Rattle.cells.specs.Memory.{memory, left};
+ghost use Rattle.cells.specs.Memory.{memory, left, overLimit};
 ghost use Rattle.cells.specs.AddLink.{heldAt, behind, atIn, inserted, nodesAfter, roomForLink, addLink, LinkRoom};
 use crate::link::LinkWords;
 use crate::link::PathLink;
@@ -13,6 +13,7 @@ use crate::range::held_in;
 use crate::range::link_range;
 use crate::range::link_start;
 use crate::recount::with_counts;
+use crate::room::over_limit;
 use crate::shift::shift_all;
 use crate::shift::with_range;
 use crate::ynd::Outcome;
@@ -68,11 +69,22 @@ fn place_link(
     insert(links, at, l, link);
 }
 
-fn room_for_link(n: usize, l: usize, p: usize, e: usize, nodes: usize, links: usize) -> Answer
-    ensures { λ a. ⌜ a ≡ roomForLink n l p e nodes links ⌝ }
+fn room_for_link(
+    ynd: Ynd,
+    n: usize,
+    l: usize,
+    p: usize,
+    e: usize,
+    nodes: usize,
+    links: usize,
+) -> Answer
+    ensures { λ a. ⌜ a ≡ roomForLink (overLimit ynd) n l p e nodes links ⌝ }
 {
     if n <= p {
         return Answer::Refused(13, 0);
+    }
+    if over_limit(ynd) {
+        return Answer::Refused(14, 0);
     }
     if 4294967295 <= l {
         return Answer::Refused(14, 0);
@@ -103,7 +115,7 @@ pub fn add_link(
     let n = ynd.node_count as usize;
     let l = ynd.link_count as usize;
     let e = held_in(link_range(nodes, place), l);
-    let a = room_for_link(n, l, place, e, nodes.len(), links.len());
+    let a = room_for_link(ynd, n, l, place, e, nodes.len(), links.len());
     let Answer::Done = a else {
         return Outcome { answer: a, ynd };
     };

@@ -20,7 +20,7 @@ pub fn add_node(ynd: Ynd, nodes: &mut [NodeWords], area_id: u16, position: Vec3)
         left r (now (nodes .exit)) links junctions heights refs ≡ addNode (memory ynd (now (nodes .entry)) links junctions heights refs) «area_id» position) ⌝ }
 {
     let n = ynd.node_count as usize;
-    let a = room_for(65536, n, nodes.len(), 0);
+    let a = room_for(ynd, 65536, n, nodes.len(), 0);
     let Answer::Done = a else {
         return Outcome { answer: a, ynd };
     };

@@ -19,7 +19,7 @@ pub fn add_ref(ynd: Ynd, refs: &mut [RefWords], r: NodeJunctionRef) -> Outcome
         left o nodes links junctions heights (now (refs .exit)) ≡ addRef (memory ynd nodes links junctions heights (now (refs .entry))) r) ⌝ }
 {
     let n = ynd.ref_count as usize;
-    let a = room_for(4294967295, n, refs.len(), 4);
+    let a = room_for(ynd, 4294967295, n, refs.len(), 4);
     let Answer::Done = a else {
         return Outcome { answer: a, ynd };
     };

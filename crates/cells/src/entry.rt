@@ -1,5 +1,8 @@
 // The entry of a lent list that a place names.
 ghost use mathlib.Core.Path.{_≡_};
+ghost use mathlib.Core.Bool.{not, _&&_};
+ghost use lib.Dec.{eqb, ltb, leb};
+ghost use Rattle.cells.specs.Memory.{overLimit};
 ghost use Rattle.cells.specs.Edit.{entryAt, rangeEntry, linkEntry, sizedEntry, heightEntry};
 use crate::junction::JunctionWords;
 use crate::node::NodeWords;
@@ -7,6 +10,7 @@ use crate::range::Range;
 use crate::range::held_in;
 use crate::range::link_range;
 use crate::range::value_range;
+use crate::room::over_limit;
 use crate::ynd::Ynd;
 
 pub enum Entry {
@@ -15,11 +19,14 @@ pub enum Entry {
 }
 
 // The entry at a place of n.
-pub(crate) fn entry_at(n: usize, len: usize, list: usize, place: usize) -> Entry
-    ensures { λ r. ⌜ r ≡ entryAt n len list place ⌝ }
+pub(crate) fn entry_at(ynd: Ynd, n: usize, len: usize, list: usize, place: usize) -> Entry
+    ensures { λ r. ⌜ r ≡ entryAt (overLimit ynd) n len list place ⌝ }
 {
     if n <= place {
         return Entry::Refused(13, 0);
+    }
+    if over_limit(ynd) {
+        return Entry::Refused(14, 0);
     }
     if len < n {
         return Entry::Refused(7, list);
@@ -27,8 +34,29 @@ pub(crate) fn entry_at(n: usize, len: usize, list: usize, place: usize) -> Entry
     Entry::At(place)
 }
 
+// Whether the place is lent, and its range has no entry k.
+fn none_there(place: usize, len: usize, held: usize, k: usize) -> bool
+    ensures { λ r. ⌜ r ≡ (ltb place len && leb held k) ⌝ }
+{
+    if place < len {
+        return held <= k;
+    }
+    false
+}
+
+// Whether the place is lent, and has another number of values.
+fn resized(place: usize, len: usize, values: usize, held: usize) -> bool
+    ensures { λ r. ⌜ r ≡ (ltb place len && not (eqb values held)) ⌝ }
+{
+    if place < len {
+        return values != held;
+    }
+    false
+}
+
 // Entry k of a range that belongs to a place of n and lies among l entries of a pool; a and b are the places of the two lists.
 fn range_entry(
+    ynd: Ynd,
     n: usize,
     len: usize,
     a: usize,
@@ -39,13 +67,16 @@ fn range_entry(
     r: Range,
     k: usize,
 ) -> Entry
-    ensures { λ e. ⌜ e ≡ rangeEntry n len a l pool b place r k ⌝ }
+    ensures { λ e. ⌜ e ≡ rangeEntry (overLimit ynd) n len a l pool b place r k ⌝ }
 {
     if n <= place {
         return Entry::Refused(13, 0);
     }
-    if held_in(r, l) <= k {
+    if none_there(place, len, held_in(r, l), k) {
         return Entry::Refused(13, 0);
+    }
+    if over_limit(ynd) {
+        return Entry::Refused(14, 0);
     }
     if len < n {
         return Entry::Refused(7, a);
@@ -69,7 +100,7 @@ pub(crate) fn link_entry(
     let n = ynd.node_count as usize;
     let l = ynd.link_count as usize;
     let r = link_range(nodes, place);
-    range_entry(n, nodes.len(), 0, l, links, 1, place, r, k)
+    range_entry(ynd, n, nodes.len(), 0, l, links, 1, place, r, k)
 }
 
 // Value k of the junction at a place.
@@ -85,17 +116,27 @@ pub(crate) fn height_entry(
     let n = ynd.junction_count as usize;
     let h = ynd.heightmap_count as usize;
     let r = value_range(junctions, place);
-    range_entry(n, junctions.len(), 2, h, heights, 3, place, r, k)
+    range_entry(ynd, n, junctions.len(), 2, h, heights, 3, place, r, k)
 }
 
 // The junction at a place of n that has as many values.
-pub(crate) fn sized_entry(n: usize, len: usize, place: usize, values: usize, held: usize) -> Entry
-    ensures { λ e. ⌜ e ≡ sizedEntry n len place values held ⌝ }
+pub(crate) fn sized_entry(
+    ynd: Ynd,
+    n: usize,
+    len: usize,
+    place: usize,
+    values: usize,
+    held: usize,
+) -> Entry
+    ensures { λ e. ⌜ e ≡ sizedEntry (overLimit ynd) n len place values held ⌝ }
 {
     if n <= place {
         return Entry::Refused(13, 0);
     }
-    if values != held {
+    if over_limit(ynd) {
+        return Entry::Refused(14, 0);
+    }
+    if resized(place, len, values, held) {
         return Entry::Refused(12, 0);
     }
     if len < n {

@@ -48,7 +48,7 @@ pub enum GotHeight {
 pub fn get_node(ynd: Ynd, nodes: &[NodeWords], place: usize) -> GotNode
     ensures { λ r. ⌜ r ≡ gotNode (nodeEntry ynd (now (nodes .entry)) place) (now (nodes .entry)) ⌝ }
 {
-    let e = entry_at(ynd.node_count as usize, nodes.len(), 0, place);
+    let e = entry_at(ynd, ynd.node_count as usize, nodes.len(), 0, place);
     match e {
         Entry::At(i) => GotNode::Node(node_of(nodes[i])),
         Entry::Refused(cause, at) => GotNode::Refused(cause, at),
@@ -75,7 +75,7 @@ pub fn get_link(
 pub fn get_ref(ynd: Ynd, refs: &[RefWords], place: usize) -> GotRef
     ensures { λ r. ⌜ r ≡ gotRef (refEntry ynd (now (refs .entry)) place) (now (refs .entry)) ⌝ }
 {
-    let e = entry_at(ynd.ref_count as usize, refs.len(), 4, place);
+    let e = entry_at(ynd, ynd.ref_count as usize, refs.len(), 4, place);
     match e {
         Entry::At(i) => GotRef::Ref(ref_of(refs[i])),
         Entry::Refused(cause, at) => GotRef::Refused(cause, at),
@@ -85,7 +85,7 @@ pub fn get_ref(ynd: Ynd, refs: &[RefWords], place: usize) -> GotRef
 pub fn get_junction(ynd: Ynd, junctions: &[JunctionWords], place: usize) -> GotJunction
     ensures { λ r. ⌜ r ≡ gotJunction (junctionEntry ynd (now (junctions .entry)) place) (now (junctions .entry)) ⌝ }
 {
-    let e = entry_at(ynd.junction_count as usize, junctions.len(), 2, place);
+    let e = entry_at(ynd, ynd.junction_count as usize, junctions.len(), 2, place);
     match e {
         Entry::At(i) => GotJunction::Junction(path_junction_of(junctions[i])),
         Entry::Refused(cause, at) => GotJunction::Refused(cause, at),

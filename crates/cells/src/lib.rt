@@ -34,7 +34,7 @@ mod recount;
 mod relink;
 pub mod renumber;
 mod replace;
-mod room;
+pub mod room;
 mod room_check;
 mod shift;
 pub mod special;

@@ -13,6 +13,7 @@ use crate::junction_ref::RefWords;
 use crate::node::NodeWords;
 use crate::node_words::area_of;
 use crate::node_words::number_of;
+use crate::room::over_limit;
 use crate::ynd::Ynd;
 
 pub enum OwnArea {
@@ -31,6 +32,9 @@ pub enum Place {
 pub fn area_id(ynd: Ynd, nodes: &[NodeWords]) -> OwnArea
     ensures { λ r. ⌜ r ≡ areaIdCall ynd (now (nodes .entry)) ⌝ }
 {
+    if over_limit(ynd) {
+        return OwnArea::Refused(14, 0);
+    }
     let n = ynd.node_count as usize;
     if nodes.len() < n {
         return OwnArea::Refused(7, 0);
@@ -76,6 +80,9 @@ fn find_in(nodes: &[NodeWords], n: usize, node_id: u16) -> Place
 pub fn node(ynd: Ynd, nodes: &[NodeWords], node_id: u16) -> Place
     ensures { λ r. ⌜ r ≡ nodeCall ynd (now (nodes .entry)) «node_id» ⌝ }
 {
+    if over_limit(ynd) {
+        return Place::Refused(14, 0);
+    }
     let n = ynd.node_count as usize;
     if nodes.len() < n {
         return Place::Refused(7, 0);
@@ -141,6 +148,9 @@ pub fn junction_of(
 ) -> Place
     ensures { λ r. ⌜ r ≡ junctionOfCall ynd (now (nodes .entry)) (now (refs .entry)) «area_id» «node_id» ⌝ }
 {
+    if over_limit(ynd) {
+        return Place::Refused(14, 0);
+    }
     let n = ynd.node_count as usize;
     let r = ynd.ref_count as usize;
     if nodes.len() < n {

@@ -43,7 +43,7 @@ fn range_kept(n: PathNode, w: NodeWords) -> PathNode
 pub fn put_node(ynd: Ynd, nodes: &mut [NodeWords], place: usize, n: PathNode) -> Answer
     ensures { λ r. ⌜ stored r (now (nodes .exit)) ≡ putNode ynd (now (nodes .entry)) place n ⌝ }
 {
-    let e = entry_at(ynd.node_count as usize, nodes.len(), 0, place);
+    let e = entry_at(ynd, ynd.node_count as usize, nodes.len(), 0, place);
     match e {
         Entry::At(i) => {
             let kept = range_kept(n, nodes[i]);
@@ -58,7 +58,7 @@ pub fn put_node(ynd: Ynd, nodes: &mut [NodeWords], place: usize, n: PathNode) ->
 pub fn set_position(ynd: Ynd, nodes: &mut [NodeWords], place: usize, p: Vec3) -> Answer
     ensures { λ r. ⌜ stored r (now (nodes .exit)) ≡ setPosition ynd (now (nodes .entry)) place p ⌝ }
 {
-    let e = entry_at(ynd.node_count as usize, nodes.len(), 0, place);
+    let e = entry_at(ynd, ynd.node_count as usize, nodes.len(), 0, place);
     match e {
         Entry::At(i) => {
             let n = node_of(nodes[i]);
@@ -93,7 +93,7 @@ pub fn put_link(
 pub fn put_ref(ynd: Ynd, refs: &mut [RefWords], place: usize, r: NodeJunctionRef) -> Answer
     ensures { λ a. ⌜ stored a (now (refs .exit)) ≡ putRef ynd (now (refs .entry)) place r ⌝ }
 {
-    let e = entry_at(ynd.ref_count as usize, refs.len(), 4, place);
+    let e = entry_at(ynd, ynd.ref_count as usize, refs.len(), 4, place);
     match e {
         Entry::At(i) => {
             refs[i] = ref_words(r);
@@ -115,6 +115,7 @@ pub fn put_junction(
     let n = ynd.junction_count as usize;
     let old = value_range(junctions, place);
     let e = sized_entry(
+        ynd,
         n,
         junctions.len(),
         place,

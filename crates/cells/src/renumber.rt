@@ -2,7 +2,7 @@
 ghost use mathlib.Core.Path.{_≡_};
 ghost use Prim.Native.Nat.{_≤_};
 ghost use lib.ListN.{length};
-ghost use Rattle.cells.specs.Memory.{memory};
+ghost use Rattle.cells.specs.Memory.{memory, overLimit};
 ghost use Rattle.cells.specs.Renumber.{lists, renumberedBy, vehicles, renumberLists, recounted, answerOf, renumber, scratchLeft};
 use crate::junction::JunctionWords;
 use crate::link::LinkWords;
@@ -12,6 +12,7 @@ use crate::order::fill_places;
 use crate::permute::move_nodes;
 use crate::relink::relink_lists;
 use crate::room::lacking;
+use crate::room::over_limit;
 use crate::ynd::Outcome;
 use crate::ynd::Ynd;
 use numbers::answer::Answer;
@@ -41,10 +42,10 @@ fn renumber_lists(
 }
 
 // Whether the call is accepted: `lack` is the first list that is too short.
-fn answer_of(n: usize, lack: usize, scratch: usize, places: usize) -> Answer
-    ensures { λ a. ⌜ a ≡ answerOf n lack scratch places ⌝ }
+fn answer_of(ynd: Ynd, n: usize, lack: usize, scratch: usize, places: usize) -> Answer
+    ensures { λ a. ⌜ a ≡ answerOf (overLimit ynd) n lack scratch places ⌝ }
 {
-    if 65536 < n {
+    if over_limit(ynd) {
         return Answer::Refused(14, 0);
     }
     if lack < 5 {
@@ -96,7 +97,7 @@ pub fn recalculate_node_indices(
         heights.len(),
         refs.len(),
     );
-    let a = answer_of(n, lack, scratch.len(), places.len());
+    let a = answer_of(ynd, n, lack, scratch.len(), places.len());
     let Answer::Done = a else {
         return Outcome { answer: a, ynd };
     };

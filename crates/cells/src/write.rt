@@ -9,7 +9,7 @@ ghost use Rattle.cells.specs.Memory.{memory};
 ghost use Rattle.cells.specs.WriteChecks.{linksWithin, valuesWithin, accepted, checkNodes, checkJunctions};
 ghost use Rattle.cells.specs.Blocks.{linksBlock, heightsBlock, arrays};
 ghost use Rattle.cells.specs.Write.{left, stored, writeHeld, writeCall};
-ghost use Rattle.cells.specs.WriteCounts.{writeCounts, notWritten};
+ghost use Rattle.cells.specs.WriteCounts.{writeCounts, Cut, notWritten};
 ghost use Rattle.cells.specs.declared.count.Counted.the-variants.{Held};
 use crate::blocks::heights_block;
 use crate::blocks::junctions_block;
@@ -127,8 +127,8 @@ fn store(
     refs: &[RefWords],
     section: &mut [u8],
 ) -> Written
-    requires { ⌜ (writeCounts (now nodes) (now links) (now junctions) (now heights) (now refs) ≡ Held k)
-        × (length (now nodes) < 4294967296) × (length (now junctions) < 4294967296) ⌝ }
+    requires { ⌜ (writeCounts ynd (now nodes) (now links) (now junctions) (now heights) (now refs) ≡ Held k)
+        × Cut (memory ynd (now nodes) (now links) (now junctions) (now heights) (now refs)) ⌝ }
     ensures { λ w. ⌜ left w (now (section .exit))
         ≡ stored (memory ynd (now (nodes .entry)) (now (links .entry)) (now (junctions .entry)) (now (heights .entry)) (now (refs .entry))) (now (section .entry)) ⌝ }
 {
@@ -172,11 +172,11 @@ fn write_held(
     refs: &[RefWords],
     section: &mut [u8],
 ) -> Written
-    requires { ⌜ (length (now nodes) < 4294967296) × (length (now junctions) < 4294967296) ⌝ }
+    requires { ⌜ Cut (memory ynd (now nodes) (now links) (now junctions) (now heights) (now refs)) ⌝ }
     ensures { λ w. ⌜ left w (now (section .exit))
         ≡ writeHeld (memory ynd (now (nodes .entry)) (now (links .entry)) (now (junctions .entry)) (now (heights .entry)) (now (refs .entry))) lack (now (section .entry)) ⌝ }
 {
-    let a = write_counts(nodes, links, junctions, heights, refs);
+    let a = write_counts(ynd, nodes, links, junctions, heights, refs);
     let Counted::Held(k) = a else {
         return not_written(a);
     };

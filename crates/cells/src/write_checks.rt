@@ -1,4 +1,4 @@
-// The checks before writing: 8 and 9 node by node, 10 junction by junction, then 11.
+// The checks before writing: 14, 8 and 9 node by node, 10 junction by junction, then 11.
 ghost use mathlib.Core.Path.{_≡_};
 ghost use Prim.Native.Nat.{_<_};
 ghost use Rattle.cells.specs.WriteChecks.{linksWithin, valuesWithin, checkNodes, checkJunctions};
@@ -16,6 +16,8 @@ use crate::range::link_count;
 use crate::range::link_start;
 use crate::range::value_count;
 use crate::range::value_start;
+use crate::room::over_limit;
+use crate::ynd::Ynd;
 
 pub(crate) fn wide(x: u32) -> usize
     ensures { λ r. ⌜ r ≡ x ⌝ }
@@ -74,16 +76,20 @@ pub(crate) fn check_junctions(junctions: &[JunctionWords], pool: usize) -> Total
     Total::Sum(before)
 }
 
-// 8 to 11, of the cell whose entries these are. Else how much there is to write.
+// 14 and 8 to 11, of the cell whose entries these are. Else how much there is to write.
 pub(crate) fn write_counts(
+    ynd: Ynd,
     nodes: &[NodeWords],
     links: &[LinkWords],
     junctions: &[JunctionWords],
     heights: &[u8],
     refs: &[RefWords],
 ) -> Counted
-    ensures { λ r. ⌜ r ≡ writeCounts (now (nodes .entry)) (now (links .entry)) (now (junctions .entry)) (now (heights .entry)) (now (refs .entry)) ⌝ }
+    ensures { λ r. ⌜ r ≡ writeCounts ynd (now (nodes .entry)) (now (links .entry)) (now (junctions .entry)) (now (heights .entry)) (now (refs .entry)) ⌝ }
 {
+    if over_limit(ynd) {
+        return Counted::Refused(14, 0);
+    }
     let a = check_nodes(nodes, links.len());
     let Total::Sum(l) = a else {
         return refused(a);
@@ -92,7 +98,7 @@ pub(crate) fn write_counts(
     let Total::Sum(v) = b else {
         return refused(b);
     };
-    if 65535 < refs.len() {
+    if 65535 < ynd.ref_count {
         return Counted::Refused(11, 0);
     }
     Counted::Held(Counts {

@@ -1,6 +1,6 @@
 // Write-then-read: the cell written, and the bytes just written read into the cell's own memory.
 ghost use mathlib.Core.Path.{_≡_};
-ghost use Prim.Native.Nat.{_≤_, _<_};
+ghost use Prim.Native.Nat.{_≤_};
 ghost use mathlib.Core.List.{[]};
 ghost use lib.ListN.{length, take};
 ghost use Rattle.cells.specs.Lists.{sumTo};
@@ -9,6 +9,7 @@ ghost use Rattle.cells.specs.Memory.{memory, left};
 ghost use Rattle.cells.specs.Read.{readOf};
 ghost use Rattle.cells.specs.Blocks.{heightsBlock};
 ghost use Rattle.cells.specs.Write.{held, writeCall};
+ghost use Rattle.cells.specs.WriteCounts.{Cut};
 ghost use Rattle.cells.specs.WriteRead.{writeReadOf};
 ghost use Rattle.cells.specs.BackCheck.{areaAt, lacks, lengths, backTests};
 ghost use Rattle.cells.specs.BackAnswer.{backAnswer};
@@ -62,26 +63,11 @@ fn check_values(junctions: &[JunctionWords], heights: &[u8], total: usize) -> To
     Total::Sum(sum)
 }
 
-// Whether `total` bytes with k entries can be read back into lists of so many.
-fn back_check(
-    k: Counts,
-    total: usize,
-    lent: Counts,
-    junctions: &[JunctionWords],
-    heights: &[u8],
-) -> Answer
-    requires { ⌜ (k .junctions ≡ length (now junctions)) × (k .heights ≡ length (heightsBlock (now heights) (now junctions))) × (k .heights ≤ 130560) ⌝ }
-    ensures { λ r. ⌜ r ≡ backTests total k (now (heights .entry)) (now (junctions .entry)) lent ⌝ }
+// Whether k entries, written, can be read back into lists of so many.
+fn back_check(k: Counts, lent: Counts, junctions: &[JunctionWords], heights: &[u8]) -> Answer
+    requires { ⌜ (length (now junctions) ≤ 4096) × (k .heights ≡ length (heightsBlock (now heights) (now junctions))) × (k .heights ≤ 130560) ⌝ }
+    ensures { λ r. ⌜ r ≡ backTests k (now (heights .entry)) (now (junctions .entry)) lent ⌝ }
 {
-    if 16777216 < total {
-        return Answer::Refused(2, 0);
-    }
-    if 65536 < k.nodes {
-        return Answer::Refused(6, 0);
-    }
-    if 4096 < k.junctions {
-        return Answer::Refused(6, 1);
-    }
     let a = check_values(junctions, heights, k.heights);
     match a {
         Total::Refused(cause, place) => Answer::Refused(cause, place),
@@ -113,10 +99,10 @@ fn answer_held(
     refs: &[RefWords],
     section: usize,
 ) -> Written
-    requires { ⌜ (length (now nodes) < 4294967296) × (length (now junctions) < 4294967296) ⌝ }
+    requires { ⌜ Cut (memory ynd (now nodes) (now links) (now junctions) (now heights) (now refs)) ⌝ }
     ensures { λ r. ⌜ r ≡ backAnswer (memory ynd (now (nodes .entry)) (now (links .entry)) (now (junctions .entry)) (now (heights .entry)) (now (refs .entry))) lent section ⌝ }
 {
-    let a = write_counts(nodes, links, junctions, heights, refs);
+    let a = write_counts(ynd, nodes, links, junctions, heights, refs);
     let Counted::Held(k) = a else {
         return not_written(a);
     };
@@ -136,7 +122,7 @@ fn answer_held(
     if section < total {
         return Written::Refused(7, 5);
     }
-    let b = back_check(k, total, lent, junctions, heights);
+    let b = back_check(k, lent, junctions, heights);
     match b {
         Answer::Refused(cause, place) => Written::Refused(cause, place),
         Answer::Done => Written::Wrote(total),

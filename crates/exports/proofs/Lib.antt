@@ -1,3 +1,2 @@
 -- Laws that the proofs of the calls share.
 pub mod Calls
-pub mod CopiedValues

@@ -32,6 +32,8 @@ use Rattle.walks.specs.declared.shown.ShownNode.{ShownNode}
 use Rattle.walks.specs.declared.shown.ShownNode.the-variants as shown-node
 use Rattle.walks.specs.declared.shown.ShownJunction.{ShownJunction}
 use Rattle.walks.specs.declared.shown.ShownJunction.the-variants as shown-junction
+use Rattle.walks.specs.declared.shown.ShownValues.{ShownValues}
+use Rattle.walks.specs.declared.shown.ShownValues.the-variants as shown-values
 use Rattle.walks.specs.declared.shown.ShownLink.{ShownLink}
 use Rattle.walks.specs.declared.shown.ShownLink.the-variants as shown-link
 use Rattle.walks.specs.declared.sound.Soundness.{Soundness}
@@ -146,6 +148,11 @@ shownNodeTold (shown-node.Refused n p) old = told n p old
 abbrev pub shownJunctionTold : ShownJunction → List ℕ → Told (List ℕ)
 shownJunctionTold (shown-junction.Junction j) old = told 0 0 (j .x ∷ j .y ∷ j .«min_z» ∷ j .«max_z» ∷ j .width ∷ j .height ∷ [])
 shownJunctionTold (shown-junction.Refused n p) old = told n p old
+
+-- how many values were copied
+abbrev pub shownValuesTold : ShownValues → ℕ → Told ℕ
+shownValuesTold (shown-values.Copied k) old = told 0 0 k
+shownValuesTold (shown-values.Refused n p) old = told n p old
 
 -- 1, three flags and length where there is such a link, else five zeros
 abbrev pub shownLinkTold : ShownLink → List ℕ → Told (List ℕ)

@@ -4,4 +4,3 @@ pub mod Cells
 pub mod Found
 pub mod Near
 pub mod Parts
-pub mod Values

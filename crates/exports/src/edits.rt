@@ -6,6 +6,7 @@ use crate::words::ynd_of;
 use cells::junction::path_junction_of;
 use cells::junction_ref::ref_of;
 use cells::link::link_of;
+use cells::node::NodeWords;
 use numbers::math::Vec3;
 ghost use mathlib.Core.Path.{_≡_};
 ghost use mathlib.Core.List.{List};
@@ -19,7 +20,7 @@ ghost use Rattle.exports.specs.Cells.{lent, called, callOf};
 #[no_mangle]
 pub extern "C" fn ynd_add_node(
     ynd: &mut [u32; 15],
-    nodes: &mut [[u32; 8]],
+    nodes: &mut [NodeWords],
     area_id: u16,
     x: f32,
     y: f32,
@@ -46,7 +47,7 @@ pub extern "C" fn ynd_add_node(
 #[no_mangle]
 pub extern "C" fn ynd_add_link(
     ynd: &mut [u32; 15],
-    nodes: &mut [[u32; 8]],
+    nodes: &mut [NodeWords],
     links: &mut [[u16; 4]],
     at: usize,
     link: &[u16; 4],

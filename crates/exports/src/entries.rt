@@ -13,6 +13,7 @@ use cells::junction_ref::ref_of;
 use cells::junction_ref::ref_words;
 use cells::link::link_of;
 use cells::link::link_words;
+use cells::node::NodeWords;
 use cells::node::node_of;
 use cells::node::node_words;
 use numbers::math::Vec3;
@@ -27,9 +28,9 @@ ghost use Rattle.exports.specs.Found.{told, storedTold, nodeTold, linkTo
 #[no_mangle]
 pub extern "C" fn ynd_get_node(
     ynd: &[u32; 15],
-    nodes: &[[u32; 8]],
+    nodes: &[NodeWords],
     at: usize,
-    node: &mut [u32; 8],
+    node: &mut NodeWords,
     place: &mut usize,
 ) -> u32
     ensures { λ r. ⌜ told r (now (place .exit)) (now (node .exit))
@@ -54,7 +55,7 @@ pub extern "C" fn ynd_get_node(
 #[no_mangle]
 pub extern "C" fn ynd_get_link(
     ynd: &[u32; 15],
-    nodes: &[[u32; 8]],
+    nodes: &[NodeWords],
     links: &[[u16; 4]],
     at: usize,
     k: usize,
@@ -165,9 +166,9 @@ pub extern "C" fn ynd_get_height(
 #[no_mangle]
 pub extern "C" fn ynd_put_node(
     ynd: &[u32; 15],
-    nodes: &mut [[u32; 8]],
+    nodes: &mut [NodeWords],
     at: usize,
-    node: &[u32; 8],
+    node: &NodeWords,
     place: &mut usize,
 ) -> u32
     ensures { λ r. ⌜ told r (now (place .exit)) (now (nodes .exit))
@@ -184,7 +185,7 @@ pub extern "C" fn ynd_put_node(
 #[no_mangle]
 pub extern "C" fn ynd_set_position(
     ynd: &[u32; 15],
-    nodes: &mut [[u32; 8]],
+    nodes: &mut [NodeWords],
     at: usize,
     x: f32,
     y: f32,
@@ -204,7 +205,7 @@ pub extern "C" fn ynd_set_position(
 #[no_mangle]
 pub extern "C" fn ynd_put_link(
     ynd: &[u32; 15],
-    nodes: &[[u32; 8]],
+    nodes: &[NodeWords],
     links: &mut [[u16; 4]],
     at: usize,
     k: usize,

@@ -2,6 +2,7 @@
 use crate::words::ynd_of;
 use cells::lookup::OwnArea;
 use cells::lookup::Place;
+use cells::node::NodeWords;
 ghost use mathlib.Core.Path.{_≡_};
 ghost use Rattle.cells.specs.LookupCall.{areaIdCall, nodeCall, junctionOfCall};
 ghost use Rattle.exports.specs.Cells.{toYnd};
@@ -11,7 +12,7 @@ ghost use Rattle.exports.specs.Found.{told, whether, placeTold, areaTold
 #[no_mangle]
 pub extern "C" fn ynd_node(
     ynd: &[u32; 15],
-    nodes: &[[u32; 8]],
+    nodes: &[NodeWords],
     node_id: u16,
     found: &mut bool,
     at: &mut usize,
@@ -45,7 +46,7 @@ pub extern "C" fn ynd_node(
 #[no_mangle]
 pub extern "C" fn ynd_junction_of(
     ynd: &[u32; 15],
-    nodes: &[[u32; 8]],
+    nodes: &[NodeWords],
     refs: &[[u16; 4]],
     area_id: u16,
     node_id: u16,
@@ -81,7 +82,7 @@ pub extern "C" fn ynd_junction_of(
 #[no_mangle]
 pub extern "C" fn ynd_area_of_cell(
     ynd: &[u32; 15],
-    nodes: &[[u32; 8]],
+    nodes: &[NodeWords],
     found: &mut bool,
     area: &mut u32,
     place: &mut usize,

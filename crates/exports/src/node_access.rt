@@ -1,4 +1,5 @@
 // The fields of a node's flags. A node is lent as its words.
+use cells::node::NodeWords;
 use cells::node::PathNode;
 use cells::node::node_of;
 use cells::node::node_words;
@@ -15,7 +16,7 @@ ghost use Rattle.cells.specs.Words.{toNode, nodeWords};
 ghost use Rattle.numbers.specs.Positions.{quantised, dequantised};
 
 #[no_mangle]
-pub extern "C" fn ynd_node_off_road(node: &[u32; 8]) -> bool
+pub extern "C" fn ynd_node_off_road(node: &NodeWords) -> bool
     ensures { λ r. ⌜ r ≡ hasBit 3 ((toNode (now (node .entry))) .flags0) ⌝ }
 {
     let n = node_of(*node);
@@ -23,7 +24,7 @@ pub extern "C" fn ynd_node_off_road(node: &[u32; 8]) -> bool
 }
 
 #[no_mangle]
-pub extern "C" fn ynd_node_no_big_vehicles(node: &[u32; 8]) -> bool
+pub extern "C" fn ynd_node_no_big_vehicles(node: &NodeWords) -> bool
     ensures { λ r. ⌜ r ≡ hasBit 5 ((toNode (now (node .entry))) .flags0) ⌝ }
 {
     let n = node_of(*node);
@@ -31,7 +32,7 @@ pub extern "C" fn ynd_node_no_big_vehicles(node: &[u32; 8]) -> bool
 }
 
 #[no_mangle]
-pub extern "C" fn ynd_node_cannot_go_left(node: &[u32; 8]) -> bool
+pub extern "C" fn ynd_node_cannot_go_left(node: &NodeWords) -> bool
     ensures { λ r. ⌜ r ≡ hasBit 7 ((toNode (now (node .entry))) .flags0) ⌝ }
 {
     let n = node_of(*node);
@@ -39,7 +40,7 @@ pub extern "C" fn ynd_node_cannot_go_left(node: &[u32; 8]) -> bool
 }
 
 #[no_mangle]
-pub extern "C" fn ynd_node_slip_road(node: &[u32; 8]) -> bool
+pub extern "C" fn ynd_node_slip_road(node: &NodeWords) -> bool
     ensures { λ r. ⌜ r ≡ hasBit 0 ((toNode (now (node .entry))) .flags1) ⌝ }
 {
     let n = node_of(*node);
@@ -47,7 +48,7 @@ pub extern "C" fn ynd_node_slip_road(node: &[u32; 8]) -> bool
 }
 
 #[no_mangle]
-pub extern "C" fn ynd_node_indicate_keep_left(node: &[u32; 8]) -> bool
+pub extern "C" fn ynd_node_indicate_keep_left(node: &NodeWords) -> bool
     ensures { λ r. ⌜ r ≡ hasBit 1 ((toNode (now (node .entry))) .flags1) ⌝ }
 {
     let n = node_of(*node);
@@ -55,7 +56,7 @@ pub extern "C" fn ynd_node_indicate_keep_left(node: &[u32; 8]) -> bool
 }
 
 #[no_mangle]
-pub extern "C" fn ynd_node_indicate_keep_right(node: &[u32; 8]) -> bool
+pub extern "C" fn ynd_node_indicate_keep_right(node: &NodeWords) -> bool
     ensures { λ r. ⌜ r ≡ hasBit 2 ((toNode (now (node .entry))) .flags1) ⌝ }
 {
     let n = node_of(*node);
@@ -63,7 +64,7 @@ pub extern "C" fn ynd_node_indicate_keep_right(node: &[u32; 8]) -> bool
 }
 
 #[no_mangle]
-pub extern "C" fn ynd_node_left_turns_only(node: &[u32; 8]) -> bool
+pub extern "C" fn ynd_node_left_turns_only(node: &NodeWords) -> bool
     ensures { λ r. ⌜ r ≡ hasBit 7 ((toNode (now (node .entry))) .flags1) ⌝ }
 {
     let n = node_of(*node);
@@ -71,7 +72,7 @@ pub extern "C" fn ynd_node_left_turns_only(node: &[u32; 8]) -> bool
 }
 
 #[no_mangle]
-pub extern "C" fn ynd_node_is_ped_node(node: &[u32; 8]) -> bool
+pub extern "C" fn ynd_node_is_ped_node(node: &NodeWords) -> bool
     ensures { λ r. ⌜ r ≡ pedKind ((toNode (now (node .entry))) .flags1 / 8) ⌝ }
 {
     let n = node_of(*node);
@@ -79,7 +80,7 @@ pub extern "C" fn ynd_node_is_ped_node(node: &[u32; 8]) -> bool
 }
 
 #[no_mangle]
-pub extern "C" fn ynd_node_no_gps(node: &[u32; 8]) -> bool
+pub extern "C" fn ynd_node_no_gps(node: &NodeWords) -> bool
     ensures { λ r. ⌜ r ≡ hasBit 0 ((toNode (now (node .entry))) .flags2) ⌝ }
 {
     let n = node_of(*node);
@@ -87,7 +88,7 @@ pub extern "C" fn ynd_node_no_gps(node: &[u32; 8]) -> bool
 }
 
 #[no_mangle]
-pub extern "C" fn ynd_node_is_junction(node: &[u32; 8]) -> bool
+pub extern "C" fn ynd_node_is_junction(node: &NodeWords) -> bool
     ensures { λ r. ⌜ r ≡ hasBit 2 ((toNode (now (node .entry))) .flags2) ⌝ }
 {
     let n = node_of(*node);
@@ -95,7 +96,7 @@ pub extern "C" fn ynd_node_is_junction(node: &[u32; 8]) -> bool
 }
 
 #[no_mangle]
-pub extern "C" fn ynd_node_is_disabled_unk1(node: &[u32; 8]) -> bool
+pub extern "C" fn ynd_node_is_disabled_unk1(node: &NodeWords) -> bool
     ensures { λ r. ⌜ r ≡ hasBit 4 ((toNode (now (node .entry))) .flags2) ⌝ }
 {
     let n = node_of(*node);
@@ -103,7 +104,7 @@ pub extern "C" fn ynd_node_is_disabled_unk1(node: &[u32; 8]) -> bool
 }
 
 #[no_mangle]
-pub extern "C" fn ynd_node_highway(node: &[u32; 8]) -> bool
+pub extern "C" fn ynd_node_highway(node: &NodeWords) -> bool
     ensures { λ r. ⌜ r ≡ hasBit 6 ((toNode (now (node .entry))) .flags2) ⌝ }
 {
     let n = node_of(*node);
@@ -111,7 +112,7 @@ pub extern "C" fn ynd_node_highway(node: &[u32; 8]) -> bool
 }
 
 #[no_mangle]
-pub extern "C" fn ynd_node_is_disabled_unk0(node: &[u32; 8]) -> bool
+pub extern "C" fn ynd_node_is_disabled_unk0(node: &NodeWords) -> bool
     ensures { λ r. ⌜ r ≡ hasBit 7 ((toNode (now (node .entry))) .flags2) ⌝ }
 {
     let n = node_of(*node);
@@ -119,7 +120,7 @@ pub extern "C" fn ynd_node_is_disabled_unk0(node: &[u32; 8]) -> bool
 }
 
 #[no_mangle]
-pub extern "C" fn ynd_node_is_disabled(node: &[u32; 8]) -> bool
+pub extern "C" fn ynd_node_is_disabled(node: &NodeWords) -> bool
     ensures { λ r. ⌜ r ≡ disabled ((toNode (now (node .entry))) .flags2) ⌝ }
 {
     let n = node_of(*node);
@@ -127,7 +128,7 @@ pub extern "C" fn ynd_node_is_disabled(node: &[u32; 8]) -> bool
 }
 
 #[no_mangle]
-pub extern "C" fn ynd_node_tunnel(node: &[u32; 8]) -> bool
+pub extern "C" fn ynd_node_tunnel(node: &NodeWords) -> bool
     ensures { λ r. ⌜ r ≡ hasBit 0 ((toNode (now (node .entry))) .flags3) ⌝ }
 {
     let n = node_of(*node);
@@ -135,7 +136,7 @@ pub extern "C" fn ynd_node_tunnel(node: &[u32; 8]) -> bool
 }
 
 #[no_mangle]
-pub extern "C" fn ynd_node_heuristic_value(node: &[u32; 8]) -> u8
+pub extern "C" fn ynd_node_heuristic_value(node: &NodeWords) -> u8
     ensures { λ r. ⌜ r ≡ fieldOf 1 7 ((toNode (now (node .entry))) .flags3) ⌝ }
 {
     let n = node_of(*node);
@@ -143,7 +144,7 @@ pub extern "C" fn ynd_node_heuristic_value(node: &[u32; 8]) -> u8
 }
 
 #[no_mangle]
-pub extern "C" fn ynd_node_density(node: &[u32; 8]) -> u8
+pub extern "C" fn ynd_node_density(node: &NodeWords) -> u8
     ensures { λ r. ⌜ r ≡ fieldOf 0 4 ((toNode (now (node .entry))) .flags4) ⌝ }
 {
     let n = node_of(*node);
@@ -151,7 +152,7 @@ pub extern "C" fn ynd_node_density(node: &[u32; 8]) -> u8
 }
 
 #[no_mangle]
-pub extern "C" fn ynd_node_dead_endness(node: &[u32; 8]) -> u8
+pub extern "C" fn ynd_node_dead_endness(node: &NodeWords) -> u8
     ensures { λ r. ⌜ r ≡ fieldOf 4 3 ((toNode (now (node .entry))) .flags4) * 16 ⌝ }
 {
     let n = node_of(*node);
@@ -159,7 +160,7 @@ pub extern "C" fn ynd_node_dead_endness(node: &[u32; 8]) -> u8
 }
 
 #[no_mangle]
-pub extern "C" fn ynd_node_set_off_road(node: &mut [u32; 8], on: bool)
+pub extern "C" fn ynd_node_set_off_road(node: &mut NodeWords, on: bool)
     ensures { λ _. ⌜ now (node .exit) ≡ nodeWords (withFlags0 (toNode (now (node .entry))) (withBit 3 ((toNode (now (node .entry))) .flags0) on)) ⌝ }
 {
     let n = node_of(*node);
@@ -168,7 +169,7 @@ pub extern "C" fn ynd_node_set_off_road(node: &mut [u32; 8], on: bool)
 }
 
 #[no_mangle]
-pub extern "C" fn ynd_node_set_no_big_vehicles(node: &mut [u32; 8], on: bool)
+pub extern "C" fn ynd_node_set_no_big_vehicles(node: &mut NodeWords, on: bool)
     ensures { λ _. ⌜ now (node .exit) ≡ nodeWords (withFlags0 (toNode (now (node .entry))) (withBit 5 ((toNode (now (node .entry))) .flags0) on)) ⌝ }
 {
     let n = node_of(*node);
@@ -177,7 +178,7 @@ pub extern "C" fn ynd_node_set_no_big_vehicles(node: &mut [u32; 8], on: bool)
 }
 
 #[no_mangle]
-pub extern "C" fn ynd_node_set_cannot_go_left(node: &mut [u32; 8], on: bool)
+pub extern "C" fn ynd_node_set_cannot_go_left(node: &mut NodeWords, on: bool)
     ensures { λ _. ⌜ now (node .exit) ≡ nodeWords (withFlags0 (toNode (now (node .entry))) (withBit 7 ((toNode (now (node .entry))) .flags0) on)) ⌝ }
 {
     let n = node_of(*node);
@@ -186,7 +187,7 @@ pub extern "C" fn ynd_node_set_cannot_go_left(node: &mut [u32; 8], on: bool)
 }
 
 #[no_mangle]
-pub extern "C" fn ynd_node_set_slip_road(node: &mut [u32; 8], on: bool)
+pub extern "C" fn ynd_node_set_slip_road(node: &mut NodeWords, on: bool)
     ensures { λ _. ⌜ now (node .exit) ≡ nodeWords (withFlags1 (toNode (now (node .entry))) (withBit 0 ((toNode (now (node .entry))) .flags1) on)) ⌝ }
 {
     let n = node_of(*node);
@@ -195,7 +196,7 @@ pub extern "C" fn ynd_node_set_slip_road(node: &mut [u32; 8], on: bool)
 }
 
 #[no_mangle]
-pub extern "C" fn ynd_node_set_indicate_keep_left(node: &mut [u32; 8], on: bool)
+pub extern "C" fn ynd_node_set_indicate_keep_left(node: &mut NodeWords, on: bool)
     ensures { λ _. ⌜ now (node .exit) ≡ nodeWords (withFlags1 (toNode (now (node .entry))) (withBit 1 ((toNode (now (node .entry))) .flags1) on)) ⌝ }
 {
     let n = node_of(*node);
@@ -204,7 +205,7 @@ pub extern "C" fn ynd_node_set_indicate_keep_left(node: &mut [u32; 8], on: bool)
 }
 
 #[no_mangle]
-pub extern "C" fn ynd_node_set_indicate_keep_right(node: &mut [u32; 8], on: bool)
+pub extern "C" fn ynd_node_set_indicate_keep_right(node: &mut NodeWords, on: bool)
     ensures { λ _. ⌜ now (node .exit) ≡ nodeWords (withFlags1 (toNode (now (node .entry))) (withBit 2 ((toNode (now (node .entry))) .flags1) on)) ⌝ }
 {
     let n = node_of(*node);
@@ -213,7 +214,7 @@ pub extern "C" fn ynd_node_set_indicate_keep_right(node: &mut [u32; 8], on: bool
 }
 
 #[no_mangle]
-pub extern "C" fn ynd_node_set_left_turns_only(node: &mut [u32; 8], on: bool)
+pub extern "C" fn ynd_node_set_left_turns_only(node: &mut NodeWords, on: bool)
     ensures { λ _. ⌜ now (node .exit) ≡ nodeWords (withFlags1 (toNode (now (node .entry))) (withBit 7 ((toNode (now (node .entry))) .flags1) on)) ⌝ }
 {
     let n = node_of(*node);
@@ -222,7 +223,7 @@ pub extern "C" fn ynd_node_set_left_turns_only(node: &mut [u32; 8], on: bool)
 }
 
 #[no_mangle]
-pub extern "C" fn ynd_node_set_no_gps(node: &mut [u32; 8], on: bool)
+pub extern "C" fn ynd_node_set_no_gps(node: &mut NodeWords, on: bool)
     ensures { λ _. ⌜ now (node .exit) ≡ nodeWords (withFlags2 (toNode (now (node .entry))) (withBit 0 ((toNode (now (node .entry))) .flags2) on)) ⌝ }
 {
     let n = node_of(*node);
@@ -231,7 +232,7 @@ pub extern "C" fn ynd_node_set_no_gps(node: &mut [u32; 8], on: bool)
 }
 
 #[no_mangle]
-pub extern "C" fn ynd_node_set_is_junction(node: &mut [u32; 8], on: bool)
+pub extern "C" fn ynd_node_set_is_junction(node: &mut NodeWords, on: bool)
     ensures { λ _. ⌜ now (node .exit) ≡ nodeWords (withFlags2 (toNode (now (node .entry))) (withBit 2 ((toNode (now (node .entry))) .flags2) on)) ⌝ }
 {
     let n = node_of(*node);
@@ -240,7 +241,7 @@ pub extern "C" fn ynd_node_set_is_junction(node: &mut [u32; 8], on: bool)
 }
 
 #[no_mangle]
-pub extern "C" fn ynd_node_set_highway(node: &mut [u32; 8], on: bool)
+pub extern "C" fn ynd_node_set_highway(node: &mut NodeWords, on: bool)
     ensures { λ _. ⌜ now (node .exit) ≡ nodeWords (withFlags2 (toNode (now (node .entry))) (withBit 6 ((toNode (now (node .entry))) .flags2) on)) ⌝ }
 {
     let n = node_of(*node);
@@ -249,7 +250,7 @@ pub extern "C" fn ynd_node_set_highway(node: &mut [u32; 8], on: bool)
 }
 
 #[no_mangle]
-pub extern "C" fn ynd_node_set_tunnel(node: &mut [u32; 8], on: bool)
+pub extern "C" fn ynd_node_set_tunnel(node: &mut NodeWords, on: bool)
     ensures { λ _. ⌜ now (node .exit) ≡ nodeWords (withFlags3 (toNode (now (node .entry))) (withBit 0 ((toNode (now (node .entry))) .flags3) on)) ⌝ }
 {
     let n = node_of(*node);
@@ -258,7 +259,7 @@ pub extern "C" fn ynd_node_set_tunnel(node: &mut [u32; 8], on: bool)
 }
 
 #[no_mangle]
-pub extern "C" fn ynd_node_set_heuristic_value(node: &mut [u32; 8], v: u8)
+pub extern "C" fn ynd_node_set_heuristic_value(node: &mut NodeWords, v: u8)
     ensures { λ _. ⌜ now (node .exit) ≡ nodeWords (withFlags3 (toNode (now (node .entry))) (withField 1 7 ((toNode (now (node .entry))) .flags3) v)) ⌝ }
 {
     let n = node_of(*node);
@@ -267,7 +268,7 @@ pub extern "C" fn ynd_node_set_heuristic_value(node: &mut [u32; 8], v: u8)
 }
 
 #[no_mangle]
-pub extern "C" fn ynd_node_set_density(node: &mut [u32; 8], v: u8)
+pub extern "C" fn ynd_node_set_density(node: &mut NodeWords, v: u8)
     ensures { λ _. ⌜ now (node .exit) ≡ nodeWords (withFlags4 (toNode (now (node .entry))) (withField 0 4 ((toNode (now (node .entry))) .flags4) v)) ⌝ }
 {
     let n = node_of(*node);
@@ -277,7 +278,7 @@ pub extern "C" fn ynd_node_set_density(node: &mut [u32; 8], v: u8)
 
 // The kind of node: the value of flags1's upper five bits.
 #[no_mangle]
-pub extern "C" fn ynd_node_special(node: &[u32; 8]) -> u8
+pub extern "C" fn ynd_node_special(node: &NodeWords) -> u8
     ensures { λ r. ⌜ r ≡ specialValue (specialOf (fieldOf 3 5 (toNode (now (node .entry)) .flags1))) ⌝ }
 {
     let n = node_of(*node);
@@ -287,7 +288,7 @@ pub extern "C" fn ynd_node_special(node: &[u32; 8]) -> u8
 
 // Of a value over 31 the low five bits are stored.
 #[no_mangle]
-pub extern "C" fn ynd_node_set_special(node: &mut [u32; 8], v: u8)
+pub extern "C" fn ynd_node_set_special(node: &mut NodeWords, v: u8)
     ensures { λ _. ⌜ now (node .exit) ≡ nodeWords (withFlags1 (toNode (now (node .entry))) (withField 3 5 (toNode (now (node .entry)) .flags1) (specialValue (specialOf v)))) ⌝ }
 {
     let n = node_of(*node);
@@ -298,7 +299,7 @@ pub extern "C" fn ynd_node_set_special(node: &mut [u32; 8], v: u8)
 
 // The speed: 0 slow, 1 normal, 2 fast, 3 faster.
 #[no_mangle]
-pub extern "C" fn ynd_node_speed(node: &[u32; 8]) -> u8
+pub extern "C" fn ynd_node_speed(node: &NodeWords) -> u8
     ensures { λ r. ⌜ r ≡ speedValue (speedOf (fieldOf 1 2 (toNode (now (node .entry)) .flags5))) ⌝ }
 {
     let n = node_of(*node);
@@ -319,7 +320,7 @@ fn speed_of(v: u8) -> NodeSpeed
 
 // A speed over 3 is 3.
 #[no_mangle]
-pub extern "C" fn ynd_node_set_speed(node: &mut [u32; 8], v: u8)
+pub extern "C" fn ynd_node_set_speed(node: &mut NodeWords, v: u8)
     ensures { λ _. ⌜ now (node .exit) ≡ nodeWords (withFlags5 (toNode (now (node .entry))) (withField 1 2 (toNode (now (node .entry)) .flags5) (speedValue (speedOf v)))) ⌝ }
 {
     let n = node_of(*node);
@@ -345,7 +346,7 @@ pub extern "C" fn ynd_node_new(
     x: f32,
     y: f32,
     z: f32,
-    node: &mut [u32; 8],
+    node: &mut NodeWords,
 )
     ensures { λ _. ⌜ now (node .exit) ≡ nodeWords (newNode «area_id» «node_id» (dequantised (quantised (record { x = x; y = y; z = z })))) ⌝ }
 {
@@ -356,7 +357,7 @@ pub extern "C" fn ynd_node_new(
 
 // The position is stored in whole steps.
 #[no_mangle]
-pub extern "C" fn ynd_node_set_position(node: &mut [u32; 8], x: f32, y: f32, z: f32)
+pub extern "C" fn ynd_node_set_position(node: &mut NodeWords, x: f32, y: f32, z: f32)
     ensures { λ _. ⌜ now (node .exit) ≡ nodeWords (withPosition (toNode (now (node .entry))) (dequantised (quantised (record { x = x; y = y; z = z })))) ⌝ }
 {
     let n = node_of(*node);

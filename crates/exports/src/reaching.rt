@@ -1,5 +1,6 @@
 // Nodes within reach of a point, and the nearest (T-01). Steps of a quarter metre.
 use crate::words::ynd_of;
+use cells::node::NodeWords;
 use reach::reach::Listing;
 use reach::reach::NearestNode;
 ghost use mathlib.Core.Path.{_≡_};
@@ -12,7 +13,7 @@ ghost use Rattle.exports.specs.Near.{listingTold, nearby, nearestTold};
 #[no_mangle]
 pub extern "C" fn ynd_within(
     ynd: &[u32; 15],
-    nodes: &[[u32; 8]],
+    nodes: &[NodeWords],
     x: i16,
     y: i16,
     radius: u16,
@@ -46,7 +47,7 @@ pub extern "C" fn ynd_within(
 #[no_mangle]
 pub extern "C" fn ynd_nearest(
     ynd: &[u32; 15],
-    nodes: &[[u32; 8]],
+    nodes: &[NodeWords],
     x: i16,
     y: i16,
     found: &mut bool,

@@ -5,6 +5,7 @@ use crate::words::words_done;
 use crate::words::ynd_of;
 use crate::words::ynd_words;
 use cells::count::Counted;
+use cells::node::NodeWords;
 ghost use mathlib.Core.Path.{_≡_};
 ghost use Rattle.cells.specs.Checks.{countOf};
 ghost use Rattle.cells.specs.NewYnd.{newYnd};
@@ -27,7 +28,7 @@ pub extern "C" fn ynd_read<'a>(
     ynd: &mut [u32; 15],
     system: &'a [u8],
     graphics: &'a [u8],
-    nodes: &mut [[u32; 8]],
+    nodes: &mut [NodeWords],
     links: &mut [[u16; 4]],
     junctions: &mut [[u32; 6]],
     heights: &mut [u8],

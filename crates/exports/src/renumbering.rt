@@ -3,6 +3,7 @@ use crate::answers::number_of;
 use crate::answers::place_of;
 use crate::words::words_done;
 use crate::words::ynd_of;
+use cells::node::NodeWords;
 ghost use mathlib.Core.Path.{_≡_};
 ghost use lib.ListN.{length};
 ghost use Rattle.cells.specs.Renumber.{renumber, scratchLeft};
@@ -12,7 +13,7 @@ ghost use Rattle.exports.specs.Cells.{lent, called, renumberedOf};
 #[no_mangle]
 pub extern "C" fn ynd_renumber(
     ynd: &mut [u32; 15],
-    nodes: &mut [[u32; 8]],
+    nodes: &mut [NodeWords],
     links: &mut [[u16; 4]],
     junctions: &[[u32; 6]],
     heights: &[u8],

@@ -1,17 +1,18 @@
 // What a walk shows of a node, a junction and a chosen link.
 use crate::words::ynd_of;
 use cells::lookup::Place;
+use cells::node::NodeWords;
 use walks::shown::SeenNode;
 use walks::shown::ShownJunction;
 use walks::shown::ShownLink;
 use walks::shown::ShownNode;
+use walks::shown::ShownValues;
 ghost use mathlib.Core.Path.{_≡_};
 ghost use mathlib.Core.List.{List};
 ghost use Prim.Native.Nat.{ℕ};
-ghost use Rattle.walks.specs.Shown.{shownNode, shownJunction, shownLink};
+ghost use Rattle.walks.specs.Shown.{shownNode, shownJunction, shownValues, shownLink};
 ghost use Rattle.exports.specs.Cells.{lent};
-ghost use Rattle.exports.specs.Values.{copied, valuesTold};
-ghost use Rattle.exports.specs.Found.{told, isPlace, placeOrZero, seenWords, shownNodeTold, shownJunctionTold, shownLinkTold};
+ghost use Rattle.exports.specs.Found.{told, isPlace, placeOrZero, seenWords, shownNodeTold, shownJunctionTold, shownValuesTold, shownLinkTold};
 
 fn is_place(p: Place) -> usize
     ensures { λ r. ⌜ r ≡ isPlace p ⌝ }
@@ -67,7 +68,7 @@ fn seen_words(n: SeenNode) -> [usize; 14]
 #[no_mangle]
 pub extern "C" fn ynd_shown_node(
     ynd: &[u32; 15],
-    nodes: &[[u32; 8]],
+    nodes: &[NodeWords],
     links: &[[u16; 4]],
     junctions: &[[u32; 6]],
     refs: &[[u16; 4]],
@@ -132,38 +133,33 @@ pub extern "C" fn ynd_shown_values(
     count: &mut usize,
     place: &mut usize,
 ) -> u32
-    ensures { λ r. ⌜ ((nodes links : List (List ℕ)) (refs : List (List ℕ)) → told r (now (place .exit)) (copied (now (values .exit)) (now (count .exit)))
-        ≡ valuesTold (lent (now (ynd .entry)) nodes links (now (junctions .entry)) (now (heights .entry)) refs) at (now (values .entry)) (now (count .entry))) ⌝ }
+    ensures { λ r. ⌜ ((nodes links : List (List ℕ)) (refs : List (List ℕ)) → told r (now (place .exit)) (now (count .exit))
+        ≡ shownValuesTold (shownValues (lent (now (ynd .entry)) nodes links (now (junctions .entry)) (now (heights .entry)) refs) at
+        (now (values .entry)) .answer) (now (count .entry))) ⌝ }
+    ensures { λ _. ⌜ ((nodes links : List (List ℕ)) (refs : List (List ℕ)) → now (values .exit)
+        ≡ shownValues (lent (now (ynd .entry)) nodes links (now (junctions .entry)) (now (heights .entry)) refs) at
+        (now (values .entry)) .values) ⌝ }
 {
     let y = ynd_of(*ynd);
-    if y.junction_count as usize <= at {
-        *place = 0;
-        return 13;
+    let s = walks::shown::shown_values(y, junctions, heights, at, values);
+    match s {
+        ShownValues::Copied(n) => {
+            *count = n;
+            *place = 0;
+            0
+        }
+        ShownValues::Refused(number, list) => {
+            *place = list;
+            number
+        }
     }
-    if junctions.len() < y.junction_count as usize {
-        *place = 2;
-        return 7;
-    }
-    if heights.len() < y.heightmap_count as usize {
-        *place = 3;
-        return 7;
-    }
-    let v = walks::shown::shown_values(y, junctions, heights, at);
-    if values.len() < v.len() {
-        *place = 3;
-        return 7;
-    }
-    records::put::put_bytes(values, 0, v);
-    *count = v.len();
-    *place = 0;
-    0
 }
 
 // Of the link that a byte chooses at a place: 1, its three flags and its length; five zeros where there is no such link.
 #[no_mangle]
 pub extern "C" fn ynd_shown_link(
     ynd: &[u32; 15],
-    nodes: &[[u32; 8]],
+    nodes: &[NodeWords],
     links: &[[u16; 4]],
     at: usize,
     choice: u8,

@@ -4,6 +4,7 @@ use crate::answers::place_of;
 use crate::words::words_done;
 use crate::words::ynd_of;
 use crate::words::ynd_words;
+use cells::node::NodeWords;
 ghost use mathlib.Core.Path.{_≡_};
 ghost use mathlib.Core.List.{List};
 ghost use Prim.Native.Nat.{ℕ};
@@ -108,7 +109,7 @@ pub extern "C" fn ynd_truncate_refs(ynd: &mut [u32; 15], count: usize, place: &m
 #[no_mangle]
 pub extern "C" fn ynd_put_links(
     ynd: &mut [u32; 15],
-    nodes: &mut [[u32; 8]],
+    nodes: &mut [NodeWords],
     links: &mut [[u16; 4]],
     at: usize,
     given: &[[u16; 4]],

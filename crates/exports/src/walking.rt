@@ -1,5 +1,6 @@
 // Sound cells and walks.
 use crate::words::ynd_of;
+use cells::node::NodeWords;
 use walks::sound::Soundness;
 use walks::walk::End;
 use walks::walk::Walked;
@@ -27,7 +28,7 @@ fn end_words(e: End) -> [u32; 3]
 #[no_mangle]
 pub extern "C" fn ynd_walk(
     ynd: &[u32; 15],
-    nodes: &[[u32; 8]],
+    nodes: &[NodeWords],
     links: &[[u16; 4]],
     start: usize,
     choices: &[u8],
@@ -62,7 +63,7 @@ pub extern "C" fn ynd_walk(
 #[no_mangle]
 pub extern "C" fn ynd_sound(
     ynd: &[u32; 15],
-    nodes: &[[u32; 8]],
+    nodes: &[NodeWords],
     links: &[[u16; 4]],
     refs: &[[u16; 4]],
     scratch: &mut [u32],

@@ -1,6 +1,7 @@
 // Writing.
 use crate::words::words_wrote;
 use crate::words::ynd_of;
+use cells::node::NodeWords;
 use cells::write::Written;
 ghost use mathlib.Core.Path.{_≡_};
 ghost use Rattle.cells.specs.Write.{writeCall};
@@ -12,7 +13,7 @@ ghost use Rattle.exports.specs.Found.{told, writtenTold};
 #[no_mangle]
 pub extern "C" fn ynd_write(
     ynd: &[u32; 15],
-    nodes: &[[u32; 8]],
+    nodes: &[NodeWords],
     links: &[[u16; 4]],
     junctions: &[[u32; 6]],
     heights: &[u8],
@@ -46,7 +47,7 @@ pub extern "C" fn ynd_write(
 #[no_mangle]
 pub extern "C" fn ynd_write_then_read(
     ynd: &mut [u32; 15],
-    nodes: &mut [[u32; 8]],
+    nodes: &mut [NodeWords],
     links: &mut [[u16; 4]],
     junctions: &mut [[u32; 6]],
     heights: &mut [u8],

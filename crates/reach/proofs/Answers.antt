@@ -2,30 +2,20 @@
 -- Assumes nothing.
 use Prim.Native.Nat.{ℕ, _<_, _≤_}
 use mathlib.Core.Path.{_≡_, refl, ap, sym, _∙_}
-use mathlib.Core.Bool.{Bool, true, false, _||_}
+use mathlib.Core.Bool.{true, false}
 use mathlib.Core.List.{List, _++_}
 use lib.Dec.{leb, ltb}
 use lib.IntN.{ℤ}
 use lib.ListN.{length, drop}
-use borrow.Author.Tests.{lt-ltb, le-ltb, leb-true, leb-false, ltb-false}
+use borrow.Author.Tests.{lt-ltb, le-ltb, leb-true, leb-false}
 use Rattle.cells.specs.declared.ynd.Ynd.{Ynd}
-use Rattle.cells.proofs.Sequences.Tests.{true-false}
-use Rattle.reach.specs.Limit.{overLimit}
+use Rattle.cells.specs.Memory.{overLimit}
 use Rattle.reach.specs.Reach.{distances, within, ordered, nearestOf, left, placesWithin}
 use Rattle.reach.specs.Reach.{withinCauses, withinCall, nearestCauses, nearestAnswer, nearestCall}
 use Rattle.reach.specs.declared.reach.Listing.the-variants as listing
 use Rattle.reach.specs.declared.reach.NearestNode.the-variants as nearest
 use Rattle.reach.proofs.ListedLaws.{ordered-long}
 use Rattle.reach.proofs.NearestLaws.{none-nearest}
-
-pub few-nodes : (ynd : Ynd) → overLimit ynd ≡ false → ynd .«node_count» ≤ 65536
-unfolding overLimit
-few-nodes ynd h = go (ltb 65536 (ynd .«node_count»)) refl h
-  where
-    go : (t : Bool) → ltb 65536 (ynd .«node_count») ≡ t → t || ltb 4096 (ynd .«junction_count») ≡ false
-        → ynd .«node_count» ≤ 65536
-    go true e h = true-false h
-    go false e h = ltb-false 65536 (ynd .«node_count») e
 
 module _ (ynd : Ynd) (nodes : List (List ℕ)) (x y : ℤ) (radius : ℕ) (places : List ℕ) where
   pub within-over : overLimit ynd ≡ true → left (listing.Refused 14 0) places ≡ withinCall ynd nodes x y radius places

@@ -14,7 +14,7 @@ use Rattle.numbers.specs.Refusals.{decided, unless}
 use Rattle.numbers.specs.declared.answer.Answer.{Answer}
 use Rattle.numbers.specs.declared.answer.Answer.the-variants as answer
 use Rattle.cells.specs.declared.ynd.Ynd.{Ynd}
-use Rattle.reach.specs.Limit.{overLimit}
+use Rattle.cells.specs.Memory.{overLimit}
 use Rattle.reach.specs.Reach.{stored, distances, within, ordered, nearestOf, placesWithin, near, times}
 use Rattle.reach.specs.Reach.{Left, left, withinCauses, withinCall, nearestCauses, nearestAnswer, nearestCall}
 use Rattle.reach.specs.declared.reach.Listing.{Listing}

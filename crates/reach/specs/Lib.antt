@@ -1,3 +1,2 @@
-pub mod Limit
 pub mod Reach
 pub mod Parts

@@ -13,7 +13,7 @@ use Rattle.cells.specs.Lists.{joinTo}
 use Rattle.cells.specs.Order.{oneIf}
 use Rattle.cells.specs.Words.{toNode}
 use Rattle.cells.specs.declared.ynd.Ynd.{Ynd}
-use Rattle.reach.specs.Limit.{overLimit}
+use Rattle.cells.specs.Memory.{overLimit}
 use Rattle.reach.specs.declared.reach.Listing.{Listing}
 use Rattle.reach.specs.declared.reach.Listing.the-variants as listing
 use Rattle.reach.specs.declared.reach.NearestNode.{NearestNode}

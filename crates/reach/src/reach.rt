@@ -9,8 +9,8 @@ ghost use Rattle.reach.specs.Parts.{far};
 use crate::distance::beyond;
 use crate::distance::distance_up_to;
 use crate::distance::raised;
-use crate::limit::over_limit;
 use cells::node::NodeWords;
+use cells::room::over_limit;
 use cells::ynd::Ynd;
 
 // How many places were listed.

@@ -4,6 +4,7 @@ use crate::parts::first;
 use crate::parts::length_at;
 use crate::parts::most;
 use crate::parts::told;
+use cells::node::NodeWords;
 use cells::ynd::Outcome;
 use cells::ynd::Ynd;
 use numbers::answer::Answer;
@@ -16,7 +17,7 @@ use walks::walk::Walked;
 // The graphics section is empty.
 fn read_alone(
     system: &[u8],
-    nodes: &mut [[u32; 8]],
+    nodes: &mut [NodeWords],
     links: &mut [[u16; 4]],
     junctions: &mut [[u32; 6]],
     heights: &mut [u8],
@@ -92,7 +93,7 @@ fn walked(
     b: &[u8],
     rest: &[u8],
     ynd: Ynd,
-    nodes: &[[u32; 8]],
+    nodes: &[NodeWords],
     links: &[[u16; 4]],
     visited: &mut [u32],
 ) -> bool {
@@ -106,7 +107,7 @@ fn walked(
 
 fn read_and_walked(
     b: &[u8],
-    nodes: &mut [[u32; 8]],
+    nodes: &mut [NodeWords],
     links: &mut [[u16; 4]],
     junctions: &mut [[u32; 6]],
     heights: &mut [u8],
@@ -183,7 +184,7 @@ fn soundness_agrees(b: &[u8], s: Soundness) -> bool {
 fn judged(
     b: &[u8],
     ynd: Ynd,
-    nodes: &[[u32; 8]],
+    nodes: &[NodeWords],
     links: &[[u16; 4]],
     refs: &[[u16; 4]],
     scratch: &mut [u32],
@@ -206,7 +207,7 @@ fn judged(
 
 fn read_and_judged(
     b: &[u8],
-    nodes: &mut [[u32; 8]],
+    nodes: &mut [NodeWords],
     links: &mut [[u16; 4]],
     junctions: &mut [[u32; 6]],
     heights: &mut [u8],

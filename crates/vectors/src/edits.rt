@@ -6,6 +6,7 @@ use crate::parts::most;
 use crate::parts::told;
 use cells::junction::PathJunction;
 use cells::link::PathLink;
+use cells::node::NodeWords;
 use cells::write::Written;
 use cells::ynd::Outcome;
 use cells::ynd::Ynd;
@@ -17,7 +18,7 @@ use records::bytes::byte_at;
 // n links added to the node at a place, up to the first that is refused.
 fn add_links(
     ynd: Ynd,
-    nodes: &mut [[u32; 8]],
+    nodes: &mut [NodeWords],
     links: &mut [[u16; 4]],
     place: usize,
     n: usize,
@@ -54,7 +55,7 @@ fn length_agrees(b: &[u8], w: Written) -> bool {
 // Links added to a cell of one bare node, which is then written.
 fn with_links(
     b: &[u8],
-    nodes: &mut [[u32; 8]],
+    nodes: &mut [NodeWords],
     links: &mut [[u16; 4]],
     junctions: &[[u32; 6]],
     heights: &[u8],
@@ -82,7 +83,7 @@ fn with_links(
 
 fn cut(
     b: &[u8],
-    nodes: &mut [[u32; 8]],
+    nodes: &mut [NodeWords],
     links: &mut [[u16; 4]],
     junctions: &[[u32; 6]],
     heights: &[u8],

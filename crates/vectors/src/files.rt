@@ -12,6 +12,7 @@ use crate::parts::first;
 use crate::parts::length_at;
 use crate::parts::most;
 use crate::parts::told;
+use cells::node::NodeWords;
 use cells::write::Written;
 use cells::ynd::Ynd;
 use numbers::answer::Answer;
@@ -61,7 +62,7 @@ fn renumbered(
     b: &[u8],
     expected: &[u8],
     ynd: Ynd,
-    nodes: &mut [[u32; 8]],
+    nodes: &mut [NodeWords],
     links: &mut [[u16; 4]],
     junctions: &[[u32; 6]],
     heights: &[u8],
@@ -94,7 +95,7 @@ fn written(
     b: &[u8],
     expected: &[u8],
     ynd: Ynd,
-    nodes: &mut [[u32; 8]],
+    nodes: &mut [NodeWords],
     links: &mut [[u16; 4]],
     junctions: &[[u32; 6]],
     heights: &[u8],
@@ -125,7 +126,7 @@ fn written(
 // Read; then written.
 fn replayed(
     b: &[u8],
-    nodes: &mut [[u32; 8]],
+    nodes: &mut [NodeWords],
     links: &mut [[u16; 4]],
     junctions: &mut [[u32; 6]],
     heights: &mut [u8],
@@ -174,7 +175,7 @@ fn replayed(
 // The lists, cut to the lengths that the record says.
 fn cut(
     b: &[u8],
-    nodes: &mut [[u32; 8]],
+    nodes: &mut [NodeWords],
     links: &mut [[u16; 4]],
     junctions: &mut [[u32; 6]],
     heights: &mut [u8],

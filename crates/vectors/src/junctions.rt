@@ -9,6 +9,7 @@ use crate::parts::length_at;
 use cells::get::GotHeight;
 use cells::get::GotJunction;
 use cells::junction::PathJunction;
+use cells::node::NodeWords;
 use cells::write::Written;
 use cells::ynd::Ynd;
 use numbers::answer::Answer;
@@ -120,7 +121,7 @@ fn written_back(
     b: &[u8],
     told: &[u8],
     ynd: Ynd,
-    nodes: &mut [[u32; 8]],
+    nodes: &mut [NodeWords],
     links: &mut [[u16; 4]],
     junctions: &mut [[u32; 6]],
     heights: &mut [u8],
@@ -149,7 +150,7 @@ fn renumbered(
     b: &[u8],
     told: &[u8],
     ynd: Ynd,
-    nodes: &mut [[u32; 8]],
+    nodes: &mut [NodeWords],
     links: &mut [[u16; 4]],
     junctions: &mut [[u32; 6]],
     heights: &mut [u8],
@@ -182,7 +183,7 @@ fn renumbered(
 // Read, the graphics section empty; then renumbered.
 fn replayed(
     b: &[u8],
-    nodes: &mut [[u32; 8]],
+    nodes: &mut [NodeWords],
     links: &mut [[u16; 4]],
     junctions: &mut [[u32; 6]],
     heights: &mut [u8],

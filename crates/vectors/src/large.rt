@@ -11,6 +11,7 @@ use crate::parts::number_at;
 use crate::parts::told;
 use cells::count::Counted;
 use cells::count::Counts;
+use cells::node::NodeWords;
 use cells::write::Written;
 use cells::ynd::Outcome;
 use cells::ynd::Ynd;
@@ -128,7 +129,7 @@ fn add_refs(ynd: Ynd, refs: &mut [[u16; 4]], n: usize) -> Outcome {
 fn written(
     b: &[u8],
     ynd: Ynd,
-    nodes: &[[u32; 8]],
+    nodes: &[NodeWords],
     links: &[[u16; 4]],
     junctions: &[[u32; 6]],
     heights: &[u8],
@@ -145,7 +146,7 @@ fn written(
 
 fn read_alone(
     system: &[u8],
-    nodes: &mut [[u32; 8]],
+    nodes: &mut [NodeWords],
     links: &mut [[u16; 4]],
     junctions: &mut [[u32; 6]],
     heights: &mut [u8],
@@ -167,7 +168,7 @@ fn read_alone(
 fn replayed(
     b: &[u8],
     section: &mut [u8],
-    nodes: &mut [[u32; 8]],
+    nodes: &mut [NodeWords],
     links: &mut [[u16; 4]],
     junctions: &mut [[u32; 6]],
     heights: &mut [u8],
@@ -192,7 +193,7 @@ fn replayed(
 fn made(
     b: &[u8],
     section: &mut [u8],
-    nodes: &mut [[u32; 8]],
+    nodes: &mut [NodeWords],
     links: &mut [[u16; 4]],
     junctions: &mut [[u32; 6]],
     heights: &mut [u8],
@@ -207,7 +208,7 @@ fn made(
 fn lent(
     b: &[u8],
     section: &mut [u8; 2621600],
-    nodes: &mut [[u32; 8]],
+    nodes: &mut [NodeWords],
     links: &mut [[u16; 4]],
     junctions: &mut [[u32; 6]],
     heights: &mut [u8],

@@ -3,6 +3,7 @@ use crate::parts::after;
 use crate::parts::length_at;
 use crate::parts::most;
 use crate::parts::told;
+use cells::node::NodeWords;
 use cells::ynd::Ynd;
 use reach::reach::Listing;
 use reach::reach::NearestNode;
@@ -12,12 +13,12 @@ use records::bytes::u16_at;
 use records::bytes::u32_at;
 use records::bytes::u64_at;
 
-fn placed(b: &[u8]) -> [u32; 8] {
+fn placed(b: &[u8]) -> NodeWords {
     [0, 0, u32_at(b, 0), u32_at(b, 4), 0, 0, 0, 0]
 }
 
 // Eight bytes a node, for 64 nodes at most.
-fn place_nodes(nodes: &mut [[u32; 8]], b: &[u8]) {
+fn place_nodes(nodes: &mut [NodeWords], b: &[u8]) {
     if 64 < nodes.len() {
         return;
     }
@@ -91,7 +92,7 @@ fn listing_agrees(b: &[u8], a: Listing) -> bool {
     }
 }
 
-fn listed(b: &[u8], nodes: &mut [[u32; 8]], places: &mut [u32]) -> bool {
+fn listed(b: &[u8], nodes: &mut [NodeWords], places: &mut [u32]) -> bool {
     let given = after(b, 23);
     place_nodes(nodes, given);
     let ynd = cell_of(u32_at(b, 8), u32_at(b, 12));
@@ -102,7 +103,7 @@ fn listed(b: &[u8], nodes: &mut [[u32; 8]], places: &mut [u32]) -> bool {
     places_agree(places, length_at(b, 21), after(given, 8 * length_at(b, 6)))
 }
 
-fn cut(b: &[u8], nodes: &mut [[u32; 8]], places: &mut [u32]) -> bool {
+fn cut(b: &[u8], nodes: &mut [NodeWords], places: &mut [u32]) -> bool {
     let n = most(length_at(b, 6), nodes.len());
     let p = most(length_at(b, 16), places.len());
     listed(b, &mut nodes[0..n], &mut places[0..p])
@@ -141,7 +142,7 @@ fn nearest_agrees(b: &[u8], a: NearestNode) -> bool {
     }
 }
 
-fn found(b: &[u8], nodes: &mut [[u32; 8]]) -> bool {
+fn found(b: &[u8], nodes: &mut [NodeWords]) -> bool {
     let n = most(length_at(b, 4), nodes.len());
     let lent = &mut nodes[0..n];
     place_nodes(lent, after(b, 28));

@@ -19,7 +19,7 @@ use Rattle.cells.specs.Lists.{upTo, joinTo, sumTo, every}
 use Rattle.cells.specs.Words.{pathNode, pathLink, pathJunction, nodeWords, linkWords, junctionWords, refWords, toNode, toLink, toJunction, toRef}
 use Rattle.cells.specs.Cell.{LinkBody, Junction, Node, Cell, noBody}
 use Rattle.cells.specs.Cell as held-cell
-use Rattle.cells.specs.Memory.{Memory, memory, shortOf}
+use Rattle.cells.specs.Memory.{Memory, memory, overLimit, shortOf}
 use Rattle.cells.specs.CellOf.{junctionsOf, refsOf, cellOf, bodyOf, nodesOf}
 use Rattle.cells.specs.FileCell.{fileNodes, fileJunctions, fileRefs, cellFrom, cellBy, fileCell}
 use Rattle.cells.specs.Lookup.{firstWith, find, refOf, junctionOf}
@@ -101,16 +101,16 @@ ran = refl
 
 -- a list has an accepted renumbering, or it has none
 pub once : anyRenumbers first (refused ∷ accepted ∷ []) ≡ true
-unfolding anyRenumbers bytes room rootBytes nodeBytes linkBytes junctionBytes refBytes numberBytes bits16 readOf sizesCheck arraysFound located rootOf unknownsOf numberAt bytesOf extent readArrays arraysCheck scan nodeAt linkAt junctionAt sumTo upTo joinTo roomCheck filled cellRead nodeIn linksIn linksFrom linkWords pathLink pathNode nodeWords junctionIn valuesIn valuesFrom pathJunction junctionWords refIn refWords refAt renumbers renumber answerOf shortOf after run renumberMemory newLists renumberLists recounted vehicles peds reordered numberFrom numbered parted keep isPed areaOf numberOf oldOf firstArea relinked renamed newNumber newPlace newPlaces listed rank lastWith belongs
+unfolding anyRenumbers bytes room rootBytes nodeBytes linkBytes junctionBytes refBytes numberBytes bits16 readOf sizesCheck arraysFound located rootOf unknownsOf numberAt bytesOf extent readArrays arraysCheck scan nodeAt linkAt junctionAt sumTo upTo joinTo roomCheck filled cellRead nodeIn linksIn linksFrom linkWords pathLink pathNode nodeWords junctionIn valuesIn valuesFrom pathJunction junctionWords refIn refWords refAt renumbers renumber overLimit answerOf shortOf after run renumberMemory newLists renumberLists recounted vehicles peds reordered numberFrom numbered parted keep isPed areaOf numberOf oldOf firstArea relinked renamed newNumber newPlace newPlaces listed rank lastWith belongs
 once = refl
 
 pub never : anyRenumbers first (refused ∷ stored-read ∷ []) ≡ false
-unfolding anyRenumbers bytes room rootBytes nodeBytes linkBytes junctionBytes refBytes numberBytes bits16 readOf sizesCheck arraysFound located rootOf unknownsOf numberAt bytesOf extent readArrays arraysCheck scan nodeAt linkAt junctionAt sumTo upTo joinTo roomCheck filled cellRead nodeIn linksIn linksFrom linkWords pathLink pathNode nodeWords junctionIn valuesIn valuesFrom pathJunction junctionWords refIn refWords refAt renumbers renumber answerOf shortOf after run renumberMemory newLists renumberLists recounted vehicles peds reordered numberFrom numbered parted keep isPed areaOf numberOf oldOf firstArea relinked renamed newNumber newPlace newPlaces listed rank lastWith belongs
+unfolding anyRenumbers bytes room rootBytes nodeBytes linkBytes junctionBytes refBytes numberBytes bits16 readOf sizesCheck arraysFound located rootOf unknownsOf numberAt bytesOf extent readArrays arraysCheck scan nodeAt linkAt junctionAt sumTo upTo joinTo roomCheck filled cellRead nodeIn linksIn linksFrom linkWords pathLink pathNode nodeWords junctionIn valuesIn valuesFrom pathJunction junctionWords refIn refWords refAt renumbers renumber overLimit answerOf shortOf after run renumberMemory newLists renumberLists recounted vehicles peds reordered numberFrom numbered parted keep isPed areaOf numberOf oldOf firstArea relinked renamed newNumber newPlace newPlaces listed rank lastWith belongs
 never = refl
 
 -- the walk from the ped node, which moves from place 1 to place 2, and its parts compared
 pub same-here : SameWalk (moved first (accepted ∷ refused ∷ [])) (walk (fileCell bytes []) (0 ∷ 0 ∷ []) 1) (walk (cellOf (run first (accepted ∷ refused ∷ []))) (0 ∷ 0 ∷ []) 2)
-unfolding bytes room rootBytes nodeBytes linkBytes junctionBytes refBytes numberBytes bits16 readOf sizesCheck arraysFound located rootOf unknownsOf numberAt bytesOf extent readArrays arraysCheck scan nodeAt linkAt junctionAt sumTo upTo joinTo roomCheck filled cellRead nodeIn linksIn linksFrom linkWords pathLink pathNode nodeWords junctionIn valuesIn valuesFrom pathJunction junctionWords refIn refWords refAt renumbers renumber answerOf shortOf after run renumberMemory newLists renumberLists recounted vehicles peds reordered numberFrom numbered parted keep isPed areaOf numberOf oldOf firstArea relinked renamed newNumber newPlace newPlaces listed rank lastWith belongs walk walkIn next see junctionOf find firstWith refOf refFor fileNodes fileJunctions fileRefs cellFrom cellBy fileCell arrayAt cellOf nodesOf junctionsOf refsOf bodyOf toNode moved signed16
+unfolding bytes room rootBytes nodeBytes linkBytes junctionBytes refBytes numberBytes bits16 readOf sizesCheck arraysFound located rootOf unknownsOf numberAt bytesOf extent readArrays arraysCheck scan nodeAt linkAt junctionAt sumTo upTo joinTo roomCheck filled cellRead nodeIn linksIn linksFrom linkWords pathLink pathNode nodeWords junctionIn valuesIn valuesFrom pathJunction junctionWords refIn refWords refAt renumbers renumber overLimit answerOf shortOf after run renumberMemory newLists renumberLists recounted vehicles peds reordered numberFrom numbered parted keep isPed areaOf numberOf oldOf firstArea relinked renamed newNumber newPlace newPlaces listed rank lastWith belongs walk walkIn next see junctionOf find firstWith refOf refFor fileNodes fileJunctions fileRefs cellFrom cellBy fileCell arrayAt cellOf nodesOf junctionsOf refsOf bodyOf toNode moved signed16
 same-here = record { same-shown = refl; same-count = refl; same-end = refl; same-places = refl }
 
 -- the root's own words are the cell's
@@ -130,7 +130,7 @@ pub on-example : Unnoticed (fileCell bytes []) first calls
 on-example = demand-3 bytes [] room reads is-sound calls
 
 one-accepted : anyRenumbers first calls ≡ true
-unfolding bytes room rootBytes nodeBytes linkBytes junctionBytes refBytes numberBytes bits16 readOf sizesCheck arraysFound located rootOf unknownsOf numberAt bytesOf extent readArrays arraysCheck scan nodeAt linkAt junctionAt sumTo upTo joinTo roomCheck filled cellRead nodeIn linksIn linksFrom linkWords pathLink pathNode nodeWords junctionIn valuesIn valuesFrom pathJunction junctionWords refIn refWords refAt renumbers renumber answerOf shortOf after run renumberMemory newLists renumberLists recounted vehicles peds reordered numberFrom numbered parted keep isPed areaOf numberOf oldOf firstArea relinked renamed newNumber newPlace newPlaces listed rank lastWith belongs anyRenumbers
+unfolding bytes room rootBytes nodeBytes linkBytes junctionBytes refBytes numberBytes bits16 readOf sizesCheck arraysFound located rootOf unknownsOf numberAt bytesOf extent readArrays arraysCheck scan nodeAt linkAt junctionAt sumTo upTo joinTo roomCheck filled cellRead nodeIn linksIn linksFrom linkWords pathLink pathNode nodeWords junctionIn valuesIn valuesFrom pathJunction junctionWords refIn refWords refAt renumbers renumber overLimit answerOf shortOf after run renumberMemory newLists renumberLists recounted vehicles peds reordered numberFrom numbered parted keep isPed areaOf numberOf oldOf firstArea relinked renamed newNumber newPlace newPlaces listed rank lastWith belongs anyRenumbers
 one-accepted = refl
 
 pub numbers-places : (q : ℕ) → q < length (cellOf (run first calls) .nodes) → held-cell.nodeAt (cellOf (run first calls) .nodes) q .number ≡ q
@@ -163,5 +163,5 @@ bare =
     ((458757 ∷ []) ∷ []) [] [] [] []
 
 pub just-full : walkCall bare (0 ∷ []) 0 (9 ∷ []) ≡ walkLeft (Ended NoLink 1) (0 ∷ [])
-unfolding walkCall route next nodesOf
+unfolding walkCall overLimit route next nodesOf
 just-full = refl

@@ -18,7 +18,7 @@ use Rattle.records.specs.Layout.{pages, headerBytes, gapFor, padded, startOf, l
 use Rattle.cells.specs.Lists.{upTo, joinTo, sumTo, every}
 use Rattle.cells.specs.Words.{pathNode, pathLink, pathJunction, nodeWords, linkWords, junctionWords, refWords, toNode, toLink, toJunction, toRef}
 use Rattle.cells.specs.Checks.{sizesCheck, arraysFound, scan, arraysCheck}
-use Rattle.cells.specs.Memory.{Memory, memory, shortOf}
+use Rattle.cells.specs.Memory.{Memory, memory, overLimit, shortOf}
 use Rattle.cells.specs.Read.{linksFrom, nodeIn, linksIn, valuesFrom, junctionIn, valuesIn, refIn, roomCheck, cellRead, filled, readArrays, readOf}
 use Rattle.cells.specs.Area.{belongs}
 use Rattle.cells.specs.Order.{keep, rank, parted, newPlace, listed, newPlaces, lastWith, newNumber, renamed}
@@ -133,11 +133,11 @@ abbrev pub stored-read : Call
 stored-read = write-read (replicate 1400 9)
 
 pub renumbered : renumbers first accepted ≡ true
-unfolding bytes room rootBytes nodeBytes linkBytes junctionBytes refBytes numberBytes bits16 readOf sizesCheck arraysFound located rootOf unknownsOf numberAt bytesOf extent readArrays arraysCheck scan nodeAt linkAt junctionAt sumTo upTo joinTo roomCheck filled cellRead nodeIn linksIn linksFrom linkWords pathLink pathNode nodeWords junctionIn valuesIn valuesFrom pathJunction junctionWords refIn refWords refAt renumbers renumber answerOf shortOf
+unfolding bytes room rootBytes nodeBytes linkBytes junctionBytes refBytes numberBytes bits16 readOf sizesCheck arraysFound located rootOf unknownsOf numberAt bytesOf extent readArrays arraysCheck scan nodeAt linkAt junctionAt sumTo upTo joinTo roomCheck filled cellRead nodeIn linksIn linksFrom linkWords pathLink pathNode nodeWords junctionIn valuesIn valuesFrom pathJunction junctionWords refIn refWords refAt renumbers renumber overLimit answerOf shortOf
 renumbered = refl
 
 pub not-renumbered : renumbers (after first accepted) refused ≡ false
-unfolding bytes room rootBytes nodeBytes linkBytes junctionBytes refBytes numberBytes bits16 readOf sizesCheck arraysFound located rootOf unknownsOf numberAt bytesOf extent readArrays arraysCheck scan nodeAt linkAt junctionAt sumTo upTo joinTo roomCheck filled cellRead nodeIn linksIn linksFrom linkWords pathLink pathNode nodeWords junctionIn valuesIn valuesFrom pathJunction junctionWords refIn refWords refAt renumbers renumber answerOf shortOf after run renumberMemory newLists renumberLists recounted vehicles peds reordered numberFrom numbered parted keep isPed areaOf numberOf oldOf firstArea relinked renamed newNumber newPlace newPlaces listed rank lastWith belongs
+unfolding bytes room rootBytes nodeBytes linkBytes junctionBytes refBytes numberBytes bits16 readOf sizesCheck arraysFound located rootOf unknownsOf numberAt bytesOf extent readArrays arraysCheck scan nodeAt linkAt junctionAt sumTo upTo joinTo roomCheck filled cellRead nodeIn linksIn linksFrom linkWords pathLink pathNode nodeWords junctionIn valuesIn valuesFrom pathJunction junctionWords refIn refWords refAt renumbers renumber overLimit answerOf shortOf after run renumberMemory newLists renumberLists recounted vehicles peds reordered numberFrom numbered parted keep isPed areaOf numberOf oldOf firstArea relinked renamed newNumber newPlace newPlaces listed rank lastWith belongs
 not-renumbered = refl
 
 abbrev pub isWrote : Written → Bool
@@ -145,10 +145,10 @@ isWrote (answer.Wrote n) = true
 isWrote (answer.Refused cause place) = false
 
 pub written-read : isWrote (writeReadOf (run first (accepted ∷ refused ∷ [])) (replicate 1400 9) .answer) ≡ true
-unfolding bytes room rootBytes nodeBytes linkBytes junctionBytes refBytes numberBytes bits16 readOf sizesCheck arraysFound located rootOf unknownsOf numberAt bytesOf extent readArrays arraysCheck scan nodeAt linkAt junctionAt sumTo upTo joinTo roomCheck filled cellRead nodeIn linksIn linksFrom linkWords pathLink pathNode nodeWords junctionIn valuesIn valuesFrom pathJunction junctionWords refIn refWords refAt renumber answerOf shortOf after run renumberMemory newLists renumberLists recounted vehicles peds reordered numberFrom numbered parted keep isPed areaOf numberOf oldOf firstArea relinked renamed newNumber newPlace newPlaces listed rank lastWith belongs writeReadOf writeCall writeHeld held checkNodes checkJunctions stored written arrays laid joined fileNode toNode fileLink toLink fileJunction toJunction toRef entries.valuesIn rootFor pages headerBytes sectionBytes lay padded gapFor startOf offset total address placesOf entries.linksIn stepOf unstep signed16
+unfolding bytes room rootBytes nodeBytes linkBytes junctionBytes refBytes numberBytes bits16 readOf sizesCheck arraysFound located rootOf unknownsOf numberAt bytesOf extent readArrays arraysCheck scan nodeAt linkAt junctionAt sumTo upTo joinTo roomCheck filled cellRead nodeIn linksIn linksFrom linkWords pathLink pathNode nodeWords junctionIn valuesIn valuesFrom pathJunction junctionWords refIn refWords refAt renumber overLimit answerOf shortOf after run renumberMemory newLists renumberLists recounted vehicles peds reordered numberFrom numbered parted keep isPed areaOf numberOf oldOf firstArea relinked renamed newNumber newPlace newPlaces listed rank lastWith belongs writeReadOf writeCall writeHeld held checkNodes checkJunctions stored written arrays laid joined fileNode toNode fileLink toLink fileJunction toJunction toRef entries.valuesIn rootFor pages headerBytes sectionBytes lay padded gapFor startOf offset total address placesOf entries.linksIn stepOf unstep signed16
 written-read = refl
 
 -- where the three nodes stand after all three calls
 pub moves : map (moved first (accepted ∷ refused ∷ stored-read ∷ [])) (0 ∷ 1 ∷ 2 ∷ []) ≡ 0 ∷ 2 ∷ 1 ∷ []
-unfolding bytes room rootBytes nodeBytes linkBytes junctionBytes refBytes numberBytes bits16 readOf sizesCheck arraysFound located rootOf unknownsOf numberAt bytesOf extent readArrays arraysCheck scan nodeAt linkAt junctionAt sumTo upTo joinTo roomCheck filled cellRead nodeIn linksIn linksFrom linkWords pathLink pathNode nodeWords junctionIn valuesIn valuesFrom pathJunction junctionWords refIn refWords refAt renumbers renumber answerOf shortOf after run renumberMemory newLists renumberLists recounted vehicles peds reordered numberFrom numbered parted keep isPed areaOf numberOf oldOf firstArea relinked renamed newNumber newPlace newPlaces listed rank lastWith belongs writeReadOf writeCall writeHeld held checkNodes checkJunctions stored written arrays laid joined fileNode toNode fileLink toLink fileJunction toJunction toRef entries.valuesIn rootFor pages headerBytes sectionBytes lay padded gapFor startOf offset total address placesOf entries.linksIn stepOf unstep signed16 moved cellOf nodesOf bodyOf
+unfolding bytes room rootBytes nodeBytes linkBytes junctionBytes refBytes numberBytes bits16 readOf sizesCheck arraysFound located rootOf unknownsOf numberAt bytesOf extent readArrays arraysCheck scan nodeAt linkAt junctionAt sumTo upTo joinTo roomCheck filled cellRead nodeIn linksIn linksFrom linkWords pathLink pathNode nodeWords junctionIn valuesIn valuesFrom pathJunction junctionWords refIn refWords refAt renumbers renumber overLimit answerOf shortOf after run renumberMemory newLists renumberLists recounted vehicles peds reordered numberFrom numbered parted keep isPed areaOf numberOf oldOf firstArea relinked renamed newNumber newPlace newPlaces listed rank lastWith belongs writeReadOf writeCall writeHeld held checkNodes checkJunctions stored written arrays laid joined fileNode toNode fileLink toLink fileJunction toJunction toRef entries.valuesIn rootFor pages headerBytes sectionBytes lay padded gapFor startOf offset total address placesOf entries.linksIn stepOf unstep signed16 moved cellOf nodesOf bodyOf
 moves = refl

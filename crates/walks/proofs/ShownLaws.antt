@@ -1,7 +1,7 @@
 -- What a walk shows, by the words in memory.
 use Prim.Native.Nat.{ℕ, _+_, _-_, _*_, _<_, _≤_, min}
 use native.Mathlib.Omega.{arith}
-use native.Mathlib.Nat.{min-eq-left, min-eq-right, min-le-left, min-le-right, le-min}
+use native.Mathlib.Nat.{min-eq-left, min-eq-right, min-le-right, le-min}
 use mathlib.Core.Path.{_≡_, refl, ap, sym, _∙_}
 use mathlib.Core.Bool.{true, false}
 use mathlib.Core.List.{List, [], _∷_, map}
@@ -10,7 +10,9 @@ use lib.Dec.{ltb}
 use lib.ListN.{length, getD, getElem?, take, drop, length-map, length-drop, length-take, drop-of-length-le}
 use lib.Seq.{length-take-le, getD-take, take-all, take-nil}
 use borrow.Author.Tests.{le-leb, lt-leb, lt-ltb, le-ltb, ltb-true, ltb-false}
-use Rattle.cells.specs.Memory.{Memory}
+use Rattle.records.specs.Put.{putIn}
+use Rattle.records.proofs.Puts.{put-fits}
+use Rattle.cells.specs.Memory.{Memory, overLimit}
 use Rattle.cells.specs.NodeWords.{areaOf, numberOf, linkStart, linkCount, valueStart, valueCount, firstArea}
 use Rattle.cells.specs.Cell.{Link, LinkBody, Node, Junction, Cell, nodeAt, firstOf}
 use Rattle.cells.specs.CellOf.{linkOf, nodeWith, junctionWith, nodesOf, junctionsOf, refsOf, cellOf}
@@ -20,13 +22,14 @@ use Rattle.cells.specs.declared.lookup.Place.{Place}
 use Rattle.cells.proofs.Sequences.Tests.{by-test}
 use Rattle.cells.proofs.Lookups.LookupLaws.{area-held}
 use Rattle.walks.specs.Walk.{see, linkAt, bodyOf}
-use Rattle.walks.specs.Shown.{seenBy, inside, junctionPlace, seenNode, shownNode, seenJunction, orNone, shownJunction, valuesOf, shownValues, seenLink, orNoLink, shownLink}
+use Rattle.walks.specs.Shown.{seenBy, inside, junctionPlace, seenNode, shownNode, seenJunction, orNone, shownJunction, valuesOf, valuesAt, valuesLeft, shownValues, seenLink, orNoLink, shownLink}
 use Rattle.walks.specs.ShownParts.{seenOf}
 use Rattle.walks.specs.declared.shown.SeenNode.{SeenNode}
 use Rattle.walks.specs.declared.shown.SeenJunction.{SeenJunction}
 use Rattle.walks.specs.declared.shown.SeenLink.{SeenLink}
 use Rattle.walks.specs.declared.shown.ShownNode.the-variants as node
 use Rattle.walks.specs.declared.shown.ShownJunction.the-variants as junction
+use Rattle.walks.specs.declared.shown.ShownValues.the-variants as shown
 use Rattle.walks.specs.declared.shown.ShownLink.the-variants as link
 use Rattle.walks.proofs.Ranges.{cut-all, cut-part}
 use Rattle.walks.proofs.StepLaws.{elem-at, elem-past, getD-map-in, node-in, link-past, link-out, link-in}
@@ -91,10 +94,10 @@ module _ (m : Memory) where
   unfolding junctionsOf
   junctions-long h = length-map (take (m .ynd .«junction_count») (m .junctions)) (junctionWith (take (m .ynd .«heightmap_count») (m .heights))) ∙ length-take-le _ (m .junctions) h
 
-  module _ (nodes : n ≤ length (m .nodes)) (links : l ≤ length (m .links)) (junctions : m .ynd .«junction_count» ≤ length (m .junctions)) (refs : m .ynd .«ref_count» ≤ length (m .refs)) where
+  module _ (within : overLimit (m .ynd) ≡ false) (nodes : n ≤ length (m .nodes)) (links : l ≤ length (m .links)) (junctions : m .ynd .«junction_count» ≤ length (m .junctions)) (refs : m .ynd .«ref_count» ≤ length (m .refs)) where
     junction-place : (a k : ℕ) → junctionOfCall (m .ynd) (m .nodes) (m .refs) a k ≡ placeOf (junctionPlace (cellOf m) a k)
     unfolding junctionOfCall junctionPlace cellOf refIn refsOf
-    junction-place a k = rw (le-ltb _ _ nodes, le-ltb _ _ refs, area-held m, junctions-long junctions) (go (refOf _ _ a k))
+    junction-place a k = rw (within, le-ltb _ _ nodes, le-ltb _ _ refs, area-held m, junctions-long junctions) (go (refOf _ _ a k))
       where
         go : (o : Option ℕ) → below (m .ynd .«junction_count») (placeOf o) ≡ placeOf (inside (m .ynd .«junction_count») o)
         go none = refl
@@ -127,29 +130,35 @@ module _ (m : Memory) where
           → j ≡ junctionOfCall (m .ynd) (m .nodes) (m .refs) (areaOf w) (numberOf w) → node.Node r ≡ shownNode m p
       unfolding shownNode
       node-answered r count j er ec ej =
-          rw (lt-leb _ _ lt, le-ltb _ _ nodes, le-ltb _ _ links, le-ltb _ _ junctions, le-ltb _ _ refs) (ap node.Node (er ∙ seen-words count j ec ej))
+          rw (lt-leb _ _ lt, within, le-ltb _ _ nodes, le-ltb _ _ links, le-ltb _ _ junctions, le-ltb _ _ refs) (ap node.Node (er ∙ seen-words count j ec ej))
 
   module _ (p : ℕ) where
     pub node-no-place : n ≤ p → node.Refused 13 0 ≡ shownNode m p
     unfolding shownNode
     node-no-place h = rw (le-leb _ _ h)
 
-    pub node-nodes-short : p < n → length (m .nodes) < n → node.Refused 7 0 ≡ shownNode m p
+    pub node-over : p < n → overLimit (m .ynd) ≡ true → node.Refused 14 0 ≡ shownNode m p
     unfolding shownNode
-    node-nodes-short lt h = rw (lt-leb _ _ lt, lt-ltb _ _ h)
+    node-over lt o = rw (lt-leb _ _ lt, o)
 
-    pub node-links-short : p < n → n ≤ length (m .nodes) → length (m .links) < l → node.Refused 7 1 ≡ shownNode m p
-    unfolding shownNode
-    node-links-short lt a h = rw (lt-leb _ _ lt, le-ltb _ _ a, lt-ltb _ _ h)
+    module _ (lt : p < n) (within : overLimit (m .ynd) ≡ false) where
+      pub node-nodes-short : length (m .nodes) < n → node.Refused 7 0 ≡ shownNode m p
+      unfolding shownNode
+      node-nodes-short h = rw (lt-leb _ _ lt, within, lt-ltb _ _ h)
 
-    pub node-junctions-short : p < n → n ≤ length (m .nodes) → l ≤ length (m .links) → length (m .junctions) < m .ynd .«junction_count» → node.Refused 7 2 ≡ shownNode m p
-    unfolding shownNode
-    node-junctions-short lt a b h = rw (lt-leb _ _ lt, le-ltb _ _ a, le-ltb _ _ b, lt-ltb _ _ h)
+      pub node-links-short : n ≤ length (m .nodes) → length (m .links) < l → node.Refused 7 1 ≡ shownNode m p
+      unfolding shownNode
+      node-links-short a h = rw (lt-leb _ _ lt, within, le-ltb _ _ a, lt-ltb _ _ h)
 
-    pub node-refs-short : p < n → n ≤ length (m .nodes) → l ≤ length (m .links) → m .ynd .«junction_count» ≤ length (m .junctions) → length (m .refs) < m .ynd .«ref_count»
-        → node.Refused 7 4 ≡ shownNode m p
-    unfolding shownNode
-    node-refs-short lt a b c h = rw (lt-leb _ _ lt, le-ltb _ _ a, le-ltb _ _ b, le-ltb _ _ c, lt-ltb _ _ h)
+      pub node-junctions-short : n ≤ length (m .nodes) → l ≤ length (m .links) → length (m .junctions) < m .ynd .«junction_count»
+          → node.Refused 7 2 ≡ shownNode m p
+      unfolding shownNode
+      node-junctions-short a b h = rw (lt-leb _ _ lt, within, le-ltb _ _ a, le-ltb _ _ b, lt-ltb _ _ h)
+
+      pub node-refs-short : n ≤ length (m .nodes) → l ≤ length (m .links) → m .ynd .«junction_count» ≤ length (m .junctions)
+          → length (m .refs) < m .ynd .«ref_count» → node.Refused 7 4 ≡ shownNode m p
+      unfolding shownNode
+      node-refs-short a b c h = rw (lt-leb _ _ lt, within, le-ltb _ _ a, le-ltb _ _ b, le-ltb _ _ c, lt-ltb _ _ h)
 
     -- ---- a junction
 
@@ -166,35 +175,61 @@ module _ (m : Memory) where
         elem-at (map (junctionWith values) (take many (m .junctions))) p (junctionWith values []) (rw length-map long)
         ∙ ap some (getD-map-in (junctionWith values) (take many (m .junctions)) p [] (junctionWith values []) long ∙ ap (junctionWith values) (getD-take many (m .junctions) p [] lt))
 
-    junction-past : min many (length (m .junctions)) ≤ p → getElem? (cellOf m .junctions) p ≡ none
-    unfolding cellOf junctionsOf
-    junction-past h = elem-past (map (junctionWith values) (take many (m .junctions))) p (rw (length-map, length-take) h)
-
     pub junction-no-place : many ≤ p → junction.Refused 13 0 ≡ shownJunction m p
     unfolding shownJunction
     junction-no-place h = rw (le-leb _ _ h)
 
-    pub junction-list-short : p < m .ynd .«junction_count» → length (m .junctions) < m .ynd .«junction_count» → junction.Refused 7 2 ≡ shownJunction m p
+    pub junction-over : p < many → overLimit (m .ynd) ≡ true → junction.Refused 14 0 ≡ shownJunction m p
     unfolding shownJunction
-    junction-list-short lt h = rw (lt-leb _ _ lt, lt-ltb _ _ h)
+    junction-over lt o = rw (lt-leb _ _ lt, o)
 
-    pub junction-answered : p < m .ynd .«junction_count» → m .ynd .«junction_count» ≤ length (m .junctions) → (r : SeenJunction)
-        → ((hs : List ℕ) → r ≡ seenJunction (junctionWith hs (getD (m .junctions) p []))) → junction.Junction r ≡ shownJunction m p
-    unfolding shownJunction
-    junction-answered lt h r e = rw (lt-leb _ _ lt, le-ltb _ _ h, junction-at lt (omega arith)) (ap junction.Junction (e values))
+    module _ (lt : p < many) (within : overLimit (m .ynd) ≡ false) where
+      pub junction-list-short : length (m .junctions) < many → junction.Refused 7 2 ≡ shownJunction m p
+      unfolding shownJunction
+      junction-list-short h = rw (lt-leb _ _ lt, within, lt-ltb _ _ h)
 
-    pub values-no-place : many ≤ p → [] ≡ shownValues m p
-    unfolding shownValues
-    values-no-place h = rw (junction-past (omega (arith, min-le-left many (length (m .junctions)))))
+      pub junction-answered : many ≤ length (m .junctions) → (r : SeenJunction)
+          → ((hs : List ℕ) → r ≡ seenJunction (junctionWith hs (getD (m .junctions) p []))) → junction.Junction r ≡ shownJunction m p
+      unfolding shownJunction
+      junction-answered h r e = rw (lt-leb _ _ lt, within, le-ltb _ _ h, junction-at lt (omega arith)) (ap junction.Junction (e values))
 
-    pub values-no-entry : length (m .junctions) ≤ p → [] ≡ shownValues m p
-    unfolding shownValues
-    values-no-entry h = rw (junction-past (omega (arith, min-le-right many (length (m .junctions)))))
+    -- ---- its values
 
-    pub values-answered : p < many → p < length (m .junctions) → (start count : ℕ) → start ≡ valueStart (getD (m .junctions) p []) → count ≡ valueCount (getD (m .junctions) p [])
-        → take count (drop start values) ≡ shownValues m p
-    unfolding shownValues
+    pub values-answered : p < many → p < length (m .junctions) → (start count : ℕ) → start ≡ valueStart (getD (m .junctions) p [])
+        → count ≡ valueCount (getD (m .junctions) p []) → take count (drop start values) ≡ valuesAt m p
+    unfolding valuesAt
     values-answered lt h start count es ec = rw (junction-at lt h) (λ i. take (ec i) (drop (es i) values))
+
+    module _ (old : List ℕ) where
+      pub values-no-place : many ≤ p → valuesLeft (shown.Refused 13 0) old ≡ shownValues m p old
+      unfolding shownValues
+      values-no-place h = rw (le-leb _ _ h)
+
+      pub values-over : p < many → overLimit (m .ynd) ≡ true → valuesLeft (shown.Refused 14 0) old ≡ shownValues m p old
+      unfolding shownValues
+      values-over lt o = rw (lt-leb _ _ lt, o)
+
+      module _ (lt : p < many) (within : overLimit (m .ynd) ≡ false) where
+        pub junctions-short : length (m .junctions) < many → valuesLeft (shown.Refused 7 2) old ≡ shownValues m p old
+        unfolding shownValues
+        junctions-short h = rw (lt-leb _ _ lt, within, lt-ltb _ _ h)
+
+        module _ (junctions : many ≤ length (m .junctions)) where
+          pub heights-short : length (m .heights) < m .ynd .«heightmap_count» → valuesLeft (shown.Refused 7 3) old ≡ shownValues m p old
+          unfolding shownValues
+          heights-short h = rw (lt-leb _ _ lt, within, le-ltb _ _ junctions, lt-ltb _ _ h)
+
+          module _ (heights : m .ynd .«heightmap_count» ≤ length (m .heights)) (v : List ℕ) (are : v ≡ valuesAt m p) where
+            pub values-short : length old < length v → valuesLeft (shown.Refused 7 3) old ≡ shownValues m p old
+            unfolding shownValues
+            values-short h = rw (lt-leb _ _ lt, within, le-ltb _ _ junctions, le-ltb _ _ heights, sym are, lt-ltb _ _ h)
+
+            pub values-copied : length v ≤ length old → {new : List ℕ} → new ≡ putIn old 0 v
+                → valuesLeft (shown.Copied (length v)) new ≡ shownValues m p old
+            unfolding shownValues
+            values-copied h e =
+                let e′ = e ∙ put-fits old 0 v (omega arith) in
+                rw (lt-leb _ _ lt, within, le-ltb _ _ junctions, le-ltb _ _ heights, sym are, le-ltb _ _ h, e′)
 
     -- ---- the link chosen
 
@@ -202,19 +237,23 @@ module _ (m : Memory) where
     unfolding shownLink
     link-no-place b h = rw (le-leb _ _ h)
 
-    pub link-nodes-short : (b : ℕ) → p < n → length (m .nodes) < n → link.Refused 7 0 ≡ shownLink m p b
+    pub link-over : (b : ℕ) → p < n → overLimit (m .ynd) ≡ true → link.Refused 14 0 ≡ shownLink m p b
     unfolding shownLink
-    link-nodes-short b lt h = rw (lt-leb _ _ lt, lt-ltb _ _ h)
+    link-over b lt o = rw (lt-leb _ _ lt, o)
 
-    module _ (b : ℕ) (lt : p < n) (nodes : n ≤ length (m .nodes)) where
+    pub link-nodes-short : (b : ℕ) → p < n → overLimit (m .ynd) ≡ false → length (m .nodes) < n → link.Refused 7 0 ≡ shownLink m p b
+    unfolding shownLink
+    link-nodes-short b lt within h = rw (lt-leb _ _ lt, within, lt-ltb _ _ h)
+
+    module _ (b : ℕ) (lt : p < n) (within : overLimit (m .ynd) ≡ false) (nodes : n ≤ length (m .nodes)) where
       pub link-links-short : length (m .links) < l → link.Refused 7 1 ≡ shownLink m p b
       unfolding shownLink
-      link-links-short h = rw (lt-leb _ _ lt, le-ltb _ _ nodes, lt-ltb _ _ h)
+      link-links-short h = rw (lt-leb _ _ lt, within, le-ltb _ _ nodes, lt-ltb _ _ h)
 
       module _ (links : l ≤ length (m .links)) where
         by-link : (o : Option Link) → linkAt (nodesOf m) p b ≡ o → orNoLink (bodyOf o) ≡ shownLink m p b
         unfolding shownLink cellOf
-        by-link o e = rw (lt-leb _ _ lt, le-ltb _ _ nodes, le-ltb _ _ links, e)
+        by-link o e = rw (lt-leb _ _ lt, within, le-ltb _ _ nodes, le-ltb _ _ links, e)
 
         pub link-beyond : linkCount (getD (m .nodes) p []) ≤ b → link.NoLink ≡ shownLink m p b
         link-beyond h = by-link none (link-past m nodes p b lt h)

@@ -9,7 +9,7 @@ use mathlib.Core.Option.{Option, none, some}
 use lib.ListN.{length, getD, getElem?, take, drop, length-map}
 use lib.Seq.{length-take-le, getD-take}
 use borrow.Author.Tests.{le-ltb}
-use Rattle.cells.specs.Memory.{Memory}
+use Rattle.cells.specs.Memory.{Memory, overLimit}
 use Rattle.cells.specs.NodeWords.{firstArea, linkStart, linkCount}
 use Rattle.cells.proofs.Lookups.LookupLaws.{area-held}
 use Rattle.cells.specs.Area.{belongs}
@@ -125,10 +125,10 @@ module _ (m : Memory) where
       next-left p b lt h lq ne = rw (link-in p b lt h lq, area-held m, ne)
 
       -- a link of the cell's own area leads to what `node` finds
-      pub next-own : (p b : ℕ) → p < n → b < count p → start p + b < l → belongs (firstArea (take n (m .nodes))) (getD (getD (m .links) (start p + b) []) 0 0) ≡ true
+      pub next-own : overLimit (m .ynd) ≡ false → (p b : ℕ) → p < n → b < count p → start p + b < l → belongs (firstArea (take n (m .nodes))) (getD (getD (m .links) (start p + b) []) 0 0) ≡ true
           → stepTo (nodeCall (m .ynd) (m .nodes) (getD (getD (m .links) (start p + b) []) 1 0)) ≡ stepIn m p b
       unfolding stepIn next nodeCall findIn
-      next-own p b lt h lq e = rw (link-in p b lt h lq, area-held m, e, same-numbers, le-ltb _ _ fits) (go (find _ _))
+      next-own o p b lt h lq e = rw (o, link-in p b lt h lq, area-held m, e, same-numbers, le-ltb _ _ fits) (go (find _ _))
         where
           go : (o : Option ℕ) → stepTo (placeOf o) ≡ stepOf (arrive o)
           go (some q) = refl

@@ -9,7 +9,7 @@ use lib.ListN.{length, take, drop, length-append, length-map}
 use lib.Seq.{length-take-le}
 use borrow.Author.Tests.{lt-leb, le-ltb}
 use Rattle.cells.specs.Lists.{upTo, joinTo}
-use Rattle.cells.specs.Memory.{Memory, short}
+use Rattle.cells.specs.Memory.{Memory, overLimit, short}
 use Rattle.cells.specs.Checks.{countsOf, linksAt}
 use Rattle.cells.specs.Read.{nodeIn, linksIn, filled, cellRead, readOf}
 use Rattle.cells.specs.CellOf.{linkOf, nodeWith, nodesOf, cellOf}
@@ -28,13 +28,15 @@ use Rattle.numbers.specs.declared.answer.Answer.the-variants.{Done, Refused}
 use Rattle.cells.specs.declared.write.Written.{Written}
 use Rattle.cells.specs.declared.write.Written.the-variants as written
 use Rattle.walks.proofs.Routes.{moveRoute, alike-route}
+use Rattle.cells.proofs.Forms.Limits.{not-over}
 use Rattle.cells.proofs.Reading.ReadLaws.{length-upTo, length-joinTo, length-links}
 use Rattle.cells.proofs.Reading.FileRead.{read-all}
 use Rattle.cells.proofs.Renumbering.CellRenumbered.{parted-length, number-length}
 use Rattle.walks.proofs.CallLists.{Alike}
 
--- nodes and links lie whole in the lists
+-- nodes and links lie whole in the lists, within the limits
 pub record Lies (m : Memory) : Type 0 where
+  pub within : overLimit (m .ynd) ≡ false
   pub nodes-lie : m .ynd .«node_count» ≤ length (m .nodes)
   pub links-lie : m .ynd .«link_count» ≤ length (m .links)
 
@@ -68,7 +70,7 @@ pub walk-left : (m : Memory) → Lies m → (choices : List ℕ) (start : ℕ) (
 unfolding walkCall
 walk-left m h choices start visited lt =
     let inside : start < m .ynd .«node_count» = omega (arith, nodes-long m h) in
-    rw (lt-leb (m .ynd .«node_count») start inside, le-ltb (length (m .nodes)) (m .ynd .«node_count») (h .nodes-lie), le-ltb (length (m .links)) (m .ynd .«link_count») (h .links-lie)) refl
+    rw (lt-leb (m .ynd .«node_count») start inside, h .within, le-ltb (length (m .nodes)) (m .ynd .«node_count») (h .nodes-lie), le-ltb (length (m .links)) (m .ynd .«link_count») (h .links-lie)) refl
 
 -- cells alike, in memory that holds them
 module _ (m d : Memory) (f : ℕ → ℕ) (hm : Lies m) (hd : Lies d) (a : Alike (cellOf m) (cellOf d) f) (choices : List ℕ) (p : ℕ) (lt : p < length (cellOf m .nodes)) where
@@ -97,13 +99,14 @@ unfolding filled cellRead
 read-lies s g m e = read-all Lies s g m (λ n l j h r held.
     let k = countsOf n j r in
     record {
+      within = not-over _ (held .few-nodes) (held .few-junctions);
       nodes-lie = omega (arith, length-append (upTo (nodeIn n) (k .nodes)) (drop (k .nodes) (m .nodes)), length-upTo (nodeIn n) (k .nodes));
       links-lie = omega (arith, length-append (joinTo (linksIn n l) (k .nodes)) (drop (k .links) (m .links)), length-joinTo (linksIn n l) (linksAt n) (length-links n l) (k .nodes));
     }) e
 
 renumber-lies : (m : Memory) (ps : List ℕ) (s : ℕ) → Lies m → Lies (renumber m s ps .memory)
-unfolding renumber renumberMemory newLists renumberLists recounted reordered
-renumber-lies m ps s h = go (answerOf (m .ynd .«node_count») (short m) s (length ps))
+unfolding renumber renumberMemory newLists renumberLists recounted reordered overLimit
+renumber-lies m ps s h = go (answerOf (overLimit (m .ynd)) (m .ynd .«node_count») (short m) s (length ps))
   where
     n : ℕ
     n = m .ynd .«node_count»
@@ -117,6 +120,7 @@ renumber-lies m ps s h = go (answerOf (m .ynd .«node_count») (short m) s (leng
     go : (a : Answer) → Lies (leftBy a m ps .memory)
     go (Refused x p) = h
     go Done = record {
+      within = h .within;
       nodes-lie = omega (arith, length-append (numberFrom 0 (parted isPed ns)) (drop n (m .nodes)), number-length 0 (parted isPed ns), parted-length ns, length-take-le n (m .nodes) (h .nodes-lie));
       links-lie = omega (arith, length-append (map (relinked (oldOf n (m .nodes))) (take l (m .links))) (drop l (m .links)), length-map (take l (m .links)) (relinked (oldOf n (m .nodes))), length-take-le l (m .links) (h .links-lie));
     }

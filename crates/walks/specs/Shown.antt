@@ -1,12 +1,13 @@
 -- Section 5: what a walk shows, as calls over the lent lists: of a node, of a junction with its heightmap values, of the link chosen.
--- Causes of refusal: 13 no such place; 7 at 0, 1, 2 and 4 a list shorter than its count.
+-- Causes of refusal: 13 no such place; 14 a struct over a limit; 7 at 0 to 4 a list shorter than its count.
 use Prim.Native.Nat.{ℕ}
 use mathlib.Core.Bool.{cond}
 use mathlib.Core.List.{List, []}
 use mathlib.Core.Option.{Option, none, some}
 use lib.Dec.{leb, ltb}
 use lib.ListN.{length, getElem?}
-use Rattle.cells.specs.Memory.{Memory}
+use Rattle.records.specs.Put.{put}
+use Rattle.cells.specs.Memory.{Memory, overLimit}
 use Rattle.cells.specs.Cell.{LinkBody, NodeBody, Junction, Cell, nodeAt, firstOf}
 use Rattle.cells.specs.CellOf.{cellOf}
 use Rattle.cells.specs.Lookup.{refOf}
@@ -20,6 +21,8 @@ use Rattle.walks.specs.declared.shown.ShownNode.{ShownNode}
 use Rattle.walks.specs.declared.shown.ShownNode.the-variants as node
 use Rattle.walks.specs.declared.shown.ShownJunction.{ShownJunction}
 use Rattle.walks.specs.declared.shown.ShownJunction.the-variants as junction
+use Rattle.walks.specs.declared.shown.ShownValues.{ShownValues}
+use Rattle.walks.specs.declared.shown.ShownValues.the-variants as values
 use Rattle.walks.specs.declared.shown.ShownLink.{ShownLink}
 use Rattle.walks.specs.declared.shown.ShownLink.the-variants as link
 
@@ -57,11 +60,12 @@ seenNode c p = seenBy (see c p .area) (see c p .body) (see c p .count) (placeOf 
 unfoldable pub shownNode : Memory → ℕ → ShownNode
 shownNode m p =
     cond (leb (m .ynd .«node_count») p) (node.Refused 13 0)
+    (cond (overLimit (m .ynd)) (node.Refused 14 0)
     (cond (ltb (length (m .nodes)) (m .ynd .«node_count»)) (node.Refused 7 0)
     (cond (ltb (length (m .links)) (m .ynd .«link_count»)) (node.Refused 7 1)
     (cond (ltb (length (m .junctions)) (m .ynd .«junction_count»)) (node.Refused 7 2)
     (cond (ltb (length (m .refs)) (m .ynd .«ref_count»)) (node.Refused 7 4)
-    (node.Node (seenNode (cellOf m) p))))))
+    (node.Node (seenNode (cellOf m) p)))))))
 
 -- ---- a junction: corner and heights by their bits, width and height; and its heightmap values
 
@@ -75,16 +79,36 @@ orNone none = junction.Refused 13 0
 unfoldable pub shownJunction : Memory → ℕ → ShownJunction
 shownJunction m p =
     cond (leb (m .ynd .«junction_count») p) (junction.Refused 13 0)
+    (cond (overLimit (m .ynd)) (junction.Refused 14 0)
     (cond (ltb (length (m .junctions)) (m .ynd .«junction_count»)) (junction.Refused 7 2)
-    (orNone (getElem? (cellOf m .junctions) p)))
+    (orNone (getElem? (cellOf m .junctions) p))))
 
 abbrev pub valuesOf : Option Junction → List ℕ
 valuesOf (some j) = j .values
 valuesOf none = []
 
 -- of the junction at place p, none where the cell has no such junction
-unfoldable pub shownValues : Memory → ℕ → List ℕ
-shownValues m p = valuesOf (getElem? (cellOf m .junctions) p)
+unfoldable pub valuesAt : Memory → ℕ → List ℕ
+valuesAt m p = valuesOf (getElem? (cellOf m .junctions) p)
+
+-- what the call answers, and the list lent for the values after it
+pub record ValuesLeft : Type 0 where
+  pub answer : ShownValues
+  pub values : List ℕ
+
+abbrev pub valuesLeft : ShownValues → List ℕ → ValuesLeft
+valuesLeft a v = record { answer = a; values = v }
+
+-- The values are copied to the front of a lent list: how many they are. 7 at 3 also where that list is shorter than they are.
+-- A refusal leaves it as it was.
+unfoldable pub shownValues : Memory → ℕ → List ℕ → ValuesLeft
+shownValues m p old =
+    cond (leb (m .ynd .«junction_count») p) (valuesLeft (values.Refused 13 0) old)
+    (cond (overLimit (m .ynd)) (valuesLeft (values.Refused 14 0) old)
+    (cond (ltb (length (m .junctions)) (m .ynd .«junction_count»)) (valuesLeft (values.Refused 7 2) old)
+    (cond (ltb (length (m .heights)) (m .ynd .«heightmap_count»)) (valuesLeft (values.Refused 7 3) old)
+    (cond (ltb (length old) (length (valuesAt m p))) (valuesLeft (values.Refused 7 3) old)
+    (valuesLeft (values.Copied (length (valuesAt m p))) (put old 0 (valuesAt m p)))))))
 
 -- ---- the link chosen by the byte b at place p
 
@@ -98,6 +122,7 @@ orNoLink none = link.NoLink
 unfoldable pub shownLink : Memory → ℕ → ℕ → ShownLink
 shownLink m p b =
     cond (leb (m .ynd .«node_count») p) (link.Refused 13 0)
+    (cond (overLimit (m .ynd)) (link.Refused 14 0)
     (cond (ltb (length (m .nodes)) (m .ynd .«node_count»)) (link.Refused 7 0)
     (cond (ltb (length (m .links)) (m .ynd .«link_count»)) (link.Refused 7 1)
-    (orNoLink (bodyOf (linkAt (cellOf m .nodes) p b)))))
+    (orNoLink (bodyOf (linkAt (cellOf m .nodes) p b))))))

@@ -4,7 +4,7 @@ use mathlib.Core.Bool.{Bool, true, false, cond}
 use mathlib.Core.List.{List, [], _∷_}
 use lib.Dec.{ltb}
 use lib.ListN.{length, set}
-use Rattle.cells.specs.Memory.{Memory}
+use Rattle.cells.specs.Memory.{Memory, overLimit}
 use Rattle.cells.specs.Cell.{numbers}
 use Rattle.cells.specs.CellOf.{cellOf}
 use Rattle.walks.specs.Sound.{sound}
@@ -28,12 +28,13 @@ pub record SoundLeft : Type 0 where
 abbrev pub soundLeft : Soundness → List ℕ → SoundLeft
 soundLeft a s = record { answer = a; scratch = s }
 
--- Causes of refusal: 7 at 0, 1 and 4 a list shorter than its count; 7 at 6 the scratch has fewer than 65,536 entries. A refusal leaves the
--- scratch as it was.
+-- Causes of refusal: 14 a struct over a limit; 7 at 0, 1 and 4 a list shorter than its count; 7 at 6 the scratch has fewer
+-- than 65,536 entries. A refusal leaves the scratch as it was.
 unfoldable pub soundCall : Memory → List ℕ → SoundLeft
 soundCall m scratch =
-    cond (ltb (length (m .nodes)) (m .ynd .«node_count»)) (soundLeft (Refused 7 0) scratch)
+    cond (overLimit (m .ynd)) (soundLeft (Refused 14 0) scratch)
+    (cond (ltb (length (m .nodes)) (m .ynd .«node_count»)) (soundLeft (Refused 7 0) scratch)
     (cond (ltb (length (m .links)) (m .ynd .«link_count»)) (soundLeft (Refused 7 1) scratch)
     (cond (ltb (length (m .refs)) (m .ynd .«ref_count»)) (soundLeft (Refused 7 4) scratch)
     (cond (ltb (length scratch) 65536) (soundLeft (Refused 7 6) scratch)
-    (soundLeft (verdict (sound (cellOf m))) (indexed (numbers (cellOf m .nodes)) 0 scratch)))))
+    (soundLeft (verdict (sound (cellOf m))) (indexed (numbers (cellOf m .nodes)) 0 scratch))))))

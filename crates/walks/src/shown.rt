@@ -1,11 +1,11 @@
 // What a walk shows: of a node, of a junction with its heightmap values, of the link chosen.
 ghost use mathlib.Core.Path.{_≡_};
 ghost use mathlib.Core.List.{List};
-ghost use Prim.Native.Nat.{ℕ};
-ghost use lib.ListN.{take, drop};
+ghost use Prim.Native.Nat.{ℕ, _<_};
+ghost use lib.ListN.{length, take, drop};
 ghost use Rattle.cells.specs.Memory.{memory};
 ghost use Rattle.cells.specs.CellOf.{linkOf, junctionWith};
-ghost use Rattle.walks.specs.Shown.{shownNode, seenJunction, shownJunction, shownValues, seenLink, shownLink};
+ghost use Rattle.walks.specs.Shown.{shownNode, seenJunction, shownJunction, valuesAt, valuesLeft, shownValues, seenLink, shownLink};
 ghost use Rattle.walks.specs.ShownParts.{seenOf};
 use cells::junction::JunctionWords;
 use cells::link::LinkWords;
@@ -21,7 +21,9 @@ use cells::range::link_count;
 use cells::range::link_start;
 use cells::range::value_count;
 use cells::range::value_start;
+use cells::room::over_limit;
 use cells::ynd::Ynd;
+use records::put::put_bytes;
 
 // The bits of three f32.
 pub struct PositionBits {
@@ -62,6 +64,12 @@ pub struct SeenJunction {
 
 pub enum ShownJunction {
     Junction(SeenJunction),
+    Refused(u32, usize),
+}
+
+// How many values were copied.
+pub enum ShownValues {
+    Copied(usize),
     Refused(u32, usize),
 }
 
@@ -117,6 +125,9 @@ pub fn shown_node(
     if ynd.node_count as usize <= place {
         return ShownNode::Refused(13, 0);
     }
+    if over_limit(ynd) {
+        return ShownNode::Refused(14, 0);
+    }
     if nodes.len() < ynd.node_count as usize {
         return ShownNode::Refused(7, 0);
     }
@@ -157,6 +168,9 @@ pub fn shown_junction(ynd: Ynd, junctions: &[JunctionWords], place: usize) -> Sh
     if ynd.junction_count as usize <= place {
         return ShownJunction::Refused(13, 0);
     }
+    if over_limit(ynd) {
+        return ShownJunction::Refused(14, 0);
+    }
     if junctions.len() < ynd.junction_count as usize {
         return ShownJunction::Refused(7, 2);
     }
@@ -175,22 +189,12 @@ fn part_held(heights: &[u8], l: usize, start: usize, count: usize) -> &[u8]
     &heights[start..start + n]
 }
 
-// The heightmap values of the junction at a place, none where there is no such junction.
-pub fn shown_values<'a>(
-    ynd: Ynd,
-    junctions: &[JunctionWords],
-    heights: &'a [u8],
-    place: usize,
-) -> &'a [u8]
+// The heightmap values of the junction at a place.
+fn values_at<'a>(ynd: Ynd, junctions: &[JunctionWords], heights: &'a [u8], place: usize) -> &'a [u8]
+    requires { ⌜ (place < ynd .«junction_count») × (place < length (now junctions)) ⌝ }
     ensures { λ r. ⌜ ((nodes : List (List ℕ)) (links : List (List ℕ)) (refs : List (List ℕ)) → now r
-        ≡ shownValues (memory ynd nodes links (now (junctions .entry)) (now (heights .entry)) refs) place) ⌝ }
+        ≡ valuesAt (memory ynd nodes links (now (junctions .entry)) (now (heights .entry)) refs) place) ⌝ }
 {
-    if ynd.junction_count as usize <= place {
-        return &heights[0..0];
-    }
-    if junctions.len() <= place {
-        return &heights[0..0];
-    }
     let w = junctions[place];
     part_held(
         heights,
@@ -198,6 +202,37 @@ pub fn shown_values<'a>(
         value_start(w) as usize,
         value_count(w),
     )
+}
+
+// The heightmap values of the junction at a place, copied to the front of `values`, whatever the lists that are not lent.
+pub fn shown_values(
+    ynd: Ynd,
+    junctions: &[JunctionWords],
+    heights: &[u8],
+    place: usize,
+    values: &mut [u8],
+) -> ShownValues
+    ensures { λ r. ⌜ ((nodes : List (List ℕ)) (links : List (List ℕ)) (refs : List (List ℕ)) → valuesLeft r (now (values .exit))
+        ≡ shownValues (memory ynd nodes links (now (junctions .entry)) (now (heights .entry)) refs) place (now (values .entry))) ⌝ }
+{
+    if ynd.junction_count as usize <= place {
+        return ShownValues::Refused(13, 0);
+    }
+    if over_limit(ynd) {
+        return ShownValues::Refused(14, 0);
+    }
+    if junctions.len() < ynd.junction_count as usize {
+        return ShownValues::Refused(7, 2);
+    }
+    if heights.len() < ynd.heightmap_count as usize {
+        return ShownValues::Refused(7, 3);
+    }
+    let v = values_at(ynd, junctions, heights, place);
+    if values.len() < v.len() {
+        return ShownValues::Refused(7, 3);
+    }
+    put_bytes(values, 0, v);
+    ShownValues::Copied(v.len())
 }
 
 fn seen_link(w: LinkWords) -> SeenLink
@@ -225,6 +260,9 @@ pub fn shown_link(
 {
     if ynd.node_count as usize <= place {
         return ShownLink::Refused(13, 0);
+    }
+    if over_limit(ynd) {
+        return ShownLink::Refused(14, 0);
     }
     if nodes.len() < ynd.node_count as usize {
         return ShownLink::Refused(7, 0);

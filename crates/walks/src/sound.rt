@@ -20,6 +20,7 @@ use cells::node_words::area_of;
 use cells::node_words::number_of;
 use cells::range::link_count;
 use cells::range::link_start;
+use cells::room::over_limit;
 use cells::ynd::Ynd;
 
 pub enum Soundness {
@@ -200,6 +201,9 @@ pub fn sound(
     ensures { λ r. ⌜ ((junctions : List (List ℕ)) (heights : List ℕ) → soundLeft r (now (scratch .exit))
         ≡ soundCall (memory ynd (now (nodes .entry)) (now (links .entry)) junctions heights (now (refs .entry))) (now (scratch .entry))) ⌝ }
 {
+    if over_limit(ynd) {
+        return Soundness::Refused(14, 0);
+    }
     let n = ynd.node_count as usize;
     let l = ynd.link_count as usize;
     let r = ynd.ref_count as usize;

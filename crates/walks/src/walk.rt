@@ -1,10 +1,11 @@
 // A walk from link to link.
 ghost use mathlib.Core.Path.{_≡_};
+ghost use mathlib.Core.Bool.{false};
 ghost use mathlib.Core.List.{List};
 ghost use Prim.Native.Nat.{ℕ, _≤_, _<_};
 ghost use lib.Dec.{leb};
 ghost use lib.ListN.{length, getD};
-ghost use Rattle.cells.specs.Memory.{memory};
+ghost use Rattle.cells.specs.Memory.{memory, overLimit};
 ghost use Rattle.walks.specs.WalkCall.{walkLeft, walkCall};
 ghost use Rattle.walks.specs.WalkParts.{lent, stepIn, stepTo, routeIn, traced, over};
 use cells::area::belongs_to;
@@ -15,6 +16,7 @@ use cells::lookup::node;
 use cells::node::NodeWords;
 use cells::range::link_count;
 use cells::range::link_start;
+use cells::room::over_limit;
 use cells::ynd::Ynd;
 
 // How a walk ends. `Left` has the area and the number that the link names.
@@ -67,7 +69,7 @@ fn step_to(p: Place) -> Step
 
 // Where the choice b leads from the node at place p.
 fn follow(ynd: Ynd, nodes: &[NodeWords], links: &[LinkWords], p: usize, b: usize) -> Step
-    requires { ⌜ (ynd .«node_count» ≤ length (now nodes)) × (ynd .«link_count» ≤ length (now links)) × (p < ynd .«node_count») × (b < 256) ⌝ }
+    requires { ⌜ (overLimit ynd ≡ false) × (ynd .«node_count» ≤ length (now nodes)) × (ynd .«link_count» ≤ length (now links)) × (p < ynd .«node_count») × (b < 256) ⌝ }
     ensures { λ r. ⌜ r ≡ stepIn (lent ynd (now (nodes .entry)) (now (links .entry))) p b ⌝ }
 {
     let start = link_start(nodes[p]) as usize;
@@ -96,7 +98,7 @@ fn places_visited(
     start: usize,
     choices: &[u8],
 ) -> usize
-    requires { ⌜ (ynd .«node_count» ≤ length (now nodes)) × (ynd .«link_count» ≤ length (now links)) × (start < ynd .«node_count») ⌝ }
+    requires { ⌜ (overLimit ynd ≡ false) × (ynd .«node_count» ≤ length (now nodes)) × (ynd .«link_count» ≤ length (now links)) × (start < ynd .«node_count») ⌝ }
     ensures { λ r. ⌜ r ≡ length (routeIn (lent ynd (now (nodes .entry)) (now (links .entry))) (now (choices .entry)) start .places) ⌝ }
 {
     let mut p = start;
@@ -126,7 +128,7 @@ fn has_room(
     choices: &[u8],
     room: usize,
 ) -> bool
-    requires { ⌜ (ynd .«node_count» ≤ length (now nodes)) × (ynd .«link_count» ≤ length (now links)) × (start < ynd .«node_count») ⌝ }
+    requires { ⌜ (overLimit ynd ≡ false) × (ynd .«node_count» ≤ length (now nodes)) × (ynd .«link_count» ≤ length (now links)) × (start < ynd .«node_count») ⌝ }
     ensures { λ r. ⌜ r ≡ leb (length (routeIn (lent ynd (now (nodes .entry)) (now (links .entry))) (now (choices .entry)) start .places)) room ⌝ }
 {
     if choices.len() < room {
@@ -144,7 +146,7 @@ fn store(
     choices: &[u8],
     visited: &mut [u32],
 ) -> Traced
-    requires { ⌜ (ynd .«node_count» ≤ length (now nodes)) × (ynd .«link_count» ≤ length (now links)) × (start < ynd .«node_count»)
+    requires { ⌜ (overLimit ynd ≡ false) × (ynd .«node_count» ≤ length (now nodes)) × (ynd .«link_count» ≤ length (now links)) × (start < ynd .«node_count»)
         × (ynd .«node_count» ≤ 4294967295)
         × (length (routeIn (lent ynd (now nodes) (now links)) (now choices) start .places) ≤ length (now visited)) ⌝ }
     ensures { λ r. ⌜ (r ≡ traced (routeIn (lent ynd (now (nodes .entry)) (now (links .entry))) (now (choices .entry)) start))
@@ -190,6 +192,9 @@ pub fn walk(
 {
     if ynd.node_count as usize <= start {
         return Walked::Refused(13, 0);
+    }
+    if over_limit(ynd) {
+        return Walked::Refused(14, 0);
     }
     if nodes.len() < ynd.node_count as usize {
         return Walked::Refused(7, 0);

@@ -4,7 +4,7 @@ use super::seen::{self, Call, Met};
 use super::{causes, same, Verdict, MODEL, PORT};
 use crate::inputs::rng::Rng;
 use crate::model::cell::Cell;
-use crate::model::{renumber, write, Answer};
+use crate::model::{refuse_if, renumber, write, Answer};
 use crate::port::memory::Memory;
 
 /// Lists with a few entries to spare.
@@ -24,6 +24,14 @@ pub fn unchanged(what: &str, before: &Memory, after: &Memory) -> Verdict {
 }
 
 fn lists(memory: &Memory) -> Answer<()> { causes::lists(memory, &[0, 1, 2, 3, 4]) }
+
+/// 14, 8 to 11, then 7: refs are counted by the struct.
+fn writable(memory: &Memory, cell: &Cell) -> Answer<()> {
+    causes::limits(memory)?;
+    write::check(cell)?;
+    refuse_if(memory.counts()[4] > 65_535, 11, 0)?;
+    lists(memory)
+}
 
 pub fn renumbering(memory: &Memory, scratch: usize, places: usize, r: &mut Rng) -> Verdict {
     let n = memory.counts()[0];
@@ -75,7 +83,7 @@ pub fn writing(memory: &Memory, length: usize, r: &mut Rng) -> Verdict {
     let mut expected = section.clone();
     let port = memory.write(&mut section);
     let cell = memory.cell();
-    let model = write::check(&cell).and_then(|_| lists(memory)).and_then(|_| write::write(&cell, &mut expected));
+    let model = writable(memory, &cell).and_then(|_| write::write(&cell, &mut expected));
     seen::note(Call::Write, &model);
     seen::met_times(Met::Written, *model.as_ref().unwrap_or(&0) as u64);
     same("writing's answer", PORT, &port, MODEL, &model)?;
@@ -89,8 +97,7 @@ pub fn writing_then_reading(memory: &Memory, length: usize, r: &mut Rng) -> Verd
     let mut after = memory.clone();
     let port = after.write_then_read(&mut section);
     let mut cell = memory.cell();
-    let model = write::check(&cell).and_then(|_| lists(memory))
-        .and_then(|_| write::write_then_read(&mut cell, &mut expected, memory.lent()));
+    let model = writable(memory, &cell).and_then(|_| write::write_then_read(&mut cell, &mut expected, memory.lent()));
     seen::note(Call::WriteRead, &model);
     same("write-then-read's answer", PORT, &port, MODEL, &model)?;
     same("the section after write-then-read", PORT, &section, MODEL, &expected)?;

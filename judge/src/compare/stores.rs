@@ -1,12 +1,13 @@
 //! Words, lists and heightmaps stored as a whole: the port's memory, entry by entry, and the cell that it holds beside
 //! the Rust's public fields.
+use super::causes;
 use super::memory::unchanged;
 use super::seen::{self, Call};
 use super::{same, Verdict, MODEL, PORT, RUST};
 use crate::inputs::rng::Rng;
 use crate::inputs::stores::{Store, Stores};
 use crate::model::cell::Link;
-use crate::model::{read, refuse_if, room, Answer, MOST_JUNCTIONS, MOST_LINKS, MOST_NODES};
+use crate::model::{read, refuse_if, room, Answer, MOST_LINKS, MOST_NODES};
 use crate::port::memory::{link_range, link_words, value_range, Memory};
 use crate::rust;
 use crate::ynd::{Heightmap, Ynd};
@@ -71,13 +72,9 @@ fn laid(m: &Memory, store: &Store) -> Option<Answer<Memory>> {
     })
 }
 
-fn within_limits(m: &Memory) -> Answer<()> {
-    refuse_if(m.counts()[0] > MOST_NODES || m.counts()[2] > MOST_JUNCTIONS, 14, 0)
-}
-
 fn truncated(mut m: Memory, list: usize, count: usize) -> Answer<Memory> {
     refuse_if(count > m.counts()[list], 13, 0)?;
-    within_limits(&m)?;
+    causes::limits(&m)?;
     m.ynd[10 + list] = count as u32;
     Ok(m)
 }
@@ -91,7 +88,7 @@ fn placed(old: (usize, usize), new: usize, count: usize) -> (usize, usize) {
 fn linked(mut m: Memory, place: usize, links: &[Link]) -> Answer<Memory> {
     let [n, l, ..] = m.counts();
     refuse_if(place >= n, 13, 0)?;
-    within_limits(&m)?;
+    causes::limits(&m)?;
     refuse_if(links.len() > MOST_LINKS, 14, 0)?;
     let (at, after) = placed(m.nodes.get(place).map_or((0, 0), link_range), links.len(), l);
     refuse_if(after > u32::MAX as usize, 14, 0)?;
@@ -106,7 +103,7 @@ fn linked(mut m: Memory, place: usize, links: &[Link]) -> Answer<Memory> {
 fn mapped(mut m: Memory, place: usize, size: [u8; 2], values: &[u8]) -> Answer<Memory> {
     let [_, _, j, h, _] = m.counts();
     refuse_if(place >= j, 13, 0)?;
-    within_limits(&m)?;
+    causes::limits(&m)?;
     let (at, after) = placed(m.junctions.get(place).map_or((0, 0), value_range), values.len(), h);
     refuse_if(after > u32::MAX as usize, 14, 0)?;
     refuse_if(values.len() != size[0] as usize * size[1] as usize, 12, 0)?;

@@ -31,6 +31,11 @@ pub fn refuse_if(bad: bool, number: u32, place: usize) -> Answer<()> {
     if bad { Err(Refused(number, place)) } else { Ok(()) }
 }
 
+/// Refusal 14 in every call on a cell: over a limit of section 4. Only a cell made by hand is.
+pub fn within(cell: &cell::Cell) -> Answer<()> {
+    refuse_if(cell.nodes.len() > MOST_NODES || cell.junctions.len() > MOST_JUNCTIONS, 14, 0)
+}
+
 /// Refusal 7: the lowest place whose lent entries are fewer than those needed.
 pub fn room(first_place: usize, needed: &[usize], lent: &[usize]) -> Answer<()> {
     match needed.iter().zip(lent).position(|(n, l)| l < n) {

@@ -1,10 +1,11 @@
 //! Section 4: renumbering. Non-ped nodes first, then ped nodes, each group in old order, numbered by place.
 use super::cell::Cell;
-use super::{room, Answer};
+use super::{room, within, Answer};
 
 /// Renumbers, and gives each node's new place by its old one. The scratch must have 65,536 entries, the list one a
 /// node.
 pub fn renumber(cell: &mut Cell, scratch: usize, places: usize) -> Answer<Vec<usize>> {
+    within(cell)?;
     room(6, &[65_536, cell.nodes.len()], &[scratch, places])?;
     let area = cell.area();
     let order: Vec<usize> = [false, true].into_iter()

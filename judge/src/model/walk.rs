@@ -1,6 +1,6 @@
 //! Section 5: walks and soundness.
 use super::cell::{Cell, Junction};
-use super::{refuse_if, room, Answer};
+use super::{refuse_if, room, within, Answer};
 
 #[derive(Debug, Clone, Copy, PartialEq, Eq)]
 pub enum End { Done, NoLink, Left(u16, u16), NoNode }
@@ -27,6 +27,7 @@ pub struct Walk {
 
 pub fn walk(cell: &Cell, start: usize, choices: &[u8]) -> Answer<Walk> {
     refuse_if(start >= cell.nodes.len(), 13, 0)?;
+    within(cell)?;
     let mut w = Walk { end: End::Done, places: vec![start], seen: vec![see(cell, start)], chosen: Vec::new() };
     for &choice in choices {
         let here = &cell.nodes[*w.places.last().unwrap()];

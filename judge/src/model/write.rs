@@ -1,7 +1,7 @@
-//! Section 4: writing, with its refusals: 8 and 9 node by node, 10, 11, then 7.
+//! Section 4: writing, with its refusals: 14, 8 and 9 node by node, 10, 11, then 7.
 use super::cell::Cell;
 use super::sections::{put_le, SYSTEM};
-use super::{read, records, refuse_if, room, Answer};
+use super::{read, records, refuse_if, room, within, Answer};
 
 /// The five blocks in the order in which they are laid, as places of the arrays: refs, heightmap bytes, junctions,
 /// links, nodes.
@@ -53,6 +53,7 @@ pub fn write_then_read(cell: &mut Cell, section: &mut [u8], lent: [usize; 5]) ->
 }
 
 pub fn check(cell: &Cell) -> Answer<()> {
+    within(cell)?;
     let mut links = 0;
     for (place, n) in cell.nodes.iter().enumerate() {
         refuse_if(n.links.len() > 31, 8, place)?;

@@ -2,6 +2,7 @@
 use Prim.Native.Nat.{ℕ, _+_, _<_, _≤_}
 use native.Mathlib.Omega.{arith}
 use mathlib.Core.Path.{_≡_, refl, ap, sym, _∙_}
+use mathlib.Core.Bool.{Bool}
 use mathlib.Core.List.{List}
 use lib.Dec.{eqb, ltb, leb}
 use lib.ListN.{length}
@@ -39,12 +40,13 @@ module _ (a : Answer) (m next : Memory) where
       go Done e = not-done (sym e)
       go (Refused cause place) e = refl
 
-pub room-inside : (limit n len list : ℕ) → roomFor limit n len list ≡ Done → (n < limit) × (n < len)
+pub room-inside : (over : Bool) (limit n len list : ℕ) → roomFor over limit n len list ≡ Done → (n < limit) × (n < len)
 unfolding roomFor
-room-inside limit n len list e =
-    by-test (leb limit n) (λ t. not-done (rw t at e)) (λ f₀.
-    by-test (leb len n) (λ t. not-done (rw (f₀, t) at e)) (λ f₁.
-    (leb-false limit n f₀, leb-false len n f₁)))
+room-inside over limit n len list e =
+    by-test over (λ t. not-done (rw t at e)) (λ o.
+    by-test (leb limit n) (λ t. not-done (rw (o, t) at e)) (λ f₀.
+    by-test (leb len n) (λ t. not-done (rw (o, f₀, t) at e)) (λ f₁.
+    (leb-false limit n f₀, leb-false len n f₁))))
 
 pub record JunctionRoom (n h size v junctions heights : ℕ) : Type 0 where
   pub few : n < 4096
@@ -53,16 +55,18 @@ pub record JunctionRoom (n h size v junctions heights : ℕ) : Type 0 where
   pub junctions-fit : n < junctions
   pub heights-fit : h + v ≤ heights
 
-pub junction-room : (n h size v junctions heights : ℕ) → roomForJunction n h size v junctions heights ≡ Done → JunctionRoom n h size v junctions heights
+pub junction-room : (over : Bool) (n h size v junctions heights : ℕ) → roomForJunction over n h size v junctions heights ≡ Done
+    → JunctionRoom n h size v junctions heights
 unfolding roomForJunction
-junction-room n h size v junctions heights e =
-    by-test (leb 4096 n) (λ t. not-done (rw t at e)) (λ f₀.
-    by-test (ltb 4294967295 (h + v)) (λ t. not-done (rw (f₀, t) at e)) (λ f₁.
+junction-room over n h size v junctions heights e =
+    by-test over (λ t. not-done (rw t at e)) (λ o.
+    by-test (leb 4096 n) (λ t. not-done (rw (o, t) at e)) (λ f₀.
+    by-test (ltb 4294967295 (h + v)) (λ t. not-done (rw (o, f₀, t) at e)) (λ f₁.
     by-test (eqb v size) (λ q.
-    by-test (leb junctions n) (λ t. not-done (rw (f₀, f₁, q, t) at e)) (λ f₂.
-    by-test (ltb heights (h + v)) (λ t. not-done (rw (f₀, f₁, q, f₂, t) at e)) (λ f₃.
+    by-test (leb junctions n) (λ t. not-done (rw (o, f₀, f₁, q, t) at e)) (λ f₂.
+    by-test (ltb heights (h + v)) (λ t. not-done (rw (o, f₀, f₁, q, f₂, t) at e)) (λ f₃.
     record { few = leb-false _ _ f₀; values-few = ltb-false _ _ f₁; sized = eqb-true v size q; junctions-fit = leb-false _ _ f₂; heights-fit = ltb-false _ _ f₃ })))
-    (λ f. not-done (rw (f₀, f₁, f) at e))))
+    (λ f. not-done (rw (o, f₀, f₁, f) at e)))))
 
 pub put-fits : (l : List ℕ) (at : ℕ) (x : List ℕ) → at + length x ≤ length l → putIn l at x ≡ put l at x
 unfolding putIn

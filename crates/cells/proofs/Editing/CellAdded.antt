@@ -19,7 +19,7 @@ use Rattle.cells.specs.NodeAccess.{newNode}
 use Rattle.cells.specs.Words.{toNode, nodeWords, linkWords, junctionWords, refWords}
 use Rattle.cells.specs.Cell.{Link, Node, Junction}
 use Rattle.cells.specs.CellOf.{linkOf, refOf, bodyOf, nodeWith, junctionWith, nodesOf, junctionsOf, refsOf, cellOf}
-use Rattle.cells.specs.Memory.{Memory, memory}
+use Rattle.cells.specs.Memory.{Memory, memory, overLimit}
 use Rattle.cells.specs.Edit.{startAt}
 use Rattle.cells.specs.Add.{withCounts, moreNodes, moreLinks, moreRefs, moreJunctions, roomFor, roomForJunction, addNode, addRef, addJunction}
 use Rattle.cells.specs.AddLink.{heldAt, atIn, inserted, nodesAfter, roomForLink, addLink}
@@ -55,8 +55,8 @@ module _ (m : Memory) (area : ℕ) (at : Vec3) (fits : area < 65536) where
   pub node-added : addNode m area at .answer ≡ Done → cellOf (addNode m area at .memory) ≡ withNodes (cellOf m .nodes ++ (new ∷ [])) (cellOf m)
   unfolding addNode cellOf nodesOf junctionsOf refsOf withCounts
   node-added e =
-      let d = done-memory (roomFor 65536 (m .ynd .«node_count») (length (m .nodes)) 0) m node-memory e in
-      let r = room-inside 65536 (m .ynd .«node_count») (length (m .nodes)) 0 (d .0) in
+      let d = done-memory (roomFor (overLimit (m .ynd)) 65536 (m .ynd .«node_count») (length (m .nodes)) 0) m node-memory e in
+      let r = room-inside (overLimit (m .ynd)) 65536 (m .ynd .«node_count») (length (m .nodes)) 0 (d .0) in
       let ls = map linkOf (take (m .ynd .«link_count») (m .links)) in
       let f = nodeWith ls in
       let w = nodeWords (newNode area (m .ynd .«node_count») (dequantised (quantised at))) in
@@ -73,8 +73,8 @@ module _ (m : Memory) (r : NodeJunctionRef) where
   pub ref-added : addRef m r .answer ≡ Done → cellOf (addRef m r .memory) ≡ withRefs (cellOf m .refs ++ (refFrom r ∷ [])) (cellOf m)
   unfolding addRef cellOf nodesOf junctionsOf refsOf withCounts refWords
   ref-added e =
-      let d = done-memory (roomFor 4294967295 (m .ynd .«ref_count») (length (m .refs)) 4) m ref-memory e in
-      let h = room-inside 4294967295 (m .ynd .«ref_count») (length (m .refs)) 4 (d .0) in
+      let d = done-memory (roomFor (overLimit (m .ynd)) 4294967295 (m .ynd .«ref_count») (length (m .refs)) 4) m ref-memory e in
+      let h = room-inside (overLimit (m .ynd)) 4294967295 (m .ynd .«ref_count») (length (m .refs)) 4 (d .0) in
       let g = more-held refOf (m .ynd .«ref_count») (m .refs) (refWords r) (h .1) in
       ap cellOf (d .1) ∙ (λ i. withRefs (g i) (cellOf m))
 
@@ -87,8 +87,8 @@ link-call m p x apart e =
     let n = m .ynd .«node_count» in
     let l = m .ynd .«link_count» in
     let next = memory (moreLinks (m .ynd)) (nodesAfter n l p (m .nodes)) (inserted (atIn (m .nodes) p l) l (linkWords x) (m .links)) (m .junctions) (m .heights) (m .refs) in
-    let d = done-memory (roomForLink n l p (heldAt (m .nodes) p l) (length (m .nodes)) (length (m .links))) m next e in
-    let r = accepted n l p (heldAt (m .nodes) p l) (length (m .nodes)) (length (m .links)) (d .0) in
+    let d = done-memory (roomForLink (overLimit (m .ynd)) n l p (heldAt (m .nodes) p l) (length (m .nodes)) (length (m .links))) m next e in
+    let r = accepted (overLimit (m .ynd)) n l p (heldAt (m .nodes) p l) (length (m .nodes)) (length (m .links)) (d .0) in
     let g = link-added n l p (m .nodes) (m .links) (linkWords x) (r .place) (r .nodes-fit) (r .links-fit) (r .few) (r .one-more) apart in
     ap cellOf (d .1) ∙ (λ i. withNodes (g i) (cellOf m))
 
@@ -159,8 +159,8 @@ module _ (m : Memory) (j : PathJunction) (values : List ℕ) (wide : j .width < 
   junction-added inside e =
       let w = junctionWords (startAt j h) in
       let next = memory (moreJunctions (m .ynd) (length values)) (m .nodes) (m .links) (set (m .junctions) n w) (put (m .heights) h values) (m .refs) in
-      let d = done-memory (roomForJunction n h (j .width * j .height) (length values) (length (m .junctions)) (length (m .heights))) m next e in
-      let r = junction-room n h (j .width * j .height) (length values) (length (m .junctions)) (length (m .heights)) (d .0) in
+      let d = done-memory (roomForJunction (overLimit (m .ynd)) n h (j .width * j .height) (length values) (length (m .junctions)) (length (m .heights))) m next e in
+      let r = junction-room (overLimit (m .ynd)) n h (j .width * j .height) (length values) (length (m .junctions)) (length (m .heights)) (d .0) in
       let fits : h ≤ length (m .heights) = omega (arith, r .heights-fit) in
       let p = pool-more (m .heights) h values fits in
       let new = ap (λ (s : ℕ). junctionWith (pool ++ values) (junctionWords (startAt j s))) (sym (length-take-le h (m .heights) fits)) ∙ new-junction pool values j wide high (r .sized) in

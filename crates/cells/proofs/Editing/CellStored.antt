@@ -2,6 +2,7 @@
 use Prim.Native.Nat.{ℕ, zero, suc, _*_, _%_, _≤_, _<_}
 use native.Mathlib.Omega.{arith}
 use mathlib.Core.Path.{_≡_, refl, ap, sym, _∙_}
+use mathlib.Core.Bool.{Bool, true, false, not, _&&_}
 use mathlib.Core.List.{List, [], _∷_, map}
 use lib.Dec.{eqb, ltb, leb}
 use lib.Ieee.{binary32, toBits}
@@ -21,11 +22,12 @@ use Rattle.cells.specs.Words.{toNode, nodeWords, junctionWords, refWords
 use Rattle.cells.specs.Cell.{Link, Node, noNode, nodeAt}
 use Rattle.cells.specs.CellOf.{linkOf, refOf, bodyOf, nodeWith, junctionWith, nodesOf, junctionsOf, refsOf, cellOf}
 use Rattle.cells.specs.CellOf.{bitsOf, marksOf}
-use Rattle.cells.specs.Memory.{Memory, memory}
+use Rattle.cells.specs.Memory.{Memory, memory, overLimit}
 use Rattle.cells.specs.Edit.{entryAt, nodeEntry, refEntry, changeAt, rangeKept, putNode, setPosition, putRef, valueRange, startAt, sizedEntry, putJunction}
 use Rattle.cells.specs.EditedCell.{nodeFrom, nodeMoved, refFrom, junctionFrom, withNodes, withRefs, withJunctions}
 use Rattle.cells.proofs.Sequences.Tests.{by-test}
 use Rattle.cells.proofs.Sequences.Filled.{mapped-at}
+use Rattle.cells.proofs.Editing.EditLaws.{lent-false}
 use Rattle.cells.proofs.Editing.AddLaws.{not-done}
 use Rattle.cells.proofs.Forms.Entries.{node-back, node-fits}
 use Rattle.cells.proofs.Editing.CellAdded.{junction-words}
@@ -44,23 +46,33 @@ pub held-at : {A B : Type 0} (f : A → B) (n : ℕ) (l : List A) (p : ℕ) (d :
 held-at f n l p d e h fits = mapped-at f (take n l) p d e (omega (arith, length-take-le n l fits)) ∙ ap f (getD-take n l p d h)
 
 -- what an accepted call has stored
-entry-done : {A : Type 0} (n list p : ℕ) (f : A → A) (d : A) (l : List A) → changeAt (entryAt n (length l) list p) f d l .answer ≡ Done
-    → (p < n) × (n ≤ length l) × (changeAt (entryAt n (length l) list p) f d l .list ≡ set l p (f (getD l p d)))
+entry-done : {A : Type 0} (over : Bool) (n list p : ℕ) (f : A → A) (d : A) (l : List A)
+    → changeAt (entryAt over n (length l) list p) f d l .answer ≡ Done
+    → (p < n) × (n ≤ length l) × (changeAt (entryAt over n (length l) list p) f d l .list ≡ set l p (f (getD l p d)))
 unfolding entryAt
-entry-done n list p f d l e =
+entry-done over n list p f d l e =
     by-test (leb n p) (λ t. not-done (rw t at e)) (λ f₀.
-    by-test (ltb (length l) n) (λ t. not-done (rw (f₀, t) at e)) (λ f₁.
-    (leb-false n p f₀, ltb-false (length l) n f₁, rw (f₀, f₁))))
+    by-test over (λ t. not-done (rw (f₀, t) at e)) (λ o.
+    by-test (ltb (length l) n) (λ t. not-done (rw (f₀, o, t) at e)) (λ f₁.
+    (leb-false n p f₀, ltb-false (length l) n f₁, rw (f₀, o, f₁)))))
 
-sized-done : (n p values held : ℕ) (f : List ℕ → List ℕ) (l : List (List ℕ)) → changeAt (sizedEntry n (length l) p values held) f [] l .answer ≡ Done
-    → (p < n) × (values ≡ held) × (n ≤ length l) × (changeAt (sizedEntry n (length l) p values held) f [] l .list ≡ set l p (f (getD l p [])))
+sized-done : (over : Bool) (n p values held : ℕ) (f : List ℕ → List ℕ) (l : List (List ℕ))
+    → changeAt (sizedEntry over n (length l) p values held) f [] l .answer ≡ Done
+    → (p < n) × (values ≡ held) × (n ≤ length l)
+    × (changeAt (sizedEntry over n (length l) p values held) f [] l .list ≡ set l p (f (getD l p [])))
 unfolding sizedEntry
-sized-done n p values held f l e =
+sized-done over n p values held f l e =
     by-test (leb n p) (λ t. not-done (rw t at e)) (λ f₀.
-    by-test (eqb values held) (λ q.
-    by-test (ltb (length l) n) (λ t. not-done (rw (f₀, q, t) at e)) (λ f₁.
-    (leb-false n p f₀, eqb-true values held q, ltb-false (length l) n f₁, rw (f₀, q, f₁))))
-    (λ g. not-done (rw (f₀, g) at e)))
+    by-test over (λ t. not-done (rw (f₀, t) at e)) (λ o.
+    by-test (ltb p (length l) && not (eqb values held)) (λ t. not-done (rw (f₀, o, t) at e)) (λ g.
+    by-test (ltb (length l) n) (λ t. not-done (rw (f₀, o, g, t) at e)) (λ f₁.
+    let lent : p < length l = omega (arith, leb-false n p f₀, ltb-false (length l) n f₁) in
+    let same = not-not (eqb values held) (lent-false p (length l) (not (eqb values held)) lent g) in
+    (leb-false n p f₀, eqb-true values held same, ltb-false (length l) n f₁, rw (f₀, o, g, f₁))))))
+  where
+    not-not : (b : Bool) → not b ≡ false → b ≡ true
+    not-not true q = refl
+    not-not false q = sym q
 
 -- ---- nodes
 
@@ -120,7 +132,7 @@ module _ (m : Memory) (p : ℕ) (start : linkStart (getD (m .nodes) p []) < 4294
       ≡ withNodes (set (cellOf m .nodes) p (nodeFrom (nodeAt (cellOf m .nodes) p .links) x)) (cellOf m)
   unfolding putNode nodeEntry cellOf nodesOf junctionsOf refsOf rangeKept changed
   node-put x h e =
-      let d = entry-done n 0 p (λ v. nodeWords (rangeKept x v)) [] (m .nodes) e in
+      let d = entry-done (overLimit (m .ynd)) n 0 p (λ v. nodeWords (rangeKept x v)) [] (m .nodes) e in
       let k = node-words ls (rangeKept x w) (x .position) (kept-fits x w h start) ∙ ap (λ (l : List Link). nodeFrom l x) (own-links (d .0) (d .1)) in
       let g = ap (λ (l : List (List ℕ)). map (nodeWith ls) (take n l)) (d .2) ∙ nodes-stored (nodeWords (rangeKept x w)) (nodeFrom (nodeAt (nodesOf m) p .links) x) (d .0) k in
       λ i. withNodes (g i) (cellOf m)
@@ -131,7 +143,7 @@ module _ (m : Memory) (p : ℕ) (start : linkStart (getD (m .nodes) p []) < 4294
   unfolding setPosition nodeEntry cellOf nodesOf junctionsOf refsOf changed toNode areaOf numberOf bodyOf
   position-set at e =
       let to = dequantised (quantised at) in
-      let d = entry-done n 0 p (λ v. nodeWords (withPosition (toNode v) to)) [] (m .nodes) e in
+      let d = entry-done (overLimit (m .ynd)) n 0 p (λ v. nodeWords (withPosition (toNode v) to)) [] (m .nodes) e in
       let s : getD w 7 0 % 4294967296 ≡ getD w 7 0 = omega (arith, start) in
       let k = node-words ls (toNode w) to (node-fits w)
       ∙ ap (λ (x : ℕ). record { area = areaOf w; number = numberOf w; links = take (linkCount w) (drop x ls); body = nodeMoved to (nodeWith ls w) .body }) s
@@ -146,7 +158,7 @@ pub ref-put : (m : Memory) (p : ℕ) (r : NodeJunctionRef) → putRef (m .ynd) (
     ≡ withRefs (set (cellOf m .refs) p (refFrom r)) (cellOf m)
 unfolding putRef refEntry cellOf nodesOf junctionsOf refsOf refWords
 ref-put m p r e =
-    let d = entry-done (m .ynd .«ref_count») 4 p (λ v. refWords r) [] (m .refs) e in
+    let d = entry-done (overLimit (m .ynd)) (m .ynd .«ref_count») 4 p (λ v. refWords r) [] (m .refs) e in
     let g = ap (λ (l : List (List ℕ)). map refOf (take (m .ynd .«ref_count») l)) (d .2) ∙ set-held refOf (m .ynd .«ref_count») (m .refs) p (refWords r) (d .0) in
     λ i. withRefs (g i) (cellOf m)
 
@@ -165,7 +177,7 @@ junction-put m p j hw hh e =
     let hs = take (m .ynd .«heightmap_count») (m .heights) in
     let w = getD (m .junctions) p [] in
     let f = junctionWith hs in
-    let d = sized-done n p (j .width * j .height) (valueRange (m .junctions) p .count) (λ v. junctionWords (startAt j (valueStart v))) (m .junctions) e in
+    let d = sized-done (overLimit (m .ynd)) n p (j .width * j .height) (valueRange (m .junctions) p .count) (λ v. junctionWords (startAt j (valueStart v))) (m .junctions) e in
     let k = junction-words hs j (valueStart w) hw hh ∙ ap (λ (c : ℕ). junctionFrom (take c (drop (valueStart w) hs)) j) (d .1) in
     let g = ap (λ (l : List (List ℕ)). map f (take n l)) (d .3) ∙ set-held f n (m .junctions) p (junctionWords (startAt j (valueStart w))) (d .0)
     ∙ ap (set (map f (take n (m .junctions))) p) k in

@@ -2,6 +2,7 @@
 use Prim.Native.Nat.{ℕ, suc, _+_, _-_, _≤_, _<_}
 use native.Mathlib.Omega.{arith}
 use mathlib.Core.Path.{_≡_, ap, sym, _∙_}
+use mathlib.Core.Bool.{Bool}
 use mathlib.Core.List.{List, [], _∷_, _++_}
 use lib.Dec.{eqb, ltb, leb}
 use lib.ListN.{length, getD, set, take, drop, length-append, length-drop, take-append-drop}
@@ -62,15 +63,16 @@ unfolding behind
 behind-bound s e l h = by-test (eqb e 0) (λ t. rw t (omega arith, omega arith)) (λ f. let ne = eqb-false e 0 f in rw f (omega arith, omega arith))
 
 -- an accepted call has room
-pub accepted : (n l p e a b : ℕ) → roomForLink n l p e a b ≡ Done → LinkRoom n l p e a b
+pub accepted : (over : Bool) (n l p e a b : ℕ) → roomForLink over n l p e a b ≡ Done → LinkRoom n l p e a b
 unfolding roomForLink
-accepted n l p e a b d =
+accepted over n l p e a b d =
     by-test (leb n p) (λ t. not-done (rw t at d)) (λ f₀.
-    by-test (leb 4294967295 l) (λ t. not-done (rw (f₀, t) at d)) (λ f₁.
-    by-test (leb 255 e) (λ t. not-done (rw (f₀, f₁, t) at d)) (λ f₂.
-    by-test (ltb a n) (λ t. not-done (rw (f₀, f₁, f₂, t) at d)) (λ f₃.
-    by-test (leb b l) (λ t. not-done (rw (f₀, f₁, f₂, f₃, t) at d)) (λ f₄.
-    record { place = leb-false _ _ f₀; few = leb-false _ _ f₁; one-more = leb-false _ _ f₂; nodes-fit = ltb-false _ _ f₃; links-fit = leb-false _ _ f₄ })))))
+    by-test over (λ t. not-done (rw (f₀, t) at d)) (λ o.
+    by-test (leb 4294967295 l) (λ t. not-done (rw (f₀, o, t) at d)) (λ f₁.
+    by-test (leb 255 e) (λ t. not-done (rw (f₀, o, f₁, t) at d)) (λ f₂.
+    by-test (ltb a n) (λ t. not-done (rw (f₀, o, f₁, f₂, t) at d)) (λ f₃.
+    by-test (leb b l) (λ t. not-done (rw (f₀, o, f₁, f₂, f₃, t) at d)) (λ f₄.
+    record { place = leb-false _ _ f₀; few = leb-false _ _ f₁; one-more = leb-false _ _ f₂; nodes-fit = ltb-false _ _ f₃; links-fit = leb-false _ _ f₄ }))))))
 
 pub held-few : (nodes : List (List ℕ)) (p l : ℕ) → heldAt nodes p l ≤ l - linkStart (getD nodes p [])
 held-few nodes p l = held-bound (linkRange nodes p) l .0

@@ -3,6 +3,7 @@ use Prim.Native.Nat.{ℕ, zero, suc, _+_, _≤_, _<_}
 use native.Mathlib.Omega.{arith}
 use mathlib.Core.Path.{_≡_, refl, ap, sym, _∙_}
 use mathlib.Core.Logic.{_⊎_, ⊎-elim}
+use mathlib.Core.Bool.{Bool, _&&_}
 use mathlib.Core.List.{List, [], _∷_, map}
 use lib.Dec.{ltb, leb}
 use lib.ListN.{length, getD, set, take, drop}
@@ -15,11 +16,11 @@ use Rattle.cells.specs.NodeWords.{linkStart, linkCount, valueStart, valu
 use Rattle.cells.specs.Words.{linkWords}
 use Rattle.cells.specs.Cell.{Link, Node, Junction, noNode, nodeAt}
 use Rattle.cells.specs.CellOf.{linkOf, nodeWith, junctionWith, nodesOf, junctionsOf, refsOf, cellOf}
-use Rattle.cells.specs.Memory.{Memory, memory}
+use Rattle.cells.specs.Memory.{Memory, memory, overLimit}
 use Rattle.cells.specs.Edit.{rangeEntry, heldIn, linkRange, valueRange, linkEntry, heightEntry, changeAt, putLink, putHeight}
 use Rattle.cells.specs.EditedCell.{withNodes, withJunctions, linkChanged, heightChanged, Alone}
 use Rattle.cells.proofs.Sequences.Tests.{by-test}
-use Rattle.cells.proofs.Editing.EditLaws.{held-bound}
+use Rattle.cells.proofs.Editing.EditLaws.{lent-false, held-bound}
 use Rattle.cells.proofs.Editing.AddLaws.{not-done}
 use Rattle.cells.proofs.Editing.LinkAdded.{withLinks}
 use Rattle.cells.proofs.Editing.CellAdded.{withValues}
@@ -79,17 +80,21 @@ module _ {B C : Type 0} (start count : List ℕ → ℕ) (make : List ℕ → Li
       (rw (getD-take n owners p [] lt) (ap (make (getD owners p [])) (part-own (start (getD owners p [])) (count (getD owners p [])) k i y P at less)))
 
 -- what an accepted call has stored
-range-done : {A : Type 0} (n len list l values p k : ℕ) (r : Range) (f : A → A) (d : A) (xs : List A) → changeAt (rangeEntry n len list l (length xs) values p r k) f d xs .answer ≡ Done
-    → (p < n) × (n ≤ len) × (k < r .count) × (r .start + k < l) × (changeAt (rangeEntry n len list l (length xs) values p r k) f d xs .list ≡ set xs (r .start + k) (f (getD xs (r .start + k) d)))
+range-done : {A : Type 0} (over : Bool) (n len list l values p k : ℕ) (r : Range) (f : A → A) (d : A) (xs : List A)
+    → changeAt (rangeEntry over n len list l (length xs) values p r k) f d xs .answer ≡ Done
+    → (p < n) × (n ≤ len) × (k < r .count) × (r .start + k < l)
+    × (changeAt (rangeEntry over n len list l (length xs) values p r k) f d xs .list ≡ set xs (r .start + k) (f (getD xs (r .start + k) d)))
 unfolding rangeEntry
-range-done n len list l values p k r f d xs e =
+range-done over n len list l values p k r f d xs e =
     by-test (leb n p) (λ t. not-done (rw t at e)) (λ f₀.
-    by-test (leb (heldIn r l) k) (λ t. not-done (rw (f₀, t) at e)) (λ f₁.
-    by-test (ltb len n) (λ t. not-done (rw (f₀, f₁, t) at e)) (λ f₂.
-    by-test (ltb (length xs) l) (λ t. not-done (rw (f₀, f₁, f₂, t) at e)) (λ f₃.
-    let h = leb-false (heldIn r l) k f₁ in
+    by-test (ltb p len && leb (heldIn r l) k) (λ t. not-done (rw (f₀, t) at e)) (λ f₁.
+    by-test over (λ t. not-done (rw (f₀, f₁, t) at e)) (λ o.
+    by-test (ltb len n) (λ t. not-done (rw (f₀, f₁, o, t) at e)) (λ f₂.
+    by-test (ltb (length xs) l) (λ t. not-done (rw (f₀, f₁, o, f₂, t) at e)) (λ f₃.
+    let lent : p < len = omega (arith, leb-false n p f₀, ltb-false len n f₂) in
+    let h = leb-false (heldIn r l) k (lent-false p len (leb (heldIn r l) k) lent f₁) in
     let b = held-bound r l in
-    (leb-false n p f₀, ltb-false len n f₂, omega (arith, b .1), omega (arith, b .0), rw (f₀, f₁, f₂, f₃))))))
+    (leb-false n p f₀, ltb-false len n f₂, omega (arith, b .1), omega (arith, b .0), rw (f₀, f₁, o, f₂, f₃)))))))
 
 pub link-put : (m : Memory) (p k : ℕ) (x : PathLink) → Alone linkStart linkCount (m .ynd .«node_count») (linkStart (getD (m .nodes) p []) + k) p (m .nodes)
     → putLink (m .ynd) (m .nodes) (m .links) p k x .answer ≡ Done
@@ -102,7 +107,7 @@ link-put m p k x alone e =
     let w = getD (m .nodes) p [] in
     let i = linkStart w + k in
     let ls = map linkOf (take l (m .links)) in
-    let d = range-done n (length (m .nodes)) 0 l 1 p k (linkRange (m .nodes) p) (λ v. linkWords x) [] (m .links) e in
+    let d = range-done (overLimit (m .ynd)) n (length (m .nodes)) 0 l 1 p k (linkRange (m .nodes) p) (λ v. linkWords x) [] (m .links) e in
     let pool = ap (λ (t : List (List ℕ)). map linkOf (take l t)) (d .4) ∙ set-held linkOf l (m .links) i (linkWords x) (d .3) in
     let g = ap (λ (t : List Link). map (nodeWith t) (take n (m .nodes))) pool
     ∙ pool-stored linkStart linkCount withLinks n (m .nodes) ls p k i (linkOf (linkWords x)) (d .0) (d .1) refl (d .2) (alone .alone)
@@ -122,7 +127,7 @@ height-put m p k v alone e =
     let n = m .ynd .«junction_count» in
     let h = m .ynd .«heightmap_count» in
     let i = valueStart (getD (m .junctions) p []) + k in
-    let d = range-done n (length (m .junctions)) 2 h 3 p k (valueRange (m .junctions) p) (λ t. v) 0 (m .heights) e in
+    let d = range-done (overLimit (m .ynd)) n (length (m .junctions)) 2 h 3 p k (valueRange (m .junctions) p) (λ t. v) 0 (m .heights) e in
     let pool = ap (take h) (d .4) ∙ take-set-lt h (m .heights) i v (d .3) in
     let g = ap (λ (t : List ℕ). map (junctionWith t) (take n (m .junctions))) pool
     ∙ pool-stored valueStart valueCount withValues n (m .junctions) (take h (m .heights)) p k i v (d .0) (d .1) refl (d .2) (alone .alone) in

@@ -12,7 +12,7 @@ use lib.Seq.{length-take-le, getD-take, drop-cons}
 use borrow.Author.Tests.{eq-eqb, ne-eqb, lt-ltb, le-ltb, ltb-false}
 use Rattle.cells.specs.NodeWords.{numberOf, firstArea}
 use Rattle.cells.specs.Cell.{numbers, firstOf}
-use Rattle.cells.specs.Memory.{Memory}
+use Rattle.cells.specs.Memory.{Memory, overLimit}
 use Rattle.cells.specs.CellOf.{linkOf, refOf as toRef, nodeWith, junctionWith, nodesOf, junctionsOf, refsOf, cellOf}
 use Rattle.cells.specs.Lookup.{firstWith, find, refMatches, refOf, junctionAt, junctionOf}
 use Rattle.cells.specs.LookupCall.{numbersIn, firstIn, findIn, nodeCall, placeOf, refIn, below, junctionOfCall, atPlace}
@@ -118,9 +118,10 @@ area-held m = first (take (m .ynd .«node_count») (m .nodes))
     first (w ∷ ws) = refl
 
 -- `node` finds what the cell's nodes have
-pub node-held : (m : Memory) (k : ℕ) → m .ynd .«node_count» ≤ length (m .nodes) → nodeCall (m .ynd) (m .nodes) k ≡ placeOf (find (numbers (nodesOf m)) k)
+pub node-held : (m : Memory) (k : ℕ) → overLimit (m .ynd) ≡ false → m .ynd .«node_count» ≤ length (m .nodes)
+    → nodeCall (m .ynd) (m .nodes) k ≡ placeOf (find (numbers (nodesOf m)) k)
 unfolding nodeCall findIn
-node-held m k h = rw (le-ltb _ _ h) (ap (λ (ns : List ℕ). placeOf (find ns k)) (sym (numbers-held m)))
+node-held m k o h = rw (o, le-ltb _ _ h) (ap (λ (ns : List ℕ). placeOf (find ns k)) (sym (numbers-held m)))
 
 past-none : {A : Type 0} (l : List A) (j : ℕ) → length l ≤ j → getElem? l j ≡ none
 past-none [] j h = refl
@@ -138,11 +139,11 @@ junctions-few m =
     omega (arith, length-map (take (m .ynd .«junction_count») (m .junctions)) (junctionWith (take (m .ynd .«heightmap_count») (m .heights))), take-few (m .ynd .«junction_count») (m .junctions))
 
 -- the junction at the place that `junction_of` gives is the cell's
-pub junction-held : (m : Memory) (a k : ℕ) → m .ynd .«node_count» ≤ length (m .nodes) → m .ynd .«ref_count» ≤ length (m .refs)
+pub junction-held : (m : Memory) (a k : ℕ) → overLimit (m .ynd) ≡ false → m .ynd .«node_count» ≤ length (m .nodes) → m .ynd .«ref_count» ≤ length (m .refs)
     → junctionOf (cellOf m) a k ≡ atPlace (junctionsOf m) (junctionOfCall (m .ynd) (m .nodes) (m .refs) a k)
 unfolding junctionOfCall junctionOf cellOf refIn refsOf
-junction-held m a k hn hr =
-    rw (le-ltb _ _ hn, le-ltb _ _ hr)
+junction-held m a k o hn hr =
+    rw (o, le-ltb _ _ hn, le-ltb _ _ hr)
     (ap (λ (own : ℕ). junctionAt (junctionsOf m) (refOf own (map toRef (take (m .ynd .«ref_count») (m .refs))) a k)) (area-held m)
     ∙ go (refOf (firstArea (take (m .ynd .«node_count») (m .nodes))) (map toRef (take (m .ynd .«ref_count») (m .refs))) a k))
   where

@@ -17,11 +17,12 @@ use Rattle.numbers.specs.declared.answer.Answer.the-variants.{Done, Refused}
 use lib.Dec.{ltb}
 use borrow.Author.Tests.{ltb-false}
 use Rattle.cells.proofs.Sequences.Tests.{by-test, map-take, map-drop, map-append, map-keep}
+use Rattle.cells.proofs.Forms.Limits.{within}
 use Rattle.cells.proofs.Reading.Fits.{Whole, whole}
 use Rattle.cells.proofs.Renumbering.Parted.{places-length, places-at}
 use Rattle.cells.proofs.Renumbering.Parted as any
 use Rattle.cells.specs.Cell.{Link, Node, Junction, Ref, Cell, isPedNode, isVehicleNode, firstOf, oldNodes, relink, reref, renode, numberNodes, ordered, renumberCell, pedFlags}
-use Rattle.cells.specs.Memory.{Memory, short}
+use Rattle.cells.specs.Memory.{Memory, overLimit, short}
 use Rattle.cells.specs.CellOf.{linkOf, refOf, bodyOf, nodeWith, nodesOf, junctionsOf, refsOf, cellOf}
 use Rattle.cells.specs.Words.{toNode}
 
@@ -34,15 +35,15 @@ number-length k [] = refl
 number-length k (w ∷ ws) = ap suc (number-length (suc k) ws)
 
 -- what an accepted call has room for
-pub accepted : (m : Memory) (scratch places : ℕ) → answerOf (m .ynd .«node_count») (short m) scratch places ≡ Done → Room m scratch places
+pub accepted : (m : Memory) (scratch places : ℕ) → answerOf (overLimit (m .ynd)) (m .ynd .«node_count») (short m) scratch places ≡ Done → Room m scratch places
 unfolding answerOf
 accepted m scratch places e =
-    by-test (ltb 65536 (m .ynd .«node_count»)) (λ t. refused (rw t at e)) (λ f₀.
+    by-test (overLimit (m .ynd)) (λ t. refused (rw t at e)) (λ f₀.
     by-test (ltb (short m) 5) (λ t. refused (rw (f₀, t) at e)) (λ f₁.
     by-test (ltb scratch 65536) (λ t. refused (rw (f₀, f₁, t) at e)) (λ f₄.
     by-test (ltb places (m .ynd .«node_count»)) (λ t. refused (rw (f₀, f₁, f₄, t) at e)) (λ f₅.
     let w = whole m (ltb-false _ _ f₁) in
-    record { few = ltb-false _ _ f₀; nodes-fit = w .nodes-fit; links-fit = w .links-fit; refs-fit = w .refs-fit; scratch-fits = ltb-false _ _ f₄; places-fit = ltb-false _ _ f₅ }))))
+    record { few = within (m .ynd) f₀ .0; nodes-fit = w .nodes-fit; links-fit = w .links-fit; refs-fit = w .refs-fit; scratch-fits = ltb-false _ _ f₄; places-fit = ltb-false _ _ f₅ }))))
   where
     refused : {P : Type 0} {a b : ℕ} → Refused a b ≡ Done → P
     refused d = let z : _≡_ {A = ℕ} 0 1 = cc in absurd (omega arith)
@@ -169,7 +170,7 @@ module _ (m : Memory) (ps : List ℕ) {s : ℕ}
       }
 
 abbrev pub answerFor : Memory → List ℕ → ℕ → Answer
-answerFor m ps s = answerOf (m .ynd .«node_count») (short m) s (length ps)
+answerFor m ps s = answerOf (overLimit (m .ynd)) (m .ynd .«node_count») (short m) s (length ps)
 
 -- a call that is done renumbers the cell, and one that is refused leaves the memory as it was
 pub done-call : (m : Memory) (ps : List ℕ) (s : ℕ) → renumber m s ps .answer ≡ Done → cellOf (renumber m s ps .memory) ≡ renumberCell (cellOf m)

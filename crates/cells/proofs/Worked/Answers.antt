@@ -12,7 +12,7 @@ use Rattle.cells.specs.WriteChecks.{checkNodes}
 use Rattle.cells.specs.NodeWords.{isPed}
 use Rattle.cells.specs.Words.{toNode, linkWords}
 use Rattle.cells.specs.Entries.{fileNode}
-use Rattle.cells.specs.Memory.{Memory, memory}
+use Rattle.cells.specs.Memory.{Memory, memory, overLimit}
 use Rattle.cells.specs.LinkAccess.{linkTo}
 use Rattle.cells.specs.Edit.{heldIn}
 use Rattle.cells.specs.AddLink.{addLink, roomForLink, behind, inserted}
@@ -71,5 +71,5 @@ two =
     []
 
 pub bare-link-last : addLink two 1 (linkTo 0 7) .memory .links ≡ (0 ∷ 1 ∷ 0 ∷ 0 ∷ []) ∷ (0 ∷ 0 ∷ 0 ∷ 0 ∷ []) ∷ (0 ∷ 7 ∷ 0 ∷ 0 ∷ []) ∷ []
-unfolding addLink roomForLink behind heldIn inserted linkWords linkTo
+unfolding addLink overLimit roomForLink behind heldIn inserted linkWords linkTo
 bare-link-last = refl

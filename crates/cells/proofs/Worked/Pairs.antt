@@ -6,7 +6,7 @@ use mathlib.Core.List.{List, [], _∷_}
 use Rattle.cells.specs.Area.{belongs}
 use Rattle.cells.specs.Order.{keep, rank, parted, newPlace, newPlaces, listed, lastWith, newNumber, renamed}
 use Rattle.cells.specs.NodeWords.{areaOf, numberOf, isPed, numbered, numberFrom, reordered, firstArea, oldOf, relinked}
-use Rattle.cells.specs.Memory.{Memory, memory, shortOf}
+use Rattle.cells.specs.Memory.{Memory, memory, overLimit, shortOf}
 use Rattle.cells.specs.Renumber.{vehicles, peds, renumberLists, recounted, answerOf, newLists, renumberMemory, renumber}
 use Rattle.cells.specs.declared.ynd.Ynd.{Ynd}
 use Rattle.numbers.specs.declared.answer.Answer.the-variants.{Done}
@@ -45,7 +45,7 @@ pub renumber-pair : renumber three 65536 (50 ∷ 51 ∷ 52 ∷ 53 ∷ [])
       memory = memory (cell 2 1) (node 0 0 ∷ node 1 0 ∷ node 2 80 ∷ node 5 0 ∷ []) (link 1177 2 ∷ link 1177 1 ∷ link 1178 9 ∷ link 1177 5 ∷ link 1177 7 ∷ []) [] [] (link 1177 0 ∷ link 1177 3 ∷ []);
       places = 0 ∷ 2 ∷ 1 ∷ 53 ∷ [];
     }
-unfolding renumber answerOf shortOf renumberMemory newLists recounted vehicles peds renumberLists reordered numberFrom numbered parted keep isPed relinked renamed belongs newNumber lastWith newPlace newPlaces listed rank oldOf firstArea areaOf numberOf
+unfolding renumber overLimit answerOf shortOf renumberMemory newLists recounted vehicles peds renumberLists reordered numberFrom numbered parted keep isPed relinked renamed belongs newNumber lastWith newPlace newPlaces listed rank oldOf firstArea areaOf numberOf
 renumber-pair = refl
 
 -- of two equal numbers the last node counts

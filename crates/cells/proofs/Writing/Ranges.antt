@@ -35,6 +35,10 @@ module _ {A : Type 0} where
       let f : n - 0 ≡ min count (length l) = omega arith in
       ap (λ (k : ℕ). take k l) f ∙ take-min count l
 
+  -- no more than the count
+  pub front-few : (l : List A) (count n : ℕ) → n ≡ min count (length l) → length (take (n - 0) (drop 0 l)) ≤ count
+  front-few l count n e = omega (arith, length-take (n - 0) (drop 0 l), e)
+
 inside : (c s n k t : ℕ) → k ≡ min c (n - s) → t ≡ s → (k ≡ 0 → ⊥) → t + k ≤ n
 inside c s n k t e f h = omega arith
 

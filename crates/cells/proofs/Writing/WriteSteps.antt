@@ -15,97 +15,118 @@ use Rattle.cells.specs.Checks.{refuseMore}
 use Rattle.cells.specs.Entries.{linksIn, valuesIn}
 use Rattle.cells.specs.WriteChecks.{linksWithin, valuesWithin, accepted, checkNodes, checkJunctions}
 use Rattle.cells.specs.Blocks.{refsBlock, heightsBlock, junctionsBlock, linksBlock, nodesBlock, arrays, blocks, rootFor, written}
-use Rattle.cells.specs.Memory.{Memory}
+use Rattle.cells.specs.Memory.{Memory, memory, overLimit}
 use Rattle.cells.specs.Write.{WriteLeft, refuse, orElse, after, stored, writeHeld}
-use Rattle.cells.specs.WriteCounts.{ifSum, writeCounts}
+use Rattle.cells.specs.WriteCounts.{ifSum, writeCounts, Cut}
+use Rattle.cells.specs.declared.ynd.Ynd.{Ynd}
 use Rattle.cells.specs.declared.count.Total.{Total}
 use Rattle.cells.specs.declared.count.Total.the-variants.{Sum, Refused}
 use Rattle.cells.specs.declared.count.Counts.{Counts}
 use Rattle.cells.specs.declared.count.Counted.{Counted}
 use Rattle.cells.specs.declared.count.Counted.the-variants as counted
 use Rattle.cells.proofs.Sequences.Tests.{by-test}
+use Rattle.cells.proofs.Forms.Limits.{within}
 use Rattle.cells.proofs.Writing.BlockLaws.{nodes-length, links-length, junctions-length, refs-length}
 use Rattle.cells.proofs.Writing.Ranges.{link-count, value-count, value-small, node-counts, junction-counts}
 use Rattle.cells.proofs.Writing.WriteTotals.{nodes-total, junctions-total}
 
--- ---- the checks 8 to 11
+-- ---- the checks 14 and 8 to 11
 
-module _ (nodes links junctions : List (List ℕ)) (heights : List ℕ) (refs : List (List ℕ)) where
+module _ (y : Ynd) (nodes links junctions : List (List ℕ)) (heights : List ℕ) (refs : List (List ℕ)) where
   nodes-say : (r : Total) → checkNodes (linksWithin (length links)) 0 0 nodes ≡ r → checkNodes (λ n. length (linksIn links n)) 0 0 nodes ≡ r
   nodes-say r e = ap (λ (f : List ℕ → ℕ). checkNodes f 0 0 nodes) (node-counts links) ∙ e
 
   junctions-say : (r : Total) → checkJunctions (valuesWithin (length heights)) 0 0 junctions ≡ r → checkJunctions (λ j. length (valuesIn heights j)) 0 0 junctions ≡ r
   junctions-say r e = ap (λ (f : List ℕ → ℕ). checkJunctions f 0 0 junctions) (junction-counts heights) ∙ e
 
-  pub nodes-refused : (cause place : ℕ) → checkNodes (linksWithin (length links)) 0 0 nodes ≡ Refused cause place → counted.Refused cause place ≡ writeCounts nodes links junctions heights refs
+  abbrev answer : Counted
+  answer = writeCounts y nodes links junctions heights refs
+
+  pub over-refused : overLimit y ≡ true → counted.Refused 14 0 ≡ answer
   unfolding writeCounts
-  nodes-refused cause place e = rw (nodes-say (Refused cause place) e)
+  over-refused o = rw o
 
-  module _ (l : ℕ) (e : checkNodes (linksWithin (length links)) 0 0 nodes ≡ Sum l) where
-    pub junctions-refused : (cause place : ℕ) → checkJunctions (valuesWithin (length heights)) 0 0 junctions ≡ Refused cause place → counted.Refused cause place ≡ writeCounts nodes links junctions heights refs
+  module _ (o : overLimit y ≡ false) where
+    pub nodes-refused : (cause place : ℕ) → checkNodes (linksWithin (length links)) 0 0 nodes ≡ Refused cause place → counted.Refused cause place ≡ answer
     unfolding writeCounts
-    junctions-refused cause place f = rw (nodes-say (Sum l) e, junctions-say (Refused cause place) f)
+    nodes-refused cause place e = rw (o, nodes-say (Refused cause place) e)
 
-    module _ (v : ℕ) (f : checkJunctions (valuesWithin (length heights)) 0 0 junctions ≡ Sum v) where
-      pub refs-refused : 65535 < length refs → counted.Refused 11 0 ≡ writeCounts nodes links junctions heights refs
+    module _ (l : ℕ) (e : checkNodes (linksWithin (length links)) 0 0 nodes ≡ Sum l) where
+      pub junctions-refused : (cause place : ℕ) → checkJunctions (valuesWithin (length heights)) 0 0 junctions ≡ Refused cause place → counted.Refused cause place ≡ answer
       unfolding writeCounts
-      refs-refused g = rw (nodes-say (Sum l) e, junctions-say (Sum v) f, lt-ltb 65535 (length refs) g)
+      junctions-refused cause place f = rw (o, nodes-say (Sum l) e, junctions-say (Refused cause place) f)
 
-      pub counted-all : length refs ≤ 65535 → counted.Held (record { nodes = length nodes; links = l; junctions = length junctions; heights = v; refs = length refs }) ≡ writeCounts nodes links junctions heights refs
-      unfolding writeCounts
-      counted-all g = rw (nodes-say (Sum l) e, junctions-say (Sum v) f, le-ltb 65535 (length refs) g)
+      module _ (v : ℕ) (f : checkJunctions (valuesWithin (length heights)) 0 0 junctions ≡ Sum v) where
+        pub refs-refused : 65535 < y .«ref_count» → counted.Refused 11 0 ≡ answer
+        unfolding writeCounts
+        refs-refused g = rw (o, nodes-say (Sum l) e, junctions-say (Sum v) f, lt-ltb 65535 (y .«ref_count») g)
+
+        pub counted-all : y .«ref_count» ≤ 65535
+            → counted.Held (record { nodes = length nodes; links = l; junctions = length junctions; heights = v; refs = length refs }) ≡ answer
+        unfolding writeCounts
+        counted-all g = rw (o, nodes-say (Sum l) e, junctions-say (Sum v) f, le-ltb 65535 (y .«ref_count») g)
 
   -- what the counts say, once nothing is refused
   pub record Ready (k : Counts) : Type 0 where
     pub nodes-told : accepted (checkNodes (linksWithin (length links)) 0 0 nodes) ≡ true
     pub junctions-told : accepted (checkJunctions (valuesWithin (length heights)) 0 0 junctions) ≡ true
     pub nodes-are : k .nodes ≡ length nodes
+    pub nodes-few : k .nodes ≤ 65536
     pub links-are : k .links ≡ length (joined (linksIn links) nodes)
     pub links-few : k .links ≤ 65566
     pub junctions-are : k .junctions ≡ length junctions
+    pub junctions-few : k .junctions ≤ 4096
     pub heights-are : k .heights ≡ length (heightsBlock heights junctions)
     pub heights-few : k .heights ≤ 130560
     pub refs-are : k .refs ≡ length refs
     pub refs-few : k .refs ≤ 65535
 
-  pub ready : (k : Counts) → writeCounts nodes links junctions heights refs ≡ counted.Held k → Ready k
+  pub ready : Cut (memory y nodes links junctions heights refs) → (k : Counts) → answer ≡ counted.Held k → Ready k
   unfolding writeCounts
-  ready k h = go (checkNodes (linksWithin (length links)) 0 0 nodes) (checkJunctions (valuesWithin (length heights)) 0 0 junctions) refl refl
+  ready cut k h =
+      by-test (overLimit y)
+      (λ t.
+      let r : counted.Refused 14 0 ≡ counted.Held k = rw t at h in
+      let z : _≡_ {A = ℕ} 0 1 = cc in absurd (omega arith))
+      (λ o. go o (checkNodes (linksWithin (length links)) 0 0 nodes) (checkJunctions (valuesWithin (length heights)) 0 0 junctions) refl refl)
     where
-      go : (a b : Total) → checkNodes (linksWithin (length links)) 0 0 nodes ≡ a → checkJunctions (valuesWithin (length heights)) 0 0 junctions ≡ b → Ready k
-      go (Refused x y) b ea eb =
-          let r : counted.Refused x y ≡ counted.Held k = rw (nodes-say (Refused x y) ea) at h in
+      go : overLimit y ≡ false → (a b : Total) → checkNodes (linksWithin (length links)) 0 0 nodes ≡ a → checkJunctions (valuesWithin (length heights)) 0 0 junctions ≡ b → Ready k
+      go o (Refused x p) b ea eb =
+          let r : counted.Refused x p ≡ counted.Held k = rw (o, nodes-say (Refused x p) ea) at h in
           let z : _≡_ {A = ℕ} 0 1 = cc in absurd (omega arith)
-      go (Sum l) (Refused x y) ea eb =
-          let r : counted.Refused x y ≡ counted.Held k = rw (nodes-say (Sum l) ea, junctions-say (Refused x y) eb) at h in
+      go o (Sum l) (Refused x p) ea eb =
+          let r : counted.Refused x p ≡ counted.Held k = rw (o, nodes-say (Sum l) ea, junctions-say (Refused x p) eb) at h in
           let z : _≡_ {A = ℕ} 0 1 = cc in absurd (omega arith)
-      go (Sum l) (Sum v) ea eb =
-          by-test (ltb 65535 (length refs))
+      go o (Sum l) (Sum v) ea eb =
+          by-test (ltb 65535 (y .«ref_count»))
           (λ t.
-          let r : counted.Refused 11 0 ≡ counted.Held k = rw (nodes-say (Sum l) ea, junctions-say (Sum v) eb, t) at h in
+          let r : counted.Refused 11 0 ≡ counted.Held k = rw (o, nodes-say (Sum l) ea, junctions-say (Sum v) eb, t) at h in
           let z : _≡_ {A = ℕ} 0 1 = cc in absurd (omega arith))
           (λ u.
-          let r : counted.Held (record { nodes = length nodes; links = l; junctions = length junctions; heights = v; refs = length refs }) ≡ counted.Held k = rw (nodes-say (Sum l) ea, junctions-say (Sum v) eb, u) at h in
+          let r : counted.Held (record { nodes = length nodes; links = l; junctions = length junctions; heights = v; refs = length refs }) ≡ counted.Held k = rw (o, nodes-say (Sum l) ea, junctions-say (Sum v) eb, u) at h in
           let e : _≡_ {A = Counts} (record { nodes = length nodes; links = l; junctions = length junctions; heights = v; refs = length refs }) k = cc in
           let p = nodes-total (linksIn links) (linksWithin (length links)) (link-count links) 0 0 nodes l (omega arith) ea in
           let q = junctions-total (valuesIn heights) (valuesWithin (length heights)) (value-count heights) (value-small (length heights)) 0 0 junctions v (omega arith) eb in
-          let few = ltb-false 65535 (length refs) u in
+          let few = ltb-false 65535 (y .«ref_count») u in
+          let limits = within y o in
           record {
             nodes-told = ap accepted ea;
             junctions-told = ap accepted eb;
             nodes-are = sym (ap (λ (x : Counts). x .nodes) e);
+            nodes-few = omega (arith, ap (λ (x : Counts). x .nodes) e, cut .nodes-cut, limits .0);
             links-are = omega (arith, ap (λ (x : Counts). x .links) e, p .0);
             links-few = omega (arith, ap (λ (x : Counts). x .links) e, p .1);
             junctions-are = sym (ap (λ (x : Counts). x .junctions) e);
+            junctions-few = omega (arith, ap (λ (x : Counts). x .junctions) e, cut .junctions-cut, limits .1);
             heights-are = omega (arith, ap (λ (x : Counts). x .heights) e, q .0);
             heights-few = omega (arith, ap (λ (x : Counts). x .heights) e, q .1);
             refs-are = sym (ap (λ (x : Counts). x .refs) e);
-            refs-few = omega (arith, ap (λ (x : Counts). x .refs) e, few);
+            refs-few = omega (arith, ap (λ (x : Counts). x .refs) e, cut .refs-cut, few);
           })
 
 -- ---- where what is counted is written
 
-module _ (h : Memory) (k : Counts) (t : Ready (h .nodes) (h .links) (h .junctions) (h .heights) (h .refs) k) where
+module _ (h : Memory) (k : Counts) (t : Ready (h .ynd) (h .nodes) (h .links) (h .junctions) (h .heights) (h .refs) k) where
   sized : _≡_ {A = List ℕ} (sizes (k .refs) (k .heights) (k .junctions) (k .links) (k .nodes)) (map length (blocks h))
   unfolding arrays
   sized =
@@ -126,7 +147,7 @@ module _ (h : Memory) (k : Counts) (t : Ready (h .nodes) (h .links) (h .junction
 -- ---- then 7
 
 abbrev pub countsOf : Memory → Counted
-countsOf h = writeCounts (h .nodes) (h .links) (h .junctions) (h .heights) (h .refs)
+countsOf h = writeCounts (h .ynd) (h .nodes) (h .links) (h .junctions) (h .heights) (h .refs)
 
 module _ (h : Memory) (lack : ℕ) (s : List ℕ) where
   abbrev next : WriteLeft
@@ -138,15 +159,18 @@ module _ (h : Memory) (lack : ℕ) (s : List ℕ) where
 
   by-counts : ifCounted (countsOf h) ≡ writeHeld h lack s
   unfolding writeHeld writeCounts
-  by-counts = go (checkNodes (λ n. length (linksIn (h .links) n)) 0 0 (h .nodes)) (checkJunctions (λ j. length (valuesIn (h .heights) j)) 0 0 (h .junctions)) (ltb 65535 (length (h .refs)))
+  by-counts =
+      go (overLimit (h .ynd)) (checkNodes (λ n. length (linksIn (h .links) n)) 0 0 (h .nodes)) (checkJunctions (λ j. length (valuesIn (h .heights) j)) 0 0 (h .junctions))
+      (ltb 65535 (h .ynd .«ref_count»))
     where
-      go : (a b : Total) (c : Bool)
-          → ifCounted (ifSum a λ l. ifSum b λ v. refuseMore c 11 0 (counted.Held (record { nodes = length (h .nodes); links = l; junctions = length (h .junctions); heights = v; refs = length (h .refs) })))
-          ≡ after a s (after b s (orElse c (refuse 11 0 s) next))
-      go (Refused x y) b c = refl
-      go (Sum l) (Refused x y) c = refl
-      go (Sum l) (Sum v) true = refl
-      go (Sum l) (Sum v) false = refl
+      go : (o : Bool) (a b : Total) (c : Bool)
+          → ifCounted (refuseMore o 14 0 (ifSum a λ l. ifSum b λ v. refuseMore c 11 0 (counted.Held (record { nodes = length (h .nodes); links = l; junctions = length (h .junctions); heights = v; refs = length (h .refs) }))))
+          ≡ orElse o (refuse 14 0 s) (after a s (after b s (orElse c (refuse 11 0 s) next)))
+      go true a b c = refl
+      go false (Refused x y) b c = refl
+      go false (Sum l) (Refused x y) c = refl
+      go false (Sum l) (Sum v) true = refl
+      go false (Sum l) (Sum v) false = refl
 
   pub counts-refused : (cause place : ℕ) → countsOf h ≡ counted.Refused cause place → refuse cause place s ≡ writeHeld h lack s
   counts-refused cause place e = ap ifCounted (sym e) ∙ by-counts

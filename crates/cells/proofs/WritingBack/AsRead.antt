@@ -18,7 +18,7 @@ use Rattle.cells.specs.Cell.{Node, Junction, Cell, isPedNode, relink, nu
 use Rattle.cells.specs.CellOf.{cellOf}
 use Rattle.cells.specs.FileCell.{fileNodeOf, fileJunctionOf, fileNodes, fileJunctions, cellFrom}
 use Rattle.cells.specs.Checks.{countsOf, linksAt, valuesAt}
-use Rattle.cells.specs.Memory.{Memory, short}
+use Rattle.cells.specs.Memory.{Memory, overLimit, short}
 use Rattle.cells.specs.Read.{linksIn, valuesIn, filled, readOf}
 use Rattle.cells.specs.Renumber.{renumberLists, newLists, renumberMemory, answerOf, leftBy, renumber}
 use Rattle.cells.specs.RenumberParts.{Room}
@@ -134,9 +134,9 @@ module _ (m : Memory) (ps : List ℕ) (s : ℕ) (h : AsRead m) where
 
   pub renumber-as-read : AsRead (renumber m s ps .memory)
   unfolding renumber
-  renumber-as-read = go (answerOf (m .ynd .«node_count») (short m) s (length ps)) refl
+  renumber-as-read = go (answerOf (overLimit (m .ynd)) (m .ynd .«node_count») (short m) s (length ps)) refl
     where
-      go : (a : Answer) → answerOf (m .ynd .«node_count») (short m) s (length ps) ≡ a → AsRead (leftBy a m ps .memory)
+      go : (a : Answer) → answerOf (overLimit (m .ynd)) (m .ynd .«node_count») (short m) s (length ps) ≡ a → AsRead (leftBy a m ps .memory)
       go Done e = renumbered-as-read (accepted m s (length ps) e)
       go (Refused cause place) e = h
 

@@ -8,21 +8,19 @@ use lib.Dec.{ltb}
 use lib.ListN.{length, getD, take, drop, length-map, length-take, List·getD-map}
 use borrow.Author.Tests.{eqb-true, le-ltb}
 use Rattle.records.specs.Put.{joined}
-use Rattle.records.specs.Layout.{headerSize, endOf, total}
-use Rattle.records.proofs.Laid.{gap-small, section-length}
 use Rattle.cells.specs.Lists.{sumTo, every}
 use Rattle.cells.specs.NodeWords.{linkStart, linkCount}
 use Rattle.cells.specs.Cell.{Link, Node, Junction}
 use Rattle.cells.specs.CellOf.{linkOf, nodeWith, junctionWith, nodesOf, junctionsOf, cellOf}
 use Rattle.cells.specs.Checks.{scan}
-use Rattle.cells.specs.Memory.{Memory, short}
+use Rattle.cells.specs.Memory.{Memory, overLimit, short}
 use Rattle.cells.specs.Read.{roomCheck, readOf}
 use Rattle.cells.specs.Entries.{linksIn, valuesIn}
-use Rattle.cells.specs.WriteChecks.{accepted, checkNodes, checkJunctions}
-use Rattle.cells.specs.Blocks.{refsBlock, heightsBlock, junctionsBlock, linksBlock, nodesBlock, arrays, blocks, rootFor, written}
+use Rattle.cells.specs.WriteChecks.{checkNodes, checkJunctions}
+use Rattle.cells.specs.Blocks.{written}
 use Rattle.cells.specs.Write.{WriteLeft, left, refuse, orElse, after, held, stored, writeHeld, writeCall}
 use Rattle.cells.specs.WriteRead.{Both, ifRead, ifWritten, writeReadOf}
-use Rattle.cells.specs.BackCheck.{then, areaAt, lacks, heldCounts, backCounts, lengths, backCheck}
+use Rattle.cells.specs.BackCheck.{then, areaAt, lacks, backCounts, lengths, backTests, backCheck}
 use Rattle.numbers.specs.declared.answer.Answer.{Answer}
 use Rattle.numbers.specs.declared.answer.Answer.the-variants.{Done}
 use Rattle.cells.specs.declared.count.Total.{Total}
@@ -30,63 +28,10 @@ use Rattle.cells.specs.declared.count.Total.the-variants.{Sum, Refused}
 use Rattle.cells.specs.declared.write.Written.{Written}
 use Rattle.cells.specs.declared.write.Written.the-variants as written
 use Rattle.cells.proofs.Sequences.Tests.{map-take, map-drop, every-at, true-false}
-use Rattle.cells.proofs.Writing.Ranges.{value-count, value-small}
-use Rattle.cells.proofs.Writing.BlockLaws.{nodes-length, links-length, junctions-length, refs-length}
-use Rattle.cells.proofs.Writing.WriteTotals.{nodes-total, junctions-total}
-use Rattle.cells.proofs.WritingBack.WrittenBack.{Told, write-told}
+use Rattle.cells.proofs.WritingBack.WrittenBack.{Told, held-cut, write-told}
 use Rattle.cells.proofs.WritingBack.BackCheck.{scan-same, scan-none, sum-same, sum-joined, part-ends, tested-first}
-use Rattle.cells.proofs.WritingBack.BackAnswer.{tests-on}
 use Rattle.cells.proofs.Sequences.JoinedCounts.{count-map}
 use Rattle.cells.proofs.WritingBack.AsRead.{wholeMap, AsRead}
-
--- ---- 2: what was accepted is short
-
-total-most : (n a b c d e : ℕ) → total n (a ∷ b ∷ c ∷ d ∷ e ∷ []) ≤ n + a + b + c + d + e + 75
-unfolding total
-total-most n a b c d e =
-    let n₁ = endOf n a in
-    let n₂ = endOf n₁ b in
-    let n₃ = endOf n₂ c in
-    let n₄ = endOf n₃ d in
-    omega (arith, gap-small n a, gap-small n₁ b, gap-small n₂ c, gap-small n₃ d, gap-small n₄ e)
-
-links-most : (links nodes : List (List ℕ)) → accepted (checkNodes (λ n. length (linksIn links n)) 0 0 nodes) ≡ true → length (joined (linksIn links) nodes) ≤ 65566
-links-most links nodes t = go (checkNodes (λ n. length (linksIn links n)) 0 0 nodes) refl t
-  where
-    go : (c : Total) → checkNodes (λ n. length (linksIn links n)) 0 0 nodes ≡ c → accepted c ≡ true → length (joined (linksIn links) nodes) ≤ 65566
-    go (Refused cause place) e u = true-false (sym u)
-    go (Sum n) e u = let r = nodes-total (linksIn links) (λ n. length (linksIn links n)) (λ x. refl) 0 0 nodes n (omega arith) e in omega (arith, r .0, r .1)
-
-values-most : (heights : List ℕ) (js : List (List ℕ)) → accepted (checkJunctions (λ j. length (valuesIn heights j)) 0 0 js) ≡ true → length (joined (valuesIn heights) js) ≤ 130560
-values-most heights js t = go (checkJunctions (λ j. length (valuesIn heights j)) 0 0 js) refl t
-  where
-    small : (j : List ℕ) → length (valuesIn heights j) ≤ 65025
-    small j = omega (arith, value-count heights j, value-small (length heights) j)
-
-    go : (c : Total) → checkJunctions (λ j. length (valuesIn heights j)) 0 0 js ≡ c → accepted c ≡ true → length (joined (valuesIn heights) js) ≤ 130560
-    go (Refused cause place) e u = true-false (sym u)
-    go (Sum n) e u = let r = junctions-total (valuesIn heights) (λ j. length (valuesIn heights j)) (λ x. refl) small 0 0 js n (omega arith) e in omega (arith, r .0, r .1)
-
-written-few : (h : Memory) → Told h → length (h .nodes) ≤ 65536 → length (h .junctions) ≤ 4096 → length (written h) ≤ 16777216
-unfolding written arrays
-written-few h told few few-j =
-    let n = length (nodesBlock (h .links) (h .nodes)) in
-    let l = length (linksBlock (h .links) (h .nodes)) in
-    let j = length (junctionsBlock (h .heights) (h .junctions)) in
-    let v = length (heightsBlock (h .heights) (h .junctions)) in
-    let r = length (refsBlock (h .refs)) in
-    omega (
-      arith,
-      section-length (rootFor h (map length (blocks h))) (blocks h),
-      total-most headerSize r v j l n,
-      nodes-length (h .links) (h .nodes),
-      links-length (h .links) (h .nodes),
-      junctions-length (h .heights) (h .junctions),
-      refs-length (h .refs),
-      links-most (h .links) (h .nodes) (told .nodes-told),
-      values-most (h .heights) (h .junctions) (told .junctions-told),
-      told .refs-told,
-    )
 
 -- ---- the cell, and the entries that hold it
 
@@ -151,12 +96,14 @@ held-leaves : (h : Memory) (lack : ℕ) (s : List ℕ) → Leaves s (writeHeld h
 unfolding writeHeld
 held-leaves h lack s =
     let l₃ = orElse (ltb lack 5) (refuse 7 lack s) (stored h s) in
-    let l₂ = orElse (ltb 65535 (length (h .refs))) (refuse 11 0 s) l₃ in
+    let l₂ = orElse (ltb 65535 (h .ynd .«ref_count»)) (refuse 11 0 s) l₃ in
     let l₁ = after (checkJunctions (λ j. length (valuesIn (h .heights) j)) 0 0 (h .junctions)) s l₂ in
-    after-leaves (checkNodes (λ n. length (linksIn (h .links) n)) 0 0 (h .nodes)) s l₁
+    let l₀ = after (checkNodes (λ n. length (linksIn (h .links) n)) 0 0 (h .nodes)) s l₁ in
+    else-leaves (overLimit (h .ynd)) 14 0 s l₀
+    (after-leaves (checkNodes (λ n. length (linksIn (h .links) n)) 0 0 (h .nodes)) s l₁
     (after-leaves (checkJunctions (λ j. length (valuesIn (h .heights) j)) 0 0 (h .junctions)) s l₂
-    (else-leaves (ltb 65535 (length (h .refs))) 11 0 s l₃
-    (else-leaves (ltb lack 5) 7 lack s (stored h s) (stored-leaves h s))))
+    (else-leaves (ltb 65535 (h .ynd .«ref_count»)) 11 0 s l₃
+    (else-leaves (ltb lack 5) 7 lack s (stored h s) (stored-leaves h s)))))
 
 refused-leaves : (m : Memory) (s : List ℕ) → Leaves s (writeCall m s)
 unfolding writeCall
@@ -179,14 +126,6 @@ module _ (m : Memory) (h : AsRead m) where
 
   abbrev hs : List ℕ
   hs = take (m .ynd .«heightmap_count») (m .heights)
-
-  nodes-few : length ns ≤ 65536
-  unfolding cellOf nodesOf
-  nodes-few = omega (arith, h .few-nodes, length-map ns (nodeWith (map linkOf ls)))
-
-  junctions-few : length js ≤ 4096
-  unfolding cellOf junctionsOf
-  junctions-few = omega (arith, h .few-junctions, length-map js (junctionWith hs))
 
   maps : every wholeMap (map (junctionWith hs) js) ≡ true
   unfolding cellOf junctionsOf
@@ -212,11 +151,9 @@ module _ (m : Memory) (h : AsRead m) where
       )
       refl
 
-  back-done : Told (held m) → backCheck (held m) (lengths m) ≡ Done
-  unfolding backCheck held
-  back-done told =
-      sym (tests-on (length (written (held m))) (heldCounts (held m)) hs js (lengths m) (written-few (held m) told nodes-few junctions-few) nodes-few junctions-few)
-      ∙ (λ i. then (none-lacks hs js maps i) (room-enough i))
+  back-done : backCheck (held m) (lengths m) ≡ Done
+  unfolding backCheck backTests held
+  back-done = λ i. then (none-lacks hs js maps i) (room-enough i)
 
   -- what an accepted writing is followed by
   wrote : (s : List ℕ) (n : ℕ) → writeCall m s .answer ≡ written.Wrote n
@@ -224,7 +161,7 @@ module _ (m : Memory) (h : AsRead m) where
   unfolding writeCall
   wrote s n e =
       tested-first m s n e
-      ∙ ap (λ (c : Answer). ifRead n (writeCall m s .section) c (readOf (written (held m)) [] m .memory) m s) (back-done (write-told (held m) (short m) s n e .told))
+      ∙ ap (λ (c : Answer). ifRead n (writeCall m s .section) c (readOf (written (held m)) [] m .memory) m s) back-done
 
   -- write-then-read answers what writing answers, and leaves the section that writing leaves
   pub as-writing : (s : List ℕ) → (writeReadOf m s .answer ≡ writeCall m s .answer) × (writeReadOf m s .section ≡ writeCall m s .section)

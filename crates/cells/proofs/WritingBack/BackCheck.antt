@@ -1,4 +1,4 @@
--- Reading back what an accepted writing wrote is refused exactly as `backCheck` says.
+-- Reading back what an accepted writing wrote is refused exactly as `backCheck` says: with 5 or 7, never with 2 or 6.
 use Prim.Native.Nat.{ℕ, zero, suc, _+_, _*_, _/_, _%_, _≤_, _<_}
 use native.Mathlib.Omega.{arith}
 use native.Mathlib.Nat.{zero-add}
@@ -39,7 +39,8 @@ use Rattle.cells.proofs.Sequences.Joined.{laid-at}
 use Rattle.cells.proofs.Writing.BlockLaws.{nodes-length, links-length, junctions-length, refs-length}
 use Rattle.cells.proofs.WritingBack.BlocksBack.{junctions-ok, stands-at, junction-in, startOf, node-record}
 use Rattle.cells.proofs.WritingBack.SectionBack.{long-enough, root-read, nodes-here, links-here, junctions-here, heights-here, refs-here}
-use Rattle.cells.proofs.WritingBack.WrittenBack.{Told, write-told}
+use Rattle.cells.proofs.WritingBack.WrittenBack.{Told, held-cut, write-told}
+use Rattle.cells.proofs.WritingBack.WrittenFew.{written-few}
 
 -- ---- scans and sums
 
@@ -169,13 +170,16 @@ module _ (h : Memory) (told : Told h) (m : Memory) where
   roomOf k = roomCheck k (length (m .nodes)) (length (m .links)) (length (m .junctions)) (length (m .heights)) (length (m .refs))
 
   pub arrays-done : (root : Root) → readArrays root ns ls js hs rs m .answer
-      ≡ refuseIf (ltb 65536 (length (h .nodes))) 6 0 (refuseIf (ltb 4096 (length (h .junctions))) 6 1 (then (scan 5 (lacks (h .heights) (h .junctions)) 0 (length (h .junctions))) (roomOf (backCounts h))))
+      ≡ then (scan 5 (lacks (h .heights) (h .junctions)) 0 (length (h .junctions))) (roomOf (backCounts h))
   unfolding readArrays arraysCheck
   arrays-done root =
       (λ i. reading (refuseMore (ltb 65536 (size (h .links) (h .nodes) (told .nodes-told) i)) 6 0
       (refuseMore (ltb 4096 (size-j (h .heights) (h .junctions) (told .junctions-told) i)) 6 1
       (after (no-4 (h .links) (h .nodes) (told .nodes-told) i) (after (same-5 (h .heights) (h .junctions) (told .junctions-told) i) (counted.Held (counts-are i)))))) .answer)
-      ∙ go (ltb 65536 (length (h .nodes))) (ltb 4096 (length (h .junctions))) (scan 5 (lacks (h .heights) (h .junctions)) 0 (length (h .junctions))) (roomOf (backCounts h)) refl
+      ∙ (λ i. reading (refuseMore (le-ltb 65536 (length (h .nodes)) (told .nodes-few) i) 6 0
+      (refuseMore (le-ltb 4096 (length (h .junctions)) (told .junctions-few) i) 6 1
+      (after Done (after (scan 5 (lacks (h .heights) (h .junctions)) 0 (length (h .junctions))) (counted.Held (backCounts h)))))) .answer)
+      ∙ go (scan 5 (lacks (h .heights) (h .junctions)) 0 (length (h .junctions)))
     where
       reading : Counted → Left
       reading c = ifHeld c m λ k. unless (roomOf k) m (record { answer = Done; memory = filled root k ns ls js hs rs m })
@@ -184,12 +188,9 @@ module _ (h : Memory) (told : Told h) (m : Memory) where
       room-done Done x = refl
       room-done (Refused a b) x = refl
 
-      go : (a b : Bool) (c d : Answer) → roomOf (backCounts h) ≡ d
-          → reading (refuseMore a 6 0 (refuseMore b 6 1 (after Done (after c (counted.Held (backCounts h)))))) .answer ≡ refuseIf a 6 0 (refuseIf b 6 1 (then c (roomOf (backCounts h))))
-      go true b c d e = refl
-      go false true c d e = refl
-      go false false (Refused x y) d e = refl
-      go false false Done d e = room-done (roomOf (backCounts h)) (filled root (backCounts h) ns ls js hs rs m)
+      go : (c : Answer) → reading (after c (counted.Held (backCounts h))) .answer ≡ then c (roomOf (backCounts h))
+      go (Refused x y) = refl
+      go Done = room-done (roomOf (backCounts h)) (filled root (backCounts h) ns ls js hs rs m)
 
 -- ---- from the section
 
@@ -199,7 +200,9 @@ not-few h = le-ltb (length (written h)) 112 (long-enough h)
 -- reading back, after an accepted writing
 pub read-back-done : (h m : Memory) → Told h → readOf (written h) [] m .answer ≡ backCheck h (lengths m)
 unfolding readOf backCheck backTests sizesCheck arraysFound
-read-back-done h m told = go (ltb 16777216 (length (written h))) refl
+read-back-done h m told =
+    let few = written-few h told in
+    rw (le-ltb 16777216 (length w) few, not-few h) (found-all few)
   where
     w : List ℕ
     w = written h
@@ -213,8 +216,8 @@ read-back-done h m told = go (ltb 16777216 (length (written h))) refl
 
     after-sizes : Answer
     after-sizes =
-        refuseIf (ltb 65536 (length (h .nodes))) 6 0 (refuseIf (ltb 4096 (length (h .junctions))) 6 1 (then (scan 5 (lacks (h .heights) (h .junctions)) 0 (length (h .junctions)))
-        (roomCheck (backCounts h) (length (m .nodes)) (length (m .links)) (length (m .junctions)) (length (m .heights)) (length (m .refs)))))
+        then (scan 5 (lacks (h .heights) (h .junctions)) 0 (length (h .junctions)))
+        (roomCheck (backCounts h) (length (m .nodes)) (length (m .links)) (length (m .junctions)) (length (m .heights)) (length (m .refs)))
 
     parts : Root → Left
     parts r =
@@ -233,10 +236,14 @@ read-back-done h m told = go (ltb 16777216 (length (written h))) refl
         ∙ (λ i. readArrays (rootRead w) (a .bytes i) (b .bytes i) (c .bytes i) (d .bytes i) (f .bytes i) m .answer)
         ∙ arrays-done h told m (rootRead w)
 
-    go : (big : Bool) → ltb 16777216 (length w) ≡ big
-        → unless (refuseIf big 2 0 (refuseIf (ltb 16777216 0) 2 1 (refuseIf (tooFew (length w)) 1 0 Done))) m (parts (rootRead w)) .answer ≡ refuseIf big 2 0 after-sizes
-    go true e = refl
-    go false e = rw (not-few h) (found-all (ltb-false 16777216 (length w) e))
+-- So no call writes a section that reading refuses by its size or its limits, whatever memory it is lent: what is left are
+-- heightmaps that were cut (5) and lists that are too short (7).
+pub read-after-write : (m lent : Memory) (s : List ℕ) (n : ℕ) → writeCall m s .answer ≡ written.Wrote n
+    → readOf (take n (writeCall m s .section)) [] lent .answer ≡ backCheck (held m) (lengths lent)
+unfolding writeCall
+read-after-write m lent s n e =
+    let w = write-told (held m) (held-cut m) (short m) s n e in
+    ap (λ (x : List ℕ). readOf x [] lent .answer) (w .bytes) ∙ read-back-done (held m) lent (w .told)
 
 -- so write-then-read may test first, and write only what will be read back
 pub tested-first : (m : Memory) (s : List ℕ) (n : ℕ) → writeCall m s .answer ≡ written.Wrote n
@@ -244,7 +251,7 @@ pub tested-first : (m : Memory) (s : List ℕ) (n : ℕ) → writeCall m s .answ
 unfolding writeReadOf writeCall
 tested-first m s n e =
     let t = writeCall m s .section in
-    let w = write-told (held m) (short m) s n e in
+    let w = write-told (held m) (held-cut m) (short m) s n e in
     ap (λ (a : Written). ifWritten a t m s) e
     ∙ ap (λ (x : List ℕ). ifRead n t (readOf x [] m .answer) (readOf x [] m .memory) m s) (w .bytes)
     ∙ ap (λ (c : Answer). ifRead n t c (readOf (written (held m)) [] m .memory) m s) (read-back-done (held m) m (w .told))

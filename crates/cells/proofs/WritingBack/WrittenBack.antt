@@ -5,7 +5,7 @@ use mathlib.Core.Path.{_≡_, refl, sym, ap, _∙_}
 use mathlib.Core.Bool.{Bool, true, false}
 use mathlib.Core.List.{List, [], _∷_, _++_, map}
 use lib.Dec.{eqb, ltb}
-use lib.ListN.{length, take, drop}
+use lib.ListN.{length, take, drop, length-take}
 use lib.Seq.{take-append-seam}
 use borrow.Author.Tests.{eqb-true, ltb-true, ltb-false}
 use Rattle.records.specs.Sections.{bytesOf}
@@ -14,7 +14,7 @@ use Rattle.numbers.specs.declared.answer.Answer.{Answer}
 use Rattle.numbers.specs.declared.answer.Answer.the-variants as answer
 use Rattle.cells.specs.Lists.{every}
 use Rattle.cells.specs.Checks.{rootRead, sizesCheck, arraysFound}
-use Rattle.cells.specs.Memory.{Memory, unless, short}
+use Rattle.cells.specs.Memory.{Memory, unless, overLimit, short}
 use Rattle.cells.specs.Read.{ifFound, readArrays, readOf}
 use Rattle.cells.specs.Cell.{Cell}
 use Rattle.cells.specs.CellOf.{linkOf, refOf, nodeWith, junctionWith, nodesOf, junctionsOf, refsOf, cellOf}
@@ -24,12 +24,14 @@ use Rattle.cells.specs.Entries.{linksIn, valuesIn}
 use Rattle.cells.specs.WriteChecks.{accepted, checkNodes, checkJunctions}
 use Rattle.cells.specs.Blocks.{refsBlock, heightsBlock, junctionsBlock, linksBlock, nodesBlock, blocks, rootFor, written}
 use Rattle.cells.specs.Write.{WriteLeft, left, refuse, orElse, after, held, stored, writeHeld, writeCall}
+use Rattle.cells.specs.WriteCounts.{Cut}
 use Rattle.cells.specs.WriteRead.{ifRead, ifWritten, writeReadOf}
 use Rattle.cells.specs.declared.count.Total.{Total}
 use Rattle.cells.specs.declared.count.Total.the-variants.{Sum, Refused}
 use Rattle.cells.specs.declared.write.Written.{Written}
 use Rattle.cells.specs.declared.write.Written.the-variants as written
 use Rattle.cells.proofs.Sequences.Tests.{and-left, and-right}
+use Rattle.cells.proofs.Forms.Limits.{within}
 use Rattle.cells.proofs.Reading.ReadLaws.{small}
 use Rattle.cells.proofs.Reading.FileRead.{read-cell}
 use Rattle.cells.proofs.WritingBack.BlocksBack.{nodes-back, junctions-back, refs-back}
@@ -64,6 +66,8 @@ pub record Told (h : Memory) : Type 0 where
   pub nodes-told : accepted (checkNodes (λ n. length (linksIn (h .links) n)) 0 0 (h .nodes)) ≡ true
   pub junctions-told : accepted (checkJunctions (λ j. length (valuesIn (h .heights) j)) 0 0 (h .junctions)) ≡ true
   pub refs-told : length (h .refs) ≤ 65535
+  pub nodes-few : length (h .nodes) ≤ 65536
+  pub junctions-few : length (h .junctions) ≤ 4096
 
 -- the cell whose lists are h, each whole
 abbrev wholeOf : Memory → Cell
@@ -156,24 +160,43 @@ stored-told h s n e =
     ∙ ap (λ (k : ℕ). take k (written h ++ drop (length (written h)) s)) (sym long)
     ∙ take-append-seam (written h) (drop (length (written h)) s)
 
-pub write-told : (h : Memory) (lack : ℕ) (s : List ℕ) (n : ℕ) → writeHeld h lack s .answer ≡ written.Wrote n → Held h (writeHeld h lack s) n
+-- the lists are cut to the counts
+pub held-cut : (m : Memory) → Cut (held m)
+unfolding held
+held-cut m =
+    record { nodes-cut = few (m .ynd .«node_count») (m .nodes); junctions-cut = few (m .ynd .«junction_count») (m .junctions); refs-cut = few (m .ynd .«ref_count») (m .refs) }
+  where
+    few : (n : ℕ) (l : List (List ℕ)) → length (take n l) ≤ n
+    few n l = omega (arith, length-take n l)
+
+pub write-told : (h : Memory) → Cut h → (lack : ℕ) (s : List ℕ) (n : ℕ) → writeHeld h lack s .answer ≡ written.Wrote n → Held h (writeHeld h lack s) n
 unfolding writeHeld
-write-told h lack s n e =
+write-told h cut lack s n e₀ =
     let l₄ = stored h s in
     let l₃ = orElse (ltb lack 5) (refuse 7 lack s) l₄ in
-    let l₂ = orElse (ltb 65535 (length (h .refs))) (refuse 11 0 s) l₃ in
+    let l₂ = orElse (ltb 65535 (h .ynd .«ref_count»)) (refuse 11 0 s) l₃ in
     let l₁ = after (checkJunctions (λ j. length (valuesIn (h .heights) j)) 0 0 (h .junctions)) s l₂ in
+    let l₀ = after (checkNodes (λ n. length (linksIn (h .links) n)) 0 0 (h .nodes)) s l₁ in
+    let r₀ = else-told (overLimit (h .ynd)) 14 0 s l₀ n e₀ in
+    let e : l₀ .answer ≡ written.Wrote n = ap (λ (l : WriteLeft). l .answer) (sym (r₀ .1)) ∙ e₀ in
+    let limits = within (h .ynd) (r₀ .0) in
     let r₁ = after-told (checkNodes (λ n. length (linksIn (h .links) n)) 0 0 (h .nodes)) s l₁ n e in
     let e₁ : l₁ .answer ≡ written.Wrote n = ap (λ (l : WriteLeft). l .answer) (sym (r₁ .1)) ∙ e in
     let r₂ = after-told (checkJunctions (λ j. length (valuesIn (h .heights) j)) 0 0 (h .junctions)) s l₂ n e₁ in
     let e₂ : l₂ .answer ≡ written.Wrote n = ap (λ (l : WriteLeft). l .answer) (sym (r₂ .1)) ∙ e₁ in
-    let r₃ = else-told (ltb 65535 (length (h .refs))) 11 0 s l₃ n e₂ in
+    let r₃ = else-told (ltb 65535 (h .ynd .«ref_count»)) 11 0 s l₃ n e₂ in
     let e₃ : l₃ .answer ≡ written.Wrote n = ap (λ (l : WriteLeft). l .answer) (sym (r₃ .1)) ∙ e₂ in
     let r₄ = else-told (ltb lack 5) 7 lack s l₄ n e₃ in
     let e₄ : l₄ .answer ≡ written.Wrote n = ap (λ (l : WriteLeft). l .answer) (sym (r₄ .1)) ∙ e₃ in
     record {
-      told = record { nodes-told = r₁ .0; junctions-told = r₂ .0; refs-told = ltb-false _ _ (r₃ .0) };
-      bytes = ap (λ (l : WriteLeft). take n (l .section)) (r₁ .1 ∙ r₂ .1 ∙ r₃ .1 ∙ r₄ .1) ∙ stored-told h s n e₄;
+      told = record {
+        nodes-told = r₁ .0;
+        junctions-told = r₂ .0;
+        refs-told = omega (arith, ltb-false 65535 (h .ynd .«ref_count») (r₃ .0), cut .refs-cut);
+        nodes-few = omega (arith, limits .0, cut .nodes-cut);
+        junctions-few = omega (arith, limits .1, cut .junctions-cut);
+      };
+      bytes = ap (λ (l : WriteLeft). take n (l .section)) (r₀ .1 ∙ r₁ .1 ∙ r₂ .1 ∙ r₃ .1 ∙ r₄ .1) ∙ stored-told h s n e₄;
     }
 
 -- an accepted reading is of at most 16,777,216 bytes
@@ -208,4 +231,4 @@ write-read-same m s k = go (writeCall m s .answer) refl
 
     go : (a : Written) → writeCall m s .answer ≡ a → cellOf (ifWritten a t m s .memory) ≡ cellOf m
     go (written.Refused x y) e = refl
-    go (written.Wrote n) e = let w = write-told (held m) (short m) s n e in reading n (w .bytes) (w .told) (readOf (take n t) [] m .answer) refl
+    go (written.Wrote n) e = let w = write-told (held m) (held-cut m) (short m) s n e in reading n (w .bytes) (w .told) (readOf (take n t) [] m .answer) refl

@@ -3,7 +3,7 @@ use mathlib.Core.Path.{_≡_, sym, ap, _∙_}
 use native.Mathlib.Omega.{arith}
 use lib.ListN.{length, set}
 use Rattle.cells.specs.Words.{junctionWords}
-use Rattle.cells.specs.Memory.{memory}
+use Rattle.cells.specs.Memory.{memory, overLimit}
 use Rattle.cells.specs.Add.{roomForJunction, done, addJunction}
 use Rattle.cells.proofs.Editing.AddLaws.{refused-left, done-left, JunctionRoom, junction-room, put-fits}
 use borrow.Author.Needs.{needs}
@@ -12,16 +12,16 @@ use Rattle.cells.proofs.add_junction.add_junction.Tie as tie
 
 -- the answer, by the junction's own size
 answer-is : (c : tie.After-room-for-junction) → let a = c .before .before .before .before .before .before .args in
-    c .room-for-junction .result ≡ roomForJunction (a .ynd .«junction_count») (a .ynd .«heightmap_count») (a .j .width * a .j .height) (length (a .values .now)) (length (a .junctions .now)) (length (a .heights .now))
+    c .room-for-junction .result ≡ roomForJunction (overLimit (a .ynd)) (a .ynd .«junction_count») (a .ynd .«heightmap_count») (a .j .width * a .j .height) (length (a .values .now)) (length (a .junctions .now)) (length (a .heights .now))
 answer-is c =
     let a = c .before .before .before .before .before .before .args in
     c .room-for-junction .ensures
-    ∙ (λ i. roomForJunction (a .ynd .«junction_count») (a .ynd .«heightmap_count») (c .before .map-size .ensures .0 i) (length (a .values .now)) (length (a .junctions .now)) (length (a .heights .now)))
+    ∙ (λ i. roomForJunction (overLimit (a .ynd)) (a .ynd .«junction_count») (a .ynd .«heightmap_count») (c .before .map-size .ensures .0 i) (length (a .values .now)) (length (a .junctions .now)) (length (a .heights .now)))
 
 -- an accepted call has room
 room : (c : tie.After-enum-told) → let a = c .before .before .before .before .before .before .before .before .args in
     JunctionRoom (a .ynd .«junction_count») (a .ynd .«heightmap_count») (a .j .width * a .j .height) (length (a .values .now)) (length (a .junctions .now)) (length (a .heights .now))
-room c = junction-room _ _ _ _ _ _ (sym (answer-is (c .before .before)) ∙ c .enum-told .given .1)
+room c = junction-room _ _ _ _ _ _ _ (sym (answer-is (c .before .before)) ∙ c .enum-told .given .1)
 
 returns : tie.Need-returns
 unfolding addJunction

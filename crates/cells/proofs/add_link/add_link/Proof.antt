@@ -1,7 +1,7 @@
 use mathlib.Core.Path.{_≡_, sym, _∙_}
 use native.Mathlib.Omega.{arith}
 use lib.ListN.{length}
-use Rattle.cells.specs.Memory.{memory}
+use Rattle.cells.specs.Memory.{memory, overLimit}
 use Rattle.cells.specs.Edit.{heldIn}
 use Rattle.cells.specs.Add.{done}
 use Rattle.cells.specs.AddLink.{heldAt, atIn, inserted, roomForLink, addLink, LinkRoom}
@@ -16,15 +16,15 @@ held c = let a = c .before .before .before .before .before .args in c .held-in .
 
 -- the answer, by the links that the node has
 answer-is : (c : tie.After-room-for-link) → let a = c .before .before .before .before .before .before .args in
-    c .room-for-link .result ≡ roomForLink (a .ynd .«node_count») (a .ynd .«link_count») (a .place) (heldAt (a .nodes .now) (a .place) (a .ynd .«link_count»)) (length (a .nodes .now)) (length (a .links .now))
+    c .room-for-link .result ≡ roomForLink (overLimit (a .ynd)) (a .ynd .«node_count») (a .ynd .«link_count») (a .place) (heldAt (a .nodes .now) (a .place) (a .ynd .«link_count»)) (length (a .nodes .now)) (length (a .links .now))
 answer-is c =
     let a = c .before .before .before .before .before .before .args in
-    c .room-for-link .ensures ∙ (λ i. roomForLink (a .ynd .«node_count») (a .ynd .«link_count») (a .place) (held (c .before) i) (length (a .nodes .now)) (length (a .links .now)))
+    c .room-for-link .ensures ∙ (λ i. roomForLink (overLimit (a .ynd)) (a .ynd .«node_count») (a .ynd .«link_count») (a .place) (held (c .before) i) (length (a .nodes .now)) (length (a .links .now)))
 
 -- an accepted call has room
 room : (c : tie.After-enum-told) → let a = c .before .before .before .before .before .before .before .before .args in
     LinkRoom (a .ynd .«node_count») (a .ynd .«link_count») (a .place) (c .before .before .before .held-in .result) (length (a .nodes .now)) (length (a .links .now))
-room c = accepted _ _ _ _ _ _ (sym (c .before .before .room-for-link .ensures) ∙ c .enum-told .given .1)
+room c = accepted _ _ _ _ _ _ _ (sym (c .before .before .room-for-link .ensures) ∙ c .enum-told .given .1)
 
 returns : tie.Need-returns
 unfolding addLink

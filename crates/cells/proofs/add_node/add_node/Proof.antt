@@ -13,7 +13,7 @@ use Rattle.cells.proofs.add_node.add_node.Tie as tie
 -- an accepted call has room
 room : (c : tie.After-enum-told) → let a = c .before .before .before .before .args in
     (a .ynd .«node_count» < 65536) × (a .ynd .«node_count» < length (a .nodes .now))
-room c = room-inside _ _ _ _ (sym (c .before .before .room-for .ensures) ∙ c .enum-told .given .1)
+room c = room-inside _ _ _ _ _ (sym (c .before .before .room-for .ensures) ∙ c .enum-told .given .1)
 
 returns : tie.Need-returns
 unfolding addNode

@@ -12,7 +12,7 @@ use Rattle.cells.proofs.add_ref.add_ref.Tie as tie
 -- an accepted call has room
 room : (c : tie.After-enum-told) → let a = c .before .before .before .before .args in
     (a .ynd .«ref_count» < 4294967295) × (a .ynd .«ref_count» < length (a .refs .now))
-room c = room-inside _ _ _ _ (sym (c .before .before .room-for .ensures) ∙ c .enum-told .given .1)
+room c = room-inside _ _ _ _ _ (sym (c .before .before .room-for .ensures) ∙ c .enum-told .given .1)
 
 returns : tie.Need-returns
 unfolding addRef

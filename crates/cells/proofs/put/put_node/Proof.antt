@@ -13,7 +13,7 @@ use Rattle.cells.proofs.put.put_node.Statement.{statement}
 use Rattle.cells.proofs.put.put_node.Tie as tie
 
 inside : (c : tie.After-known-told) → c .before .e .given .0 .0 < length (c .before .before .before .before .before .args .nodes .now)
-inside c = entry-inside _ _ _ _ _ (sym (c .before .before .before .entry-at .ensures) ∙ c .before .e .given .1) .1
+inside c = entry-inside _ _ _ _ _ _ (sym (c .before .before .before .entry-at .ensures) ∙ c .before .e .given .1) .1
 
 returns : tie.Need-returns
 unfolding nodeEntry putNode

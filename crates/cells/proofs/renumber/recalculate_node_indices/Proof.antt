@@ -5,7 +5,7 @@ use native.Mathlib.Omega.{arith}
 use lib.ListN.{length}
 use Rattle.numbers.specs.declared.answer.Answer.{Answer}
 use Rattle.numbers.specs.declared.answer.Answer.the-variants.{Done, Refused}
-use Rattle.cells.specs.Memory.{Memory, memory, short}
+use Rattle.cells.specs.Memory.{Memory, memory, overLimit, short}
 use Rattle.cells.specs.Renumber.{peds, recounted, answerOf, newLists, leftBy, renumberMemory, renumber, scratchLeft}
 use Rattle.cells.specs.RenumberParts.{Room}
 use Rattle.cells.proofs.Renumbering.Placed.{vehicles-few, peds-are}
@@ -20,10 +20,10 @@ cell s = let a = s .args in memory (a .ynd) (a .nodes .now) (a .links .now) (a .
 
 -- what the answer is, by that cell
 answer-is : (c : tie.After-answer-of) → let s = c .before .before .before .before .before .before .before .before in
-    c .answer-of .result ≡ answerOf (s .args .ynd .«node_count») (short (cell s)) (length (s .args .scratch .now)) (length (s .args .places .now))
+    c .answer-of .result ≡ answerOf (overLimit (s .args .ynd)) (s .args .ynd .«node_count») (short (cell s)) (length (s .args .scratch .now)) (length (s .args .places .now))
 answer-is c =
     let a = c .before .before .before .before .before .before .before .before .args in
-    c .answer-of .ensures ∙ ap (λ (x : ℕ). answerOf (a .ynd .«node_count») x (length (a .scratch .now)) (length (a .places .now))) (c .before .lacking .ensures)
+    c .answer-of .ensures ∙ ap (λ (x : ℕ). answerOf (overLimit (a .ynd)) (a .ynd .«node_count») x (length (a .scratch .now)) (length (a .places .now))) (c .before .lacking .ensures)
 
 -- what nobody touches
 untouched : (a : Answer) (s : List ℕ) → scratchLeft a s s

@@ -21,8 +21,8 @@ use Rattle.cells.proofs.write.store.Tie as tie
 abbrev cell : tie.Start → Memory
 cell s = memory (s .args .ynd) (s .args .nodes .now) (s .args .links .now) (s .args .junctions .now) (s .args .heights .now) (s .args .refs .now)
 
-told : (c : tie.Start) → Ready (c .args .nodes .now) (c .args .links .now) (c .args .junctions .now) (c .args .heights .now) (c .args .refs .now) (c .args .k)
-told c = ready (c .args .nodes .now) (c .args .links .now) (c .args .junctions .now) (c .args .heights .now) (c .args .refs .now) (c .args .k) (c .pre .0)
+told : (c : tie.Start) → Ready (c .args .ynd) (c .args .nodes .now) (c .args .links .now) (c .args .junctions .now) (c .args .heights .now) (c .args .refs .now) (c .args .k)
+told c = ready (c .args .ynd) (c .args .nodes .now) (c .args .links .now) (c .args .junctions .now) (c .args .heights .now) (c .args .refs .now) (c .pre .1) (c .args .k) (c .pre .0)
 
 ends : (c : tie.After-places-for) → c .places-for .result .total ≡ length (written (cell (c .before .before .before)))
 ends c =
@@ -58,7 +58,8 @@ rooted c =
 places-for-requires : tie.Need-places-for-requires
 places-for-requires c κs =
     let begin = c .before .before in
-    (omega (arith, (told begin) .nodes-are, begin .pre .1), omega (arith, (told begin) .links-few), omega (arith, (told begin) .junctions-are, begin .pre .2), omega (arith, (told begin) .heights-few), omega (arith, (told begin) .refs-few))
+    let t = told begin in
+    (omega (arith, t .nodes-few), omega (arith, t .links-few), omega (arith, t .junctions-few), omega (arith, t .heights-few), omega (arith, t .refs-few))
 
 returns : tie.Need-returns
 unfolding stored
@@ -70,7 +71,8 @@ returns c =
 root-for-requires : tie.Need-root-for-requires
 root-for-requires c κs =
     let begin = c .before .before .before .before in
-    (omega (arith, (told begin) .nodes-are, begin .pre .1), omega (arith, (told begin) .links-few), omega (arith, (told begin) .junctions-are, begin .pre .2), omega (arith, (told begin) .heights-few), omega (arith, (told begin) .refs-few))
+    let t = told begin in
+    (omega (arith, t .nodes-few), omega (arith, t .links-few), omega (arith, t .junctions-few), omega (arith, t .heights-few), omega (arith, t .refs-few))
 
 mul-fill : tie.Need-mul-fill
 mul-fill c =

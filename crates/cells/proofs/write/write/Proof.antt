@@ -1,20 +1,24 @@
-use Prim.Native.Nat.{_-_}
-use native.Mathlib.Omega.{arith}
 use mathlib.Core.Path.{_∙_}
-use lib.ListN.{drop, length-take}
 use Rattle.cells.specs.Memory.{memory}
 use Rattle.cells.specs.Write.{held, writeHeld, writeCall}
-use Rattle.cells.proofs.Writing.Ranges.{front}
+use Rattle.cells.proofs.Writing.Ranges.{front, front-few}
 use borrow.Author.Needs.{needs}
 use Rattle.cells.proofs.write.write.Statement.{statement}
 use Rattle.cells.proofs.write.write.Tie as tie
 
 write-held-requires : tie.Need-write-held-requires
 write-held-requires c κs =
-    let after-least3 = c .before .before .before .before .before .before .before .before in
+    let after-least5 = c .before .before .before .before .before .before in
+    let after-least3 = after-least5 .before .before in
     let after-least = after-least3 .before .before in
     let begin = after-least .before .before .before .before in
-    (omega (arith, length-take (after-least .least .result - 0) (drop 0 (begin .args .nodes .now)), after-least .least .ensures .1), omega (arith, length-take (after-least3 .least3 .result - 0) (drop 0 (begin .args .junctions .now)), after-least3 .least3 .ensures .1))
+    let a = begin .args in
+    let y = a .ynd in
+    record {
+      nodes-cut = front-few (a .nodes .now) (y .«node_count») (after-least .least .result) (after-least .least .ensures .0);
+      junctions-cut = front-few (a .junctions .now) (y .«junction_count») (after-least3 .least3 .result) (after-least3 .least3 .ensures .0);
+      refs-cut = front-few (a .refs .now) (y .«ref_count») (after-least5 .least5 .result) (after-least5 .least5 .ensures .0);
+    }
 
 returns : tie.Need-returns
 unfolding writeCall held

@@ -35,7 +35,7 @@ store-requires c κs =
     let after-a = c .before .before .before in
     let after-write-counts = after-a .before .before in
     let begin = after-write-counts .before .before .before in
-    (sym (after-write-counts .write-counts .ensures) ∙ after-a .a .given .1, begin .pre .0, begin .pre .1)
+    (sym (after-write-counts .write-counts .ensures) ∙ after-a .a .given .1, begin .pre)
 
 returns-3 : tie.Need-returns-3
 returns-3 c =

@@ -16,13 +16,16 @@ use Rattle.cells.proofs.write_read.answer_held.Tie as tie
 abbrev cell : tie.Start → Memory
 cell s = memory (s .args .ynd) (s .args .nodes .now) (s .args .links .now) (s .args .junctions .now) (s .args .heights .now) (s .args .refs .now)
 
-counts : (c : tie.After-a) → writeCounts (c .before .before .before .before .args .nodes .now) (c .before .before .before .before .args .links .now) (c .before .before .before .before .args .junctions .now) (c .before .before .before .before .args .heights .now) (c .before .before .before .before .args .refs .now) ≡ Held (c .a .given .0 .0)
+counts : (c : tie.After-a) → let a = c .before .before .before .before .args in
+    writeCounts (a .ynd) (a .nodes .now) (a .links .now) (a .junctions .now) (a .heights .now) (a .refs .now) ≡ Held (c .a .given .0 .0)
 counts c = sym (c .before .before .write-counts .ensures) ∙ c .a .given .1
 
-told : (c : tie.After-a) → Ready (c .before .before .before .before .args .nodes .now) (c .before .before .before .before .args .links .now) (c .before .before .before .before .args .junctions .now) (c .before .before .before .before .args .heights .now) (c .before .before .before .before .args .refs .now) (c .a .given .0 .0)
+told : (c : tie.After-a) → let a = c .before .before .before .before .args in
+    Ready (a .ynd) (a .nodes .now) (a .links .now) (a .junctions .now) (a .heights .now) (a .refs .now) (c .a .given .0 .0)
 told c =
     let begin = c .before .before .before .before in
-    ready (begin .args .nodes .now) (begin .args .links .now) (begin .args .junctions .now) (begin .args .heights .now) (begin .args .refs .now) (c .a .given .0 .0) (counts c)
+    let a = begin .args in
+    ready (a .ynd) (a .nodes .now) (a .links .now) (a .junctions .now) (a .heights .now) (a .refs .now) (begin .pre) (c .a .given .0 .0) (counts c)
 
 ends : (c : tie.After-places-for) → c .places-for .result .total ≡ length (written (cell (c .before .before .before .before .before .before .before .before)))
 ends c =
@@ -47,9 +50,8 @@ returns-2 c =
 
 places-for-requires : tie.Need-places-for-requires
 places-for-requires c κs =
-    let after-a = c .before .before .before in
-    let begin = after-a .before .before .before .before in
-    (omega (arith, (told after-a) .nodes-are, begin .pre .0), omega (arith, (told after-a) .links-few), omega (arith, (told after-a) .junctions-are, begin .pre .1), omega (arith, (told after-a) .heights-few), omega (arith, (told after-a) .refs-few))
+    let t = told (c .before .before .before) in
+    (omega (arith, t .nodes-few), omega (arith, t .links-few), omega (arith, t .junctions-few), omega (arith, t .heights-few), omega (arith, t .refs-few))
 
 returns-3 : tie.Need-returns-3
 returns-3 c =
@@ -62,8 +64,8 @@ returns-3 c =
 
 back-check-requires : tie.Need-back-check-requires
 back-check-requires c κs =
-    let after-a = c .before .before .before .before .before in
-    ((told after-a) .junctions-are, (told after-a) .heights-are, (told after-a) .heights-few)
+    let t = told (c .before .before .before .before .before) in
+    (omega (arith, t .junctions-are, t .junctions-few), t .heights-are, t .heights-few)
 
 returns-4 : tie.Need-returns-4
 returns-4 c =

@@ -1,62 +1,44 @@
 use Prim.Native.Nat.{ℕ}
-use mathlib.Core.Path.{ap, _∙_}
+use mathlib.Core.Path.{_≡_, sym, ap, _∙_}
 use mathlib.Core.List.{List}
 use Rattle.cells.specs.declared.ynd.Ynd.{Ynd}
 use Rattle.cells.specs.Memory.{memory}
-use Rattle.exports.specs.Values.{valuesTold}
-use Rattle.exports.proofs.CopiedValues.{no-place, junctions-short, heights-short, values-short, values-copied}
+use Rattle.walks.specs.declared.shown.ShownValues.{ShownValues}
+use Rattle.walks.specs.Shown.{ValuesLeft, shownValues}
+use Rattle.exports.specs.Found.{shownValuesTold}
 use borrow.Author.Needs.{needs}
 use Rattle.exports.proofs.showing.ynd_shown_values.Statement.{statement}
 use Rattle.exports.proofs.showing.ynd_shown_values.Tie as tie
 
 returns : tie.Need-returns
 returns c =
-    let a = c .before .before .before .before .before .before .args in
-    let y = c .before .before .ynd-of .result in
-    λ nodes links refs. no-place (memory y nodes links (a .junctions .now) (a .heights .now) refs) (a .at) (a .values .now) (a .count .now) (c .if1 .taken)
-    ∙ ap (λ (x : Ynd). valuesTold (memory x nodes links (a .junctions .now) (a .heights .now) refs) (a .at) (a .values .now) (a .count .now)) (c .before .before .ynd-of .ensures)
+    let called = c .before .before .before .before .before in
+    let a = c .before .before .before .before .before .before .before .before .before .before .before .args in
+    let e : (nodes links refs : List (List ℕ)) → _ ≡ _ = λ nodes links refs. called .shown-values .ensures nodes links refs
+    ∙ ap (λ (y : Ynd). shownValues (memory y nodes links (a .junctions .now) (a .heights .now) refs) (a .at) (a .values .now)) (called .before .before .ynd-of .ensures) in (
+      λ nodes links refs. ap (λ (w : ShownValues). shownValuesTold w (a .count .now)) (sym (c .before .s .given .1) ∙ ap (λ (l : ValuesLeft). l .answer) (e nodes links refs)),
+      λ nodes links refs. ap (λ (l : ValuesLeft). l .values) (e nodes links refs),
+    )
 
 returns-2 : tie.Need-returns-2
 returns-2 c =
-    let a = c .before .before .before .before .before .before .before .before .args in
-    let y = c .before .before .before .before .ynd-of .result in
-    λ nodes links refs. junctions-short (memory y nodes links (a .junctions .now) (a .heights .now) refs) (a .at) (a .values .now) (a .count .now) (c .before .before .if1 .left) (c .if2 .taken)
-    ∙ ap (λ (x : Ynd). valuesTold (memory x nodes links (a .junctions .now) (a .heights .now) refs) (a .at) (a .values .now) (a .count .now)) (c .before .before .before .before .ynd-of .ensures)
-
-returns-3 : tie.Need-returns-3
-returns-3 c =
-    let a = c .before .before .before .before .before .before .before .before .before .before .args in
-    let y = c .before .before .before .before .before .before .ynd-of .result in
-    λ nodes links refs. heights-short (memory y nodes links (a .junctions .now) (a .heights .now) refs) (a .at) (a .values .now) (a .count .now) (c .before .before .before .before .if1 .left) (c .before .before .if2 .left) (c .if3 .taken)
-    ∙ ap (λ (x : Ynd). valuesTold (memory x nodes links (a .junctions .now) (a .heights .now) refs) (a .at) (a .values .now) (a .count .now)) (c .before .before .before .before .before .before .ynd-of .ensures)
-
-returns-4 : tie.Need-returns-4
-returns-4 c =
-    let a = c .before .before .before .before .before .before .before .before .before .before .before .before .args in
-    let y = c .before .before .before .before .before .before .before .before .ynd-of .result in
-    λ nodes links refs. values-short (memory y nodes links (a .junctions .now) (a .heights .now) refs) (a .at) (a .values .now) (a .count .now) (c .before .before .before .before .before .before .if1 .left) (c .before .before .before .before .if2 .left) (c .before .before .if3 .left) _ (c .before .shown-values .ensures nodes links refs) (c .if4 .taken)
-    ∙ ap (λ (x : Ynd). valuesTold (memory x nodes links (a .junctions .now) (a .heights .now) refs) (a .at) (a .values .now) (a .count .now)) (c .before .before .before .before .before .before .before .before .ynd-of .ensures)
-
-returns-5 : tie.Need-returns-5
-returns-5 c =
-    let a = c .before .before .before .before .before .before .before .before .before .before .before .before .before .before .before .before .args in
-    let y = c .before .before .before .before .before .before .before .before .before .before .before .before .ynd-of .result in
-    λ nodes links refs. values-copied (memory y nodes links (a .junctions .now) (a .heights .now) refs) (a .at) (a .values .now) (a .count .now) (c .before .before .before .before .before .before .before .before .before .before .if1 .left) (c .before .before .before .before .before .before .before .before .if2 .left) (c .before .before .before .before .before .before .if3 .left) _ (c .before .before .before .before .before .shown-values .ensures nodes links refs) (c .before .before .before .before .if4 .left) (c .before .before .put-bytes .ensures)
-    ∙ ap (λ (x : Ynd). valuesTold (memory x nodes links (a .junctions .now) (a .heights .now) refs) (a .at) (a .values .now) (a .count .now)) (c .before .before .before .before .before .before .before .before .before .before .before .before .ynd-of .ensures)
+    let called = c .before .before .before .before .before in
+    let a = c .before .before .before .before .before .before .before .before .before .before .before .args in
+    let e : (nodes links refs : List (List ℕ)) → _ ≡ _ = λ nodes links refs. called .shown-values .ensures nodes links refs
+    ∙ ap (λ (y : Ynd). shownValues (memory y nodes links (a .junctions .now) (a .heights .now) refs) (a .at) (a .values .now)) (called .before .before .ynd-of .ensures) in (
+      λ nodes links refs. ap (λ (w : ShownValues). shownValuesTold w (a .count .now)) (sym (c .before .s2 .given .1) ∙ ap (λ (l : ValuesLeft). l .answer) (e nodes links refs)),
+      λ nodes links refs. ap (λ (l : ValuesLeft). l .values) (e nodes links refs),
+    )
 
 pub ynd-shown-values-spec : {M : Type 1} → statement M
 ynd-shown-values-spec =
     tie.close
     (tie.spec
     (λ c κs. search needs)
+    (λ c κs. search needs)
+    (λ c. search needs)
+    (λ c. search needs)
     (λ c. search needs)
     returns
     (λ c. search needs)
-    returns-2
-    (λ c. search needs)
-    returns-3
-    (λ c κs. search needs)
-    returns-4
-    (λ c κs. search needs)
-    (λ c. search needs)
-    returns-5)
+    returns-2)

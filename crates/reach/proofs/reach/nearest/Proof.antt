@@ -1,6 +1,6 @@
 use mathlib.Core.Path.{_≡_, sym, _∙_}
 use mathlib.Core.Bool.{false}
-use Rattle.reach.specs.Limit.{overLimit}
+use Rattle.cells.specs.Memory.{overLimit}
 use Rattle.reach.specs.Reach.{distances}
 use Rattle.reach.specs.Parts.{far}
 use Rattle.reach.proofs.DistanceLaws.{far-of}

@@ -4,11 +4,12 @@ use mathlib.Core.Bool.{true, false}
 use lib.Dec.{leb}
 use lib.ListN.{length}
 use borrow.Author.Tests.{not-true, not-false, leb-true}
-use Rattle.reach.specs.Limit.{overLimit}
+use Rattle.cells.specs.Memory.{overLimit}
+use Rattle.cells.proofs.Forms.Limits.{within as keeps-limits}
 use Rattle.reach.specs.Reach.{distances, within}
 use Rattle.reach.specs.Parts.{far}
 use Rattle.reach.proofs.DistanceLaws.{far-of}
-use Rattle.reach.proofs.Answers.{few-nodes, within-over, within-lacking, within-short, within-fits}
+use Rattle.reach.proofs.Answers.{within-over, within-lacking, within-short, within-fits}
 use borrow.Author.Needs.{needs}
 use Rattle.reach.proofs.reach.within.Statement.{statement}
 use Rattle.reach.proofs.reach.within.Tie as tie
@@ -56,7 +57,7 @@ fill-within-requires : tie.Need-fill-within-requires
 fill-within-requires c κs =
     let held = c .before .before .before .before .before in
     let s = held .before .before .before .before .before .args in
-    (held .if2 .left, few-nodes (s .ynd) (under (held .before)), leb-true _ _ (fits (c .before)))
+    (held .if2 .left, keeps-limits (s .ynd) (under (held .before)) .0, leb-true _ _ (fits (c .before)))
 
 returns-4 : tie.Need-returns-4
 returns-4 c =

@@ -35,7 +35,7 @@ returns-3 c =
     let e₁ = c .before .before .before .before .before .before .number-named .ensures ∙ (λ i. getD (getD (a .links .now) (st i + a .b) []) 1 0) in
     let ar = c .before .before .before .before .own-area .ensures in
     c .step-to .ensures ∙ ap stepTo (c .before .node .ensures ∙ ap (λ (x : ℕ). nodeCall (a .ynd) (a .nodes .now) x) e₁)
-    ∙ next-own (lent (a .ynd) (a .nodes .now) (a .links .now)) (search needs) (search needs) (a .p) (a .b) (search needs) (omega (arith, k .link-count .ensures, f .before .before .before .before .if1 .left))
+    ∙ next-own (lent (a .ynd) (a .nodes .now) (a .links .now)) (search needs) (search needs) (k .before .before .before .before .pre .0) (a .p) (a .b) (search needs) (omega (arith, k .link-count .ensures, f .before .before .before .before .if1 .left))
     (omega (arith, st, f .before .before .if2 .left)) (sym (λ i. belongs (ar i) (e₀ i)) ∙ sym (c .before .before .before .belongs-to .ensures) ∙ c .before .before .if3 .taken)
 
 returns-4 : tie.Need-returns-4

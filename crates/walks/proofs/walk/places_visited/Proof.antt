@@ -22,7 +22,7 @@ cast-b : tie.Need-cast-b Inv-loop μ-loop
 cast-b c = omega (arith, c .shared-slice-known2 .given (c .before .before .loop .i))
 
 follow-requires : tie.Need-follow-requires Inv-loop μ-loop
-follow-requires c κs = (search needs, search needs, search needs, omega (arith, c .shared-slice-known2 .given (c .before .before .loop .i)))
+follow-requires c κs = (search needs, search needs, search needs, search needs, omega (arith, c .shared-slice-known2 .given (c .before .before .loop .i)))
 
 loop-again : tie.Need-loop-again Inv-loop μ-loop
 loop-again c = advance _ (search needs) _ _ _ _ (c .before .before .before .before .before .before .loop .inv .2) _ (search needs) (sym (c .before .x .given .1) ∙ c .before .before .before .follow .ensures)

@@ -1,8 +1,0 @@
-use Rattle.reach.specs.Limit.{overLimit}
-use Rattle.numbers.proofs.Refusing.{tests}
-use Rattle.reach.proofs.limit.over_limit.Statement.{statement}
-use Rattle.reach.proofs.limit.over_limit.Tie as tie
-
-pub over-limit-spec : {M : Type 1} → statement M
-unfolding overLimit
-over-limit-spec = tie.close (tie.spec (λ c. search tests) (λ c. search tests))
