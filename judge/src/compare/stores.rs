@@ -8,7 +8,8 @@ use crate::inputs::rng::Rng;
 use crate::inputs::stores::{Store, Stores};
 use crate::model::cell::Link;
 use crate::model::{read, refuse_if, room, Answer, MOST_LINKS, MOST_NODES};
-use crate::port::memory::{link_range, link_words, value_range, Memory};
+use crate::port::memory::Memory;
+use crate::port::words::{link_range, link_words, value_range};
 use crate::rust;
 use crate::ynd::{Heightmap, Ynd};
 

@@ -1,6 +1,7 @@
 //! The cell's own words, lists and heightmaps as a whole.
 use super::lent::Shown;
-use super::memory::{self, Memory};
+use super::memory::Memory;
+use super::words::link_words;
 use super::{answer, KEPT_PLACE};
 use crate::model::cell::Link;
 use crate::model::Answer;
@@ -46,7 +47,7 @@ impl Memory {
 
     pub fn put_links(&mut self, at: usize, links: &[Link]) -> Answer<()> {
         let mut place = KEPT_PLACE;
-        let given: Vec<[u16; 4]> = links.iter().map(memory::link_words).collect();
+        let given: Vec<[u16; 4]> = links.iter().map(link_words).collect();
         let (n, l) = (self.nodes.len(), self.links.len());
         let before = slips::before(self);
         let (nodes, links, mut given) = (self.nodes.as_mut_ptr(), self.links.as_mut_ptr(), Shown::of(&given));
