@@ -29,12 +29,14 @@ use Rattle.walks.specs.Walk.{Seen, next, see, walkIn, walk}
 use Rattle.walks.specs.Calls.{Call, after, run, anyRenumbers, renumbering, write-read, renumbers, moved}
 use Rattle.walks.specs.WalkCall.{route, walkLeft, walkCall}
 use Rattle.walks.specs.declared.walk.Walked.the-variants.{Ended}
+use Rattle.walks.specs.Shown.{valuesAt, valuesLeft, shownValues}
+use Rattle.walks.specs.declared.shown.ShownValues.the-variants.{Copied}
 use Rattle.walks.specs.Claim.{shown, followed, SameWalk, Unnoticed}
 use Rattle.walks.specs.declared.walk.End.the-variants.{NoLink}
 use Rattle.walks.proofs.Demand.{demand-3}
 use Rattle.walks.proofs.Example.{bytes, room, reads, is-sound, first, accepted, refused, stored-read}
 use Rattle.numbers.specs.declared.answer.Answer.the-variants.{Done}
-use Rattle.records.specs.Put.{joined}
+use Rattle.records.specs.Put.{joined, put}
 use Rattle.records.specs.Layout.{pages, headerBytes, gapFor, padded, startOf, lay, offset, total, address, placesOf, sectionBytes}
 use Rattle.cells.specs.Checks.{sizesCheck, arraysFound, scan, arraysCheck}
 use Rattle.cells.specs.Read.{linksFrom, nodeIn, linksIn, valuesFrom, junctionIn, valuesIn, refIn, roomCheck, cellRead, filled, readArrays, readOf}
@@ -165,3 +167,14 @@ bare =
 pub just-full : walkCall bare (0 ∷ []) 0 (9 ∷ []) ≡ walkLeft (Ended NoLink 1) (0 ∷ [])
 unfolding walkCall overLimit route next nodesOf
 just-full = refl
+
+-- a list as long as a junction's values is enough: a heightmap of one value
+abbrev mapped : Memory
+mapped =
+    memory
+    (record { vft = 0; «vehicle_node_count» = 0; «ped_node_count» = 0; unknowns = []; «node_count» = 0; «link_count» = 0; «junction_count» = 1; «heightmap_count» = 1; «ref_count» = 0 })
+    [] [] ((0 ∷ 0 ∷ 0 ∷ 0 ∷ 257 ∷ 0 ∷ []) ∷ []) (77 ∷ []) []
+
+pub values-just-fit : shownValues mapped 0 (9 ∷ []) ≡ valuesLeft (Copied 1) (77 ∷ [])
+unfolding shownValues overLimit valuesAt cellOf junctionsOf put
+values-just-fit = refl
