@@ -189,9 +189,12 @@ static int write_back(yard *y)
 {
     ynd_addresses at;
     size_t total, length, place;
-    ynd_lay_out(y->ynd.ref_count, y->ynd.heightmap_count, y->ynd.junction_count, y->ynd.link_count, y->ynd.node_count, &at, &total);
+    uint32_t number = ynd_lay_out(y->ynd.ref_count, y->ynd.heightmap_count, y->ynd.junction_count, y->ynd.link_count,
+        y->ynd.node_count, &at, &total, &place);
+    if (number)
+        return refused("laying out", number, place);
     uint8_t *section = list(total, 1);
-    uint32_t number = ynd_write_then_read(&y->ynd, y->nodes, y->room.nodes, y->links, y->room.links, y->junctions, y->room.junctions, y->heights, y->room.heights,
+    number = ynd_write_then_read(&y->ynd, y->nodes, y->room.nodes, y->links, y->room.links, y->junctions, y->room.junctions, y->heights, y->room.heights,
         y->refs, y->room.refs, section, total, &length, &place);
     if (!number)
         printf("written and read back: %zu bytes, nodes at 0x%llx\n", length, (unsigned long long)at.nodes);

@@ -205,7 +205,7 @@ void check_renumber(lent *m, script *s)
 /* How long the section is, where the lists hold the counts and writing is accepted; else some length. */
 static size_t section_length(const lent *m, script *s)
 {
-    size_t links = 0, values = 0, *total, length;
+    size_t links = 0, values = 0, *total, *place, length;
     if (short_list(m) < 5 || over_limit(m))
         return byte(s) * 16u;
     for (size_t p = 0; p < m->ynd->node_count; p++)
@@ -214,8 +214,11 @@ static size_t section_length(const lent *m, script *s)
         values += values_held(m, p);
     ynd_addresses *at = block(sizeof *at);
     total = block(sizeof *total);
-    ynd_lay_out(m->ynd->ref_count, (uint32_t)values, m->ynd->junction_count, (uint32_t)links, m->ynd->node_count, at, total);
+    place = block(sizeof *place);
+    CHECK(ynd_lay_out(m->ynd->ref_count, (uint32_t)values, m->ynd->junction_count, (uint32_t)links, m->ynd->node_count,
+        at, total, place) == 0);
     length = *total;
+    unblock(place, sizeof *place);
     unblock(total, sizeof *total);
     unblock(at, sizeof *at);
     return length;
@@ -231,7 +234,8 @@ static uint32_t write_with(const lent *m, size_t room, size_t expected)
         for (size_t i = 0; i < room; i++)
             CHECK(section[i] == KEPT);
     } else {
-        CHECK(*length == expected && *length <= room && ynd_u32_at(section, room, 4) == 1 && ynd_u32_at(section, room, 24) == m->ynd->node_count);
+        CHECK(*length == expected && *length <= room && number_at(section, 4, 4) == 1);
+        CHECK(number_at(section, 24, 4) == m->ynd->node_count);
         for (size_t i = *length; i < room; i++)
             CHECK(section[i] == KEPT);
     }

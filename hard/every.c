@@ -84,33 +84,45 @@ static void new_entries(ynd_node_entry *v, ynd_link_entry *l)
     unblock(stored, 3 * sizeof *stored);
 }
 
-/* Records at every offset of a short section, past its end too: each is its bytes, with zeros behind them. */
+/* A record of so many bytes at an offset: its bytes, or 3 at its array's place, and nothing is changed. */
+static void record_at(const uint8_t *section, size_t n, uint32_t at, uint32_t number, size_t place, size_t array,
+    const uint8_t *bytes, size_t width)
+{
+    bool inside = at + width <= n;
+    CHECK(number == (inside ? 0 : YND_BAD_ARRAY) && place == (inside ? 0 : array));
+    for (size_t k = 0; k < width; k++)
+        CHECK(bytes[k] == (inside ? section[at + k] : KEPT));
+}
+
+/* Records at every offset of a short section, past its end too. */
 static void records(void)
 {
     enum { N = 130 };
-    uint8_t *section = block(N), *node = block(40), *link = block(8), *junction = block(12), *ref = block(8);
+    uint8_t *section = block(N);
     uint32_t *words = block(YND_ROOT_WORDS * sizeof *words);
+    size_t *place = block(sizeof *place);
     for (unsigned i = 0; i < N; i++)
         section[i] = (uint8_t)(i * 37 + 11);
     for (uint32_t at = 0; at < N + 50; at++) {
-        ynd_node_record(section, N, at, node);
-        ynd_link_record(section, N, at, link);
-        ynd_junction_record(section, N, at, junction);
-        ynd_ref_record(section, N, at, ref);
-        for (uint32_t k = 0; k < 40; k++)
-            CHECK(node[k] == ynd_byte_at(section, N, at + k) && (k >= 8 || (link[k] == node[k] && ref[k] == node[k])) && (k >= 12 || junction[k] == node[k]));
-        CHECK(ynd_u64_at(section, N, at) == (ynd_u32_at(section, N, at) | (uint64_t)ynd_u32_at(section, N, at + 4) << 32));
-        CHECK(ynd_i16_at(section, N, at) == (int16_t)ynd_u16_at(section, N, at));
+        uint8_t *node = block(40), *link = block(8), *junction = block(12), *ref = block(8);
+        uint32_t number = ynd_node_record(section, N, at, node, place);
+        record_at(section, N, at, number, *place, YND_NODES, node, 40);
+        number = ynd_link_record(section, N, at, link, place);
+        record_at(section, N, at, number, *place, YND_LINKS, link, 8);
+        number = ynd_junction_record(section, N, at, junction, place);
+        record_at(section, N, at, number, *place, YND_JUNCTIONS, junction, 12);
+        number = ynd_ref_record(section, N, at, ref, place);
+        record_at(section, N, at, number, *place, YND_REFS, ref, 8);
+        unblock(ref, 8);
+        unblock(junction, 12);
+        unblock(link, 8);
+        unblock(node, 40);
     }
-    ynd_root(section, N, words);
-    CHECK(words[0] == ynd_u32_at(section, N, 0) && words[1] == 1 && words[6] == ynd_u32_at(section, N, 24));
-    ynd_root(section + N, 0, words);
-    CHECK(words[0] == 0 && words[1] == 1);
+    CHECK(ynd_root(section, N, words, place) == 0 && *place == 0);
+    CHECK(words[0] == number_at(section, 0, 4) && words[1] == 1 && words[6] == number_at(section, 24, 4));
+    CHECK(ynd_root(section, 111, words, place) == YND_FEW_SYSTEM_BYTES && words[1] == 1);
+    unblock(place, sizeof *place);
     unblock(words, YND_ROOT_WORDS * sizeof *words);
-    unblock(ref, 8);
-    unblock(junction, 12);
-    unblock(link, 8);
-    unblock(node, 40);
     unblock(section, N);
 }
 
@@ -144,7 +156,7 @@ static void empty_lists(void)
     CHECK(ynd_nearest(ynd, NULL, 0, 0, 0, yes, at, &square, place) == 0 && !*yes && *at == KEPT_SIZE && square == 7);
     CHECK(ynd_shown_values(ynd, NULL, 0, NULL, 0, 0, NULL, 0, n, place) == YND_NO_SUCH_PLACE);
     CHECK(ynd_add_node(ynd, NULL, 0, 1, 0, 0, 0, place) == YND_LENT_TOO_SHORT && *place == YND_NODES);
-    CHECK(!ynd_area_id_from_file_name(NULL, 0, area) && ynd_byte_at(NULL, 0, 0) == 0 && ynd_u64_at(NULL, 0, 0) == 0);
+    CHECK(!ynd_area_id_from_file_name(NULL, 0, area));
     unblock(end, sizeof *end);
     unblock(counts, sizeof *counts);
     unblock(ynd, sizeof *ynd);

@@ -37,18 +37,19 @@ static bool read_into(lent *m, const uint8_t *system, size_t ns, const uint8_t *
 static void check_nodes(const lent *m, const uint8_t *system, size_t ns, const uint8_t *graphics, size_t ng)
 {
     ynd_part *where = block(sizeof *where);
-    uint64_t address = ynd_u64_at(system, ns, 16);
-    uint32_t count = ynd_u32_at(system, ns, 24);
+    uint64_t address = number_at(system, 16, 8);
+    uint32_t count = (uint32_t)number_at(system, 24, 4);
     CHECK(ynd_locate(address, count, YND_NODE_RECORD_BYTES, ns, ng, where));
     CHECK(m->ynd->node_count == where->length / YND_NODE_RECORD_BYTES);
     const uint8_t *from = where->section ? graphics : system;
-    size_t n = where->section ? ng : ns;
     for (size_t p = 0; p < m->ynd->node_count; p++) {
-        uint32_t at = (uint32_t)(where->offset + p * YND_NODE_RECORD_BYTES);
+        size_t at = where->offset + p * YND_NODE_RECORD_BYTES;
         const ynd_node_entry *v = &m->nodes[p];
-        CHECK(v->area_id == ynd_u16_at(from, n, at + 16) && v->node_id == ynd_u16_at(from, n, at + 18) && v->street_name == ynd_u32_at(from, n, at + 20));
-        CHECK(v->x * 4 == ynd_i16_at(from, n, at + 28) && v->y * 4 == ynd_i16_at(from, n, at + 30) && v->z * 32 == ynd_i16_at(from, n, at + 34));
-        CHECK(v->flags5 == ynd_byte_at(from, n, at + 37) % 8 && v->link_count == ynd_byte_at(from, n, at + 37) / 8);
+        CHECK(v->area_id == number_at(from, at + 16, 2) && v->node_id == number_at(from, at + 18, 2));
+        CHECK(v->street_name == number_at(from, at + 20, 4));
+        CHECK(v->x * 4 == (int16_t)number_at(from, at + 28, 2) && v->y * 4 == (int16_t)number_at(from, at + 30, 2));
+        CHECK(v->z * 32 == (int16_t)number_at(from, at + 34, 2));
+        CHECK(v->flags5 == from[at + 37] % 8 && v->link_count == from[at + 37] / 8);
     }
     unblock(where, sizeof *where);
 }

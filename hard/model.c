@@ -1,5 +1,13 @@
 #include "model.h"
 
+uint64_t number_at(const uint8_t *section, size_t at, size_t width)
+{
+    uint64_t n = 0;
+    while (width-- > 0)
+        n = n << 8 | section[at + width];
+    return n;
+}
+
 bool over_limit(const lent *m)
 {
     return m->ynd->node_count > YND_NODES_MOST || m->ynd->junction_count > YND_JUNCTIONS_MOST;

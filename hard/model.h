@@ -4,6 +4,8 @@
 
 #include "lent.h"
 
+/* The little-endian number of so many bytes at an offset. */
+uint64_t number_at(const uint8_t *section, size_t at, size_t width);
 /* Over 65,536 nodes or 4,096 junctions: every call on such a struct is refused with 14, after 13. */
 bool over_limit(const lent *m);
 /* The links that a node holds, cut where its range leaves the links held. */

@@ -734,42 +734,30 @@ bool ynd_area_id_from_file_name(const uint8_t *name, size_t name_len, uint32_t *
 bool ynd_locate(
     uint64_t address, uint32_t count, uint8_t width, size_t system, size_t graphics, ynd_part *part);
 
-/* The byte at an offset of a section, 0 past its end. Never refused. */
-uint8_t ynd_byte_at(const uint8_t *section, size_t section_len, size_t at);
+/* The root at the start of a section, as it is written (28 words; word 1 is 1). Fills `words`. Refused, in this
+ * order: 2 at 0 over YND_SECTION_MOST bytes; 1 under 112 bytes. */
+uint32_t ynd_root(const uint8_t *section, size_t section_len, uint32_t words[28], size_t *place);
 
-/* The little-endian number of 16 bits at an offset; bytes past the end are 0. Never refused. */
-uint16_t ynd_u16_at(const uint8_t *section, size_t section_len, uint32_t at);
+/* The node record at an offset of a section, as it is written. Fills `bytes`. Refused: 3 at 0 where it does not end
+ * inside the section. */
+uint32_t ynd_node_record(const uint8_t *section, size_t section_len, uint32_t at, uint8_t bytes[40], size_t *place);
 
-/* The same with a sign. Never refused. */
-int16_t ynd_i16_at(const uint8_t *section, size_t section_len, uint32_t at);
+/* The link record at an offset of a section, as it is written. Fills `bytes`. Refused: 3 at 1 likewise. */
+uint32_t ynd_link_record(const uint8_t *section, size_t section_len, uint32_t at, uint8_t bytes[8], size_t *place);
 
-/* The little-endian number of 32 bits at an offset; bytes past the end are 0. Never refused. */
-uint32_t ynd_u32_at(const uint8_t *section, size_t section_len, uint32_t at);
+/* The junction record at an offset of a section, as it is written. Fills `bytes`. Refused: 3 at 2 likewise. */
+uint32_t ynd_junction_record(
+    const uint8_t *section, size_t section_len, uint32_t at, uint8_t bytes[12], size_t *place);
 
-/* The little-endian number of 64 bits at an offset; bytes past the end are 0. Never refused. */
-uint64_t ynd_u64_at(const uint8_t *section, size_t section_len, uint32_t at);
-
-/* The root at the start of a section, as it is written (28 words; word 1 is 1). Bytes past the end are 0. Fills
- * `words`. Never refused. */
-void ynd_root(const uint8_t *section, size_t section_len, uint32_t words[28]);
-
-/* The node record at an offset of a section, as it is written. Fills `bytes`. Never refused. */
-void ynd_node_record(const uint8_t *section, size_t section_len, uint32_t at, uint8_t bytes[40]);
-
-/* The link record at an offset of a section, as it is written. Fills `bytes`. Never refused. */
-void ynd_link_record(const uint8_t *section, size_t section_len, uint32_t at, uint8_t bytes[8]);
-
-/* The junction record at an offset of a section, as it is written. Fills `bytes`. Never refused. */
-void ynd_junction_record(const uint8_t *section, size_t section_len, uint32_t at, uint8_t bytes[12]);
-
-/* The ref record at an offset of a section, as it is written. Fills `bytes`. Never refused. */
-void ynd_ref_record(const uint8_t *section, size_t section_len, uint32_t at, uint8_t bytes[8]);
+/* The ref record at an offset of a section, as it is written. Fills `bytes`. Refused: 3 at 4 likewise. */
+uint32_t ynd_ref_record(const uint8_t *section, size_t section_len, uint32_t at, uint8_t bytes[8], size_t *place);
 
 /* Where the five blocks of a written section lie, by their counts: each address (0 for an empty one) into
- * `addresses`, the length of the whole into `total`. ynd_write needs that many bytes. Never refused. */
-void ynd_lay_out(
+ * `addresses`, the length of the whole into `total`. ynd_write needs that many bytes. Refused, in this order: 14
+ * over 65,536 nodes or 4,096 junctions; 2 at 0 where the whole is over YND_SECTION_MOST bytes. */
+uint32_t ynd_lay_out(
     uint32_t refs, uint32_t heightmap, uint32_t junctions, uint32_t links, uint32_t nodes,
-    ynd_addresses *addresses, size_t *total);
+    ynd_addresses *addresses, size_t *total, size_t *place);
 
 #ifdef __cplusplus
 }

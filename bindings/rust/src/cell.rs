@@ -131,17 +131,20 @@ impl Cell {
         Ok(places)
     }
 
-    /// How long the cell is once it is written.
-    pub fn written_length(&self) -> usize {
+    /// How long the cell is once it is written. Refused: 2 over 16,777,216 bytes, which writing is refused for, too.
+    pub fn written_length(&self) -> Result<usize, Refusal> {
         let (mut addresses, mut total, w) = ([0; 5], 0, &self.words);
         let (n, l, j, h) = (w.node_count, self.link_count() as u32, w.junction_count, self.value_count() as u32);
-        unsafe { ffi::ynd_lay_out(w.ref_count, h, j, l, n, &mut addresses, &mut total) };
-        total
+        answered(|place| unsafe { ffi::ynd_lay_out(w.ref_count, h, j, l, n, &mut addresses, &mut total, place) })?;
+        Ok(total)
     }
+
+    /// A section for writing. Where the cell is too long to be written there is none: writing names the cause.
+    fn section(&self) -> Vec<u8> { vec![0; self.written_length().unwrap_or(0)] }
 
     /// The cell as a system section. Refused: 8 and 9 node by node, 10, 11.
     pub fn write(&self) -> Result<Vec<u8>, Refusal> {
-        let (mut section, mut length) = (vec![0; self.written_length()], 0);
+        let (mut section, mut length) = (self.section(), 0);
         answered(|place| unsafe {
             ffi::ynd_write(
                 &self.words, self.nodes.as_ptr(), self.nodes.len(), self.links.as_ptr(), self.links.len(), self.junctions.as_ptr(), self.junctions.len(),
@@ -154,7 +157,7 @@ impl Cell {
 
     /// Writes the cell and reads it back; returns the section. Refused as [`Cell::write`] is.
     pub fn write_then_read(&mut self) -> Result<Vec<u8>, Refusal> {
-        let (mut section, mut length) = (vec![0; self.written_length()], 0);
+        let (mut section, mut length) = (self.section(), 0);
         answered(|place| unsafe {
             ffi::ynd_write_then_read(
                 &mut self.words, self.nodes.as_mut_ptr(), self.nodes.len(), self.links.as_mut_ptr(), self.links.len(), self.junctions.as_mut_ptr(),

@@ -26,17 +26,23 @@ extern "C" {
     pub(crate) fn ynd_cell_file_name(cx: u32, cy: u32, name: &mut [u8; 13], count: &mut usize, place: &mut usize) -> u32;
     pub(crate) fn ynd_area_id_from_file_name(name: *const u8, name_len: usize, area: &mut u32) -> bool;
     pub(crate) fn ynd_locate(address: u64, count: u32, width: u8, system: usize, graphics: usize, part: &mut [usize; 3]) -> bool;
-    pub(crate) fn ynd_byte_at(section: *const u8, section_len: usize, at: usize) -> u8;
-    pub(crate) fn ynd_u16_at(section: *const u8, section_len: usize, at: u32) -> u16;
-    pub(crate) fn ynd_i16_at(section: *const u8, section_len: usize, at: u32) -> i16;
-    pub(crate) fn ynd_u32_at(section: *const u8, section_len: usize, at: u32) -> u32;
-    pub(crate) fn ynd_u64_at(section: *const u8, section_len: usize, at: u32) -> u64;
-    pub(crate) fn ynd_root(section: *const u8, section_len: usize, words: &mut [u32; 28]);
-    pub(crate) fn ynd_node_record(section: *const u8, section_len: usize, at: u32, bytes: &mut [u8; 40]);
-    pub(crate) fn ynd_link_record(section: *const u8, section_len: usize, at: u32, bytes: &mut [u8; 8]);
-    pub(crate) fn ynd_junction_record(section: *const u8, section_len: usize, at: u32, bytes: &mut [u8; 12]);
-    pub(crate) fn ynd_ref_record(section: *const u8, section_len: usize, at: u32, bytes: &mut [u8; 8]);
-    pub(crate) fn ynd_lay_out(refs: u32, heightmap: u32, junctions: u32, links: u32, nodes: u32, addresses: &mut [u64; 5], total: &mut usize);
+    pub(crate) fn ynd_root(section: *const u8, section_len: usize, words: &mut [u32; 28], place: &mut usize) -> u32;
+    pub(crate) fn ynd_node_record(
+        section: *const u8, section_len: usize, at: u32, bytes: &mut [u8; 40], place: &mut usize,
+    ) -> u32;
+    pub(crate) fn ynd_link_record(
+        section: *const u8, section_len: usize, at: u32, bytes: &mut [u8; 8], place: &mut usize,
+    ) -> u32;
+    pub(crate) fn ynd_junction_record(
+        section: *const u8, section_len: usize, at: u32, bytes: &mut [u8; 12], place: &mut usize,
+    ) -> u32;
+    pub(crate) fn ynd_ref_record(
+        section: *const u8, section_len: usize, at: u32, bytes: &mut [u8; 8], place: &mut usize,
+    ) -> u32;
+    pub(crate) fn ynd_lay_out(
+        refs: u32, heightmap: u32, junctions: u32, links: u32, nodes: u32, addresses: &mut [u64; 5], total: &mut usize,
+        place: &mut usize,
+    ) -> u32;
     pub(crate) fn ynd_new(ynd: &mut Words);
     pub(crate) fn ynd_read(
         ynd: &mut Words, system: *const u8, system_len: usize, graphics: *const u8, graphics_len: usize, nodes: *mut Node, nodes_len: usize,

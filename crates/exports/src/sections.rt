@@ -2,14 +2,11 @@
 use records::section::Located;
 use records::section::Section;
 ghost use mathlib.Core.Path.{_≡_};
-ghost use mathlib.Core.List.{[], _∷_};
-ghost use lib.ListN.{length, replicate};
-ghost use Rattle.records.specs.Bytes.{byteAt, le16, le32, le64, signed16};
-ghost use Rattle.records.specs.Root.{rootOf, rootWords};
 ghost use Rattle.records.specs.Records.{nodeAt, nodeBytes, linkAt, linkBytes, junctionAt, junctionBytes, refAt, refBytes};
 ghost use Rattle.records.specs.Sections.{located};
 ghost use Rattle.records.specs.Layout.{placesOf, sizes};
-ghost use Rattle.exports.specs.Parts.{isAt, partOr};
+ghost use Rattle.exports.specs.Found.{told};
+ghost use Rattle.exports.specs.Parts.{isAt, partOr, rootTold, recordTold, laid, laidTold};
 
 // Where an array of `count` entries of `width` bytes lies, in sections of so many bytes: whether its address is good, and
 // then its section (0 system, 1 graphics), offset and length.
@@ -44,85 +41,112 @@ pub extern "C" fn ynd_locate(
     }
 }
 
-// Numbers at an offset of a section, little-endian. A byte past the end is 0.
-#[no_mangle]
-pub extern "C" fn ynd_byte_at(section: &[u8], at: usize) -> u8
-    ensures { λ r. ⌜ r ≡ byteAt (now (section .entry)) at ⌝ }
-{
-    records::bytes::byte_at(section, at)
-}
-
-#[no_mangle]
-pub extern "C" fn ynd_u16_at(section: &[u8], at: u32) -> u16
-    ensures { λ r. ⌜ r ≡ le16 (now (section .entry)) at ⌝ }
-{
-    records::bytes::u16_at(section, at)
-}
-
-#[no_mangle]
-pub extern "C" fn ynd_i16_at(section: &[u8], at: u32) -> i16
-    ensures { λ r. ⌜ r ≡ signed16 (le16 (now (section .entry)) at) ⌝ }
-{
-    records::bytes::i16_at(section, at)
-}
-
-#[no_mangle]
-pub extern "C" fn ynd_u32_at(section: &[u8], at: u32) -> u32
-    ensures { λ r. ⌜ r ≡ le32 (now (section .entry)) at ⌝ }
-{
-    records::bytes::u32_at(section, at)
-}
-
-#[no_mangle]
-pub extern "C" fn ynd_u64_at(section: &[u8], at: u32) -> u64
-    ensures { λ r. ⌜ r ≡ le64 (now (section .entry)) at ⌝ }
-{
-    records::bytes::u64_at(section, at)
-}
-
 // The root at the section's start, as it is written: 28 words.
 #[no_mangle]
-pub extern "C" fn ynd_root(section: &[u8], words: &mut [u32; 28])
-    ensures { λ _. ⌜ now (words .exit) ≡ rootWords (rootOf (now (section .entry))) ⌝ }
+pub extern "C" fn ynd_root(section: &[u8], words: &mut [u32; 28], place: &mut usize) -> u32
+    ensures { λ r. ⌜ told r (now (place .exit)) (now (words .exit))
+        ≡ rootTold (now (section .entry)) (now (words .entry)) ⌝ }
 {
+    if 16777216 < section.len() {
+        *place = 0;
+        return 2;
+    }
+    if section.len() < 112 {
+        *place = 0;
+        return 1;
+    }
     let w = records::root::root_words(records::root::root_of(section));
     *words = w;
+    *place = 0;
+    0
 }
 
-// The node at `at`, as it is written. A byte past the end is 0.
+// The node at `at`, as it is written.
 #[no_mangle]
-pub extern "C" fn ynd_node_record(section: &[u8], at: u32, bytes: &mut [u8; 40])
-    ensures { λ _. ⌜ now (bytes .exit) ≡ nodeBytes (nodeAt (now (section .entry)) at) ⌝ }
+pub extern "C" fn ynd_node_record(
+    section: &[u8],
+    at: u32,
+    bytes: &mut [u8; 40],
+    place: &mut usize,
+) -> u32
+    ensures { λ r. ⌜ told r (now (place .exit)) (now (bytes .exit))
+        ≡ recordTold 0 40 (now (section .entry)) at
+        (nodeBytes (nodeAt (now (section .entry)) at)) (now (bytes .entry)) ⌝ }
 {
+    if section.len() < at as usize + 40 {
+        *place = 0;
+        return 3;
+    }
     let b = records::node::node_bytes(records::node::node_at(section, at));
     *bytes = b;
+    *place = 0;
+    0
 }
 
 // The link at `at`, as it is written.
 #[no_mangle]
-pub extern "C" fn ynd_link_record(section: &[u8], at: u32, bytes: &mut [u8; 8])
-    ensures { λ _. ⌜ now (bytes .exit) ≡ linkBytes (linkAt (now (section .entry)) at) ⌝ }
+pub extern "C" fn ynd_link_record(
+    section: &[u8],
+    at: u32,
+    bytes: &mut [u8; 8],
+    place: &mut usize,
+) -> u32
+    ensures { λ r. ⌜ told r (now (place .exit)) (now (bytes .exit))
+        ≡ recordTold 1 8 (now (section .entry)) at
+        (linkBytes (linkAt (now (section .entry)) at)) (now (bytes .entry)) ⌝ }
 {
+    if section.len() < at as usize + 8 {
+        *place = 1;
+        return 3;
+    }
     let b = records::link::link_bytes(records::link::link_at(section, at));
     *bytes = b;
+    *place = 0;
+    0
 }
 
 // The junction at `at`, as it is written.
 #[no_mangle]
-pub extern "C" fn ynd_junction_record(section: &[u8], at: u32, bytes: &mut [u8; 12])
-    ensures { λ _. ⌜ now (bytes .exit) ≡ junctionBytes (junctionAt (now (section .entry)) at) ⌝ }
+pub extern "C" fn ynd_junction_record(
+    section: &[u8],
+    at: u32,
+    bytes: &mut [u8; 12],
+    place: &mut usize,
+) -> u32
+    ensures { λ r. ⌜ told r (now (place .exit)) (now (bytes .exit))
+        ≡ recordTold 2 12 (now (section .entry)) at
+        (junctionBytes (junctionAt (now (section .entry)) at)) (now (bytes .entry)) ⌝ }
 {
+    if section.len() < at as usize + 12 {
+        *place = 2;
+        return 3;
+    }
     let b = records::junction::junction_bytes(records::junction::junction_at(section, at));
     *bytes = b;
+    *place = 0;
+    0
 }
 
 // The ref at `at`, as it is written.
 #[no_mangle]
-pub extern "C" fn ynd_ref_record(section: &[u8], at: u32, bytes: &mut [u8; 8])
-    ensures { λ _. ⌜ now (bytes .exit) ≡ refBytes (refAt (now (section .entry)) at) ⌝ }
+pub extern "C" fn ynd_ref_record(
+    section: &[u8],
+    at: u32,
+    bytes: &mut [u8; 8],
+    place: &mut usize,
+) -> u32
+    ensures { λ r. ⌜ told r (now (place .exit)) (now (bytes .exit))
+        ≡ recordTold 4 8 (now (section .entry)) at
+        (refBytes (refAt (now (section .entry)) at)) (now (bytes .entry)) ⌝ }
 {
+    if section.len() < at as usize + 8 {
+        *place = 4;
+        return 3;
+    }
     let b = records::junction_ref::ref_bytes(records::junction_ref::ref_at(section, at));
     *bytes = b;
+    *place = 0;
+    0
 }
 
 // Where the blocks of a written file lie, by their counts: the addresses of refs, heightmap bytes, junctions, links and nodes,
@@ -136,13 +160,28 @@ pub extern "C" fn ynd_lay_out(
     nodes: u32,
     addresses: &mut [u64; 5],
     total: &mut usize,
-)
-    ensures { λ _. ⌜ now (addresses .exit) ≡ (placesOf (sizes refs heightmap junctions links nodes) .refs) ∷ (placesOf (sizes refs heightmap junctions links nodes) .heightmap)
-        ∷ (placesOf (sizes refs heightmap junctions links nodes) .junctions) ∷ (placesOf (sizes refs heightmap junctions links nodes) .links)
-        ∷ (placesOf (sizes refs heightmap junctions links nodes) .nodes) ∷ [] ⌝ }
-    ensures { λ _. ⌜ now (total .exit) ≡ placesOf (sizes refs heightmap junctions links nodes) .total ⌝ }
+    place: &mut usize,
+) -> u32
+    ensures { λ r. ⌜ told r (now (place .exit)) (laid (now (addresses .exit)) (now (total .exit)))
+        ≡ laidTold nodes junctions (placesOf (sizes refs heightmap junctions links nodes))
+        (laid (now (addresses .entry)) (now (total .entry))) ⌝ }
 {
+    if 65536 < nodes {
+        *place = 0;
+        return 14;
+    }
+    if 4096 < junctions {
+        *place = 0;
+        return 14;
+    }
     let p = records::layout::lay_out(refs, heightmap, junctions, links, nodes);
+    let end = p.total;
+    if 16777216 < end {
+        *place = 0;
+        return 2;
+    }
     *addresses = [p.refs, p.heightmap, p.junctions, p.links, p.nodes];
-    *total = p.total;
+    *total = end;
+    *place = 0;
+    0
 }

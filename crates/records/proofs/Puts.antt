@@ -8,7 +8,14 @@ use mathlib.Core.List.{List, [], _∷_, _++_, append-assoc, append-nil}
 use lib.ListN.{length, getD, set, take, drop, length-append, length-drop, take-append-drop, drop-of-length-le}
 use borrow.Author.Tests.{le-leb, lt-leb}
 use lib.Seq.{length-take-le, take-at, drop-append-add, drop-drop, set-split, drop-cons, append-snoc}
-use Rattle.records.specs.Put.{put, putIn, joined}
+use Rattle.records.specs.Put.{put, putIn, storedTo, joined}
+use Rattle.records.specs.declared.put.Stored.the-variants.{Done, Refused}
+
+pub stored-in : (end len : ℕ) → end ≤ len → Done ≡ storedTo end len
+stored-in end len h = rw (le-leb end len h)
+
+pub stored-out : (end len : ℕ) → len < end → Refused 7 5 ≡ storedTo end len
+stored-out end len h = rw (lt-leb end len h)
 
 module _ {A : Type 0} where
   -- the front of what was put has the length that it should

@@ -2,8 +2,10 @@
 ghost use mathlib.Core.Path.{_≡_};
 ghost use mathlib.Core.List.{[], _∷_};
 ghost use Prim.Native.Nat.{_+_, _≤_};
-ghost use Rattle.records.specs.Layout.{gapFor, startOf, endOf, address, sizes, placesOf, headerBytes};
-ghost use Rattle.records.specs.Put.{putIn};
+ghost use lib.ListN.{length};
+ghost use Rattle.records.specs.Layout.{gapFor, startOf, endOf, address, sizes, placesOf, headerSize, headerBytes};
+ghost use Rattle.records.specs.Put.{putIn, storedTo};
+use crate::put::Stored;
 use crate::put::copy_words;
 use crate::put::copy_zeros;
 use crate::root::Root;
@@ -93,16 +95,18 @@ pub fn lay_out(refs: u32, heightmap: u32, junctions: u32, links: u32, nodes: u32
     )
 }
 
-// The root and the page block, at the section's start.
-pub fn put_header(section: &mut [u8], root: Root)
+// The root and the page block, at the section's start. Nothing is stored in a section that is too short for them.
+pub fn put_header(section: &mut [u8], root: Root) -> Stored
     ensures { λ _. ⌜ now (section .exit) ≡ putIn (now (section .entry)) 0 (headerBytes root) ⌝ }
+    ensures { λ r. ⌜ r ≡ storedTo headerSize (length (now (section .entry))) ⌝ }
 {
     if section.len() < HEADER_SIZE {
-        return;
+        return Stored::Refused(7, 5);
     }
     let words = root_words(root);
     copy_words(section, 0, &words);
     copy_zeros(section, ROOT_SIZE, 8);
     section[120] = 128;
     copy_zeros(section, 121, 1031);
+    Stored::Done
 }

@@ -98,7 +98,8 @@ pub const FAMILIES: &[Family] = &[
     ]),
     cells("any memory", "structs and lists made by hand: every call", &[
         (Yes(Renumber), 1_000), (Yes(Write), 200), (No(Write, 8), 100), (Yes(WriteRead), 50), (No(WriteRead, 5), 20),
-        (No(WriteRead, 7), 100), (At(Renumber, 7, 0), 100), (Edge(Sound), 100), (Edge(Unsound), 1_000),
+        (No(WriteRead, 7), 100), (At(Renumber, 7, 0), 100), (No(Renumber, 14), 500), (No(Write, 14), 500),
+        (No(Write, 11), 100), (Edge(Sound), 100), (Edge(Unsound), 1_000),
     ]),
     cells("far ranges", "pools of over 65,536 entries, starts past 65,535: every call", &[
         (Edge(FarLinks), 1_000), (Edge(FarValues), 500), (Edge(UpperHalf), 400), (Yes(Renumber), 200),

@@ -6,7 +6,7 @@ use crate::inputs::files::File;
 use crate::inputs::rng::Rng;
 use crate::model::records::{ADDRESS_AT, COUNT_AT, COUNT_WIDTH, ROOT, WIDTHS};
 use crate::model::sections::{le, part, put_le};
-use crate::model::write;
+use crate::model::{refuse_if, write, Refused, MOST_JUNCTIONS, MOST_NODES, MOST_SECTION};
 use crate::port;
 use crate::resource::lend_sections;
 use crate::ynd::{Node, NodeJunction, NodeJunctionRef, NodeLink};
@@ -23,9 +23,11 @@ pub fn check(f: &File) -> Verdict {
         located(f, &reader, address, count, WIDTHS[r.below(5)])?;
     }
     root(&f.system)?;
-    numbers(&f.system, r.below(f.system.len() + 12))?;
     for array in [0, 1, 2, 4] { record(array, &f.system, r.below(f.system.len() + 50))?; }
-    layout([0; 5].map(|_| if r.once_in(3) { 0 } else { r.below(70_000) as u32 }))
+    let most = if r.once_in(9) { 3_000_000 } else { 66_000 };
+    let mut counts = [0; 5].map(|_| if r.once_in(3) { 0 } else { r.below(most) as u32 });
+    if !r.once_in(9) { counts[2] %= 4_200; }
+    layout(counts)
 }
 
 /// The part of the section that an address names.
@@ -42,41 +44,33 @@ fn located(f: &File, reader: &Reader, address: u64, count: u64, width: u64) -> V
     same("the part that an address names", PORT, &(port, kept), MODEL, &(model, true))
 }
 
-/// The root as read and written: word 1 at offset 4, the pages' address, and the second ref count twice. Bytes past
-/// the end are 0.
+/// The root as read and written: word 1 at offset 4, the pages' address, and the second ref count twice.
 fn root(system: &[u8]) -> Verdict {
-    let mut bytes = system.to_vec();
-    bytes.resize(ROOT.max(bytes.len()), 0);
-    put_le(&mut bytes, 4, 4, 1);
-    put_le(&mut bytes, 8, 8, 0x5000_0070);
-    let refs = le(&bytes, 90, 2);
-    put_le(&mut bytes, 88, 2, refs);
-    let model: Vec<u32> = (0..28).map(|i| le(&bytes, 4 * i, 4) as u32).collect();
-    same("the root", MODEL, &model, PORT, &port::sections::root(system).to_vec())
+    let sizes = refuse_if(system.len() > MOST_SECTION, 2, 0).and_then(|_| refuse_if(system.len() < ROOT, 1, 0));
+    let model = sizes.map(|_| {
+        let mut bytes = system[..ROOT].to_vec();
+        put_le(&mut bytes, 4, 4, 1);
+        put_le(&mut bytes, 8, 8, 0x5000_0070);
+        let refs = le(&bytes, 90, 2);
+        put_le(&mut bytes, 88, 2, refs);
+        (0..28).map(|i| le(&bytes, 4 * i, 4) as u32).collect::<Vec<u32>>()
+    });
+    same("the root", MODEL, &model, PORT, &port::sections::root(system))
 }
 
-/// Little-endian numbers at an offset; a byte past the end is 0.
-fn numbers(section: &[u8], at: usize) -> Verdict {
-    let mut bytes = [0; 8];
-    for (i, b) in section.iter().skip(at).take(8).enumerate() { bytes[i] = *b; }
-    let model = [1, 2, 4, 8].map(|width| le(&bytes, 0, width));
-    same("numbers of a section", PORT, &port::sections::numbers(section, at as u32), MODEL,
-        &(model, model[1] as u16 as i16))
-}
-
-/// A record read and written is its own bytes; a byte past the end is 0.
+/// A record read and written is its own bytes; 3 where it doesn't end inside the section.
 fn record(array: usize, section: &[u8], at: usize) -> Verdict {
     let width = WIDTHS[array] as usize;
-    let mut bytes: Vec<u8> = section.iter().skip(at).take(width).copied().collect();
-    bytes.resize(width, 0);
-    let judged = match array {
-        0 => again::<Node>(&bytes),
-        1 => again::<NodeLink>(&bytes),
-        2 => again::<NodeJunction>(&bytes),
-        _ => again::<NodeJunctionRef>(&bytes),
-    };
-    same("a record read and written", MODEL, &bytes, RUST, &judged)?;
-    same("a record read and written", PORT, &port::sections::record(array, section, at as u32), RUST, &judged)
+    let found = section.get(at..at + width);
+    let judged = found.map(|b| match array {
+        0 => again::<Node>(b),
+        1 => again::<NodeLink>(b),
+        2 => again::<NodeJunction>(b),
+        _ => again::<NodeJunctionRef>(b),
+    });
+    same("a record read and written", MODEL, &found.map(<[u8]>::to_vec), RUST, &judged)?;
+    let model = judged.ok_or(Refused(3, array));
+    same("a record read and written", PORT, &port::sections::record(array, section, at as u32), MODEL, &model)
 }
 
 fn again<T: Pod>(bytes: &[u8]) -> Vec<u8> {
@@ -86,7 +80,9 @@ fn again<T: Pod>(bytes: &[u8]) -> Vec<u8> {
 }
 
 fn layout(counts: [u32; 5]) -> Verdict {
+    let over = counts[0] as usize > MOST_NODES || counts[2] as usize > MOST_JUNCTIONS;
     let (at, end) = write::layout(counts.map(|n| n as usize));
     let addresses = [0, 1, 2, 3, 4].map(|i| if counts[i] == 0 { 0 } else { 0x5000_0000 + at[i] as u64 });
-    same("the layout", MODEL, &(addresses, end), PORT, &port::sections::lay_out(counts))
+    let model = refuse_if(over, 14, 0).and_then(|_| refuse_if(end > MOST_SECTION, 2, 0)).map(|_| (addresses, end));
+    same("the layout", MODEL, &model, PORT, &port::sections::lay_out(counts))
 }

@@ -1,5 +1,5 @@
-//! Memory that no call left: ranges that overlap, leave holes or leave their list, counts over the lists' lengths, any
-//! NaN.
+//! Memory that no call left: ranges that overlap, leave holes or leave their list, counts over the lists' lengths or
+//! over the limits, any NaN.
 use super::rng::Rng;
 use crate::port::memory::Memory;
 
@@ -11,6 +11,9 @@ pub fn any(r: &mut Rng) -> (Memory, u64) {
     for i in 0..5 {
         m.ynd[10 + i] = if r.once_in(12) { (lent[i] + 1) as u32 } else { r.within(lent[i] / 2, lent[i]) as u32 };
     }
+    if r.once_in(16) { m.ynd[10] = r.pick(&[65_536, 65_537, u32::MAX]); }
+    if r.once_in(16) { m.ynd[12] = r.pick(&[4_096, 4_097, u32::MAX]); }
+    if r.once_in(16) { m.ynd[14] = r.pick(&[65_535, 65_536, u32::MAX]); }
     let (own, sound) = (r.u16(), r.once_in(2));
     let nodes = lent[0];
     let name = |r: &mut Rng| [if r.once_in(if sound { 9 } else { 4 }) { own ^ 1 } else { own },

@@ -33,7 +33,7 @@ returns-2 c = λ nodes links refs.
     let t = c .before .before .before .before .before .before .before in
     let a = t .before .before .before .before .before .before .before .before .args in
     let w = c .before .before .before .before .before .junction-words .ensures ∙ ap junctionWords (c .before .before .before .before .before .before .start-at .ensures) in
-    let h = c .before .before .before .put-bytes .ensures ∙ put-fits (a .heights .now) (a .ynd .«heightmap_count») (a .values .now) (room t .heights-fit) in
+    let h = c .before .before .before .put-bytes .ensures .0 ∙ put-fits (a .heights .now) (a .ynd .«heightmap_count») (a .values .now) (room t .heights-fit) in
     (λ i. done (memory (c .with-counts .ensures i) nodes links (set (a .junctions .now) (a .ynd .«junction_count») (w i)) (h i) refs))
     ∙ done-left _ _ _ _ (answer-is (t .before .before)) (t .enum-told .given .1)
 

@@ -26,7 +26,7 @@ zeros : (c : tie.After-put-zeros) → c .put-zeros .last .0 ≡ put (c .before .
 zeros c =
     let after-gap-for = c .before .before in
     let begin = after-gap-for .before .before in
-    put-inside (begin .args .section .now) _ (replicate (after-gap-for .gap-for .result) 0) _ (begin .args .at) (c .put-zeros .ensures) refl (omega (arith, room after-gap-for, length-replicate {A = ℕ} (after-gap-for .gap-for .result) 0))
+    put-inside (begin .args .section .now) _ (replicate (after-gap-for .gap-for .result) 0) _ (begin .args .at) (c .put-zeros .ensures .0) refl (omega (arith, room after-gap-for, length-replicate {A = ℕ} (after-gap-for .gap-for .result) 0))
 
 add-put-nodes : tie.Need-add-put-nodes
 add-put-nodes c =

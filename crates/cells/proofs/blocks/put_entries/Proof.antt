@@ -40,7 +40,7 @@ loop-again c =
       omega arith,
       omega (arith, f .kept),
       joined-turn linkRecord (a .section .now) (l .section) _ (joined linkRecord (a .links .now)) (a .at) (a .at + 8 * l .i) (a .at + 8 * (l .i + 1)) (a .links .now) (l .i) [] (omega arith) (l .inv .2)
-          (put-inside (l .section) _ (linkRecord (getD (a .links .now) (l .i) [])) _ (a .at + 8 * l .i) (f .ensures) (after-link-record .link-record .ensures) (omega (arith, size))) (omega (arith, size)) (omega arith),
+          (put-inside (l .section) _ (linkRecord (getD (a .links .now) (l .i) [])) _ (a .at + 8 * l .i) (f .ensures .0) (after-link-record .link-record .ensures) (omega (arith, size))) (omega (arith, size)) (omega arith),
     )
 
 returns : tie.Need-returns Inv-loop μ-loop

@@ -69,7 +69,7 @@ loop-again c =
       ap (λ (k : ℕ). accepted (checkJunctions (valuesWithin (length hs)) (l .i + 1) (l .before + k) (drop (l .i + 1) js))) e ∙ (open-turn in-loop) .1,
       ap (λ (k : ℕ). put (f .last .0) (a .at + 12 * (l .i + 1)) (laid (valuesIn hs) junctionRecord (l .before + k) (drop (l .i + 1) js))) longer
           ∙ laid-turn (valuesIn hs) junctionRecord (a .section .now) (l .section) _ (junctionsBlock hs js) (a .at) (a .at + 12 * l .i) (a .at + 12 * (l .i + 1)) (l .before) js (l .i) [] (omega arith) (l .inv .3)
-          (put-inside (l .section) _ (junctionRecord (l .before) j) _ (a .at + 12 * l .i) (f .ensures) (after-junction-record .junction-record .ensures) (omega (arith, size))) (omega (arith, size)) (omega arith),
+          (put-inside (l .section) _ (junctionRecord (l .before) j) _ (a .at + 12 * l .i) (f .ensures .0) (after-junction-record .junction-record .ensures) (omega (arith, size))) (omega (arith, size)) (omega arith),
     )
 
 returns : tie.Need-returns Inv-loop μ-loop

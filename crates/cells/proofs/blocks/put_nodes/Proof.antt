@@ -83,7 +83,7 @@ loop-again c =
       ap (λ (k : ℕ). accepted (checkNodes (linksWithin (length ls)) (l .i + 1) (l .before + k) (drop (l .i + 1) ns))) e ∙ (open-turn in-loop) .2,
       ap (λ (k : ℕ). put (f .last .0) (a .at + 40 * (l .i + 1)) (laid (linksIn ls) (nodeRecord ls) (l .before + k) (drop (l .i + 1) ns))) longer
           ∙ laid-turn (linksIn ls) (nodeRecord ls) (a .section .now) (l .section) _ (nodesBlock ls ns) (a .at) (a .at + 40 * l .i) (a .at + 40 * (l .i + 1)) (l .before) ns (l .i) [] (omega arith) (l .inv .3)
-          (put-inside (l .section) _ (nodeRecord ls (l .before) n) _ (a .at + 40 * l .i) (f .ensures) (after-node-record .node-record .ensures ∙ ap (λ (k : ℕ). nodeBytes (fileNode (storedStart (l .before) k) k (toNode n))) longer) (omega (arith, size)))
+          (put-inside (l .section) _ (nodeRecord ls (l .before) n) _ (a .at + 40 * l .i) (f .ensures .0) (after-node-record .node-record .ensures ∙ ap (λ (k : ℕ). nodeBytes (fileNode (storedStart (l .before) k) k (toNode n))) longer) (omega (arith, size)))
           (omega (arith, size)) (omega arith),
     )
 

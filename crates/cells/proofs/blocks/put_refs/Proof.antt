@@ -39,7 +39,7 @@ loop-again c =
       omega arith,
       omega (arith, f .kept),
       joined-turn refRecord (a .section .now) (l .section) _ (joined refRecord (a .refs .now)) (a .at) (a .at + 8 * l .i) (a .at + 8 * (l .i + 1)) (a .refs .now) (l .i) [] (omega arith) (l .inv .2)
-          (put-inside (l .section) _ (refRecord (getD (a .refs .now) (l .i) [])) _ (a .at + 8 * l .i) (f .ensures) (after-ref-record .ref-record .ensures) (omega (arith, size))) (omega (arith, size)) (omega arith),
+          (put-inside (l .section) _ (refRecord (getD (a .refs .now) (l .i) [])) _ (a .at + 8 * l .i) (f .ensures .0) (after-ref-record .ref-record .ensures) (omega (arith, size))) (omega (arith, size)) (omega arith),
     )
 
 returns : tie.Need-returns Inv-loop μ-loop

@@ -53,7 +53,7 @@ returns-2 c =
     let begin = after-values-within .before .before .before in
     let a = begin .args in (
       omega (arith, value-count (a .heights .now) (a .t3), after-values-within .values-within .ensures .0),
-      put-inside (a .section .now) _ (valuesIn (a .heights .now) (a .t3)) _ (a .at) (after-put-bytes .put-bytes .ensures) (lent else1) (begin .pre),
+      put-inside (a .section .now) _ (valuesIn (a .heights .now) (a .t3)) _ (a .at) (after-put-bytes .put-bytes .ensures .0) (lent else1) (begin .pre),
     )
 
 pub put-values-of-spec : {M : Type 1} → statement M

@@ -10,7 +10,7 @@ returns c =
     let start = c .before .before .before .before .before .before .before .before in
     let a = start .args in (
       (λ i. set (a .junctions .now) (a .p) (c .before .before .before .before .with-map .ensures i)),
-      c .before .before .put-bytes .ensures ∙ put-fits (a .heights .now) (a .at) (a .values .now) (start .pre .2),
+      c .before .before .put-bytes .ensures .0 ∙ put-fits (a .heights .now) (a .at) (a .values .now) (start .pre .2),
     )
 
 pub place-map-spec : {M : Type 1} → statement M

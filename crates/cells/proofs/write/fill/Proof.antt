@@ -107,7 +107,7 @@ fits4 c =
 header : (c : tie.After-put-header) → c .put-header .last .0 ≡ put (c .before .before .before .before .args .section .now) 0 (headerBytes (c .before .before .before .before .args .root))
 header c =
     let begin = c .before .before .before .before in
-    put-inside (begin .args .section .now) _ (headerBytes (begin .args .root)) _ 0 (c .put-header .ensures) refl (omega (arith, room0 begin, header-length (begin .args .root)))
+    put-inside (begin .args .section .now) _ (headerBytes (begin .args .root)) _ 0 (c .put-header .ensures .0) refl (omega (arith, room0 begin, header-length (begin .args .root)))
 
 refs-block-requires : tie.Need-refs-block-requires
 refs-block-requires c κs =

@@ -1,19 +1,23 @@
 -- `exports::sections::ynd_junction_record` meets its contract. Assumes nothing.
 use mathlib.Core.Path.{ap, _∙_}
+use borrow.Author.Tests.{lt-leb, le-leb}
 use Rattle.records.specs.Records.{junctionBytes}
+use Rattle.exports.specs.Found.{told}
+use Rattle.exports.specs.Parts.{recordTold}
 use borrow.Author.Needs.{needs}
 use Rattle.exports.proofs.sections.ynd_junction_record.Statement.{statement}
 use Rattle.exports.proofs.sections.ynd_junction_record.Tie as tie
 
-junction-at-requires : tie.Need-junction-at-requires
-junction-at-requires c κs = search needs
-
-junction-bytes-requires : tie.Need-junction-bytes-requires
-junction-bytes-requires c κs = search needs
-
 returns : tie.Need-returns
-returns c = c .junction-bytes .ensures ∙ ap junctionBytes (c .before .junction-at .ensures)
+unfolding recordTold
+returns c = rw (lt-leb _ _ (c .if1 .taken))
+
+returns-2 : tie.Need-returns-2
+unfolding recordTold
+returns-2 c =
+    let e = c .junction-bytes .ensures ∙ ap junctionBytes (c .before .junction-at .ensures) in
+    rw (le-leb _ _ (c .before .before .if1 .left)) (λ i. told 0 0 (e i))
 
 pub ynd-junction-record-spec : {M : Type 1} → statement M
 ynd-junction-record-spec =
-    tie.close (tie.spec junction-at-requires junction-bytes-requires returns)
+    tie.close (tie.spec (λ c. search needs) returns (λ c κs. search needs) (λ c κs. search needs) returns-2)

@@ -1,18 +1,23 @@
 -- `exports::sections::ynd_node_record` meets its contract. Assumes nothing.
 use mathlib.Core.Path.{ap, _∙_}
+use borrow.Author.Tests.{lt-leb, le-leb}
 use Rattle.records.specs.Records.{nodeBytes}
+use Rattle.exports.specs.Found.{told}
+use Rattle.exports.specs.Parts.{recordTold}
 use borrow.Author.Needs.{needs}
 use Rattle.exports.proofs.sections.ynd_node_record.Statement.{statement}
 use Rattle.exports.proofs.sections.ynd_node_record.Tie as tie
 
-node-at-requires : tie.Need-node-at-requires
-node-at-requires c κs = search needs
-
-node-bytes-requires : tie.Need-node-bytes-requires
-node-bytes-requires c κs = search needs
-
 returns : tie.Need-returns
-returns c = c .node-bytes .ensures ∙ ap nodeBytes (c .before .node-at .ensures)
+unfolding recordTold
+returns c = rw (lt-leb _ _ (c .if1 .taken))
+
+returns-2 : tie.Need-returns-2
+unfolding recordTold
+returns-2 c =
+    let e = c .node-bytes .ensures ∙ ap nodeBytes (c .before .node-at .ensures) in
+    rw (le-leb _ _ (c .before .before .if1 .left)) (λ i. told 0 0 (e i))
 
 pub ynd-node-record-spec : {M : Type 1} → statement M
-ynd-node-record-spec = tie.close (tie.spec node-at-requires node-bytes-requires returns)
+ynd-node-record-spec =
+    tie.close (tie.spec (λ c. search needs) returns (λ c κs. search needs) (λ c κs. search needs) returns-2)

@@ -7,8 +7,8 @@ use lib.ListN.{length, replicate, length-append, length-set}
 use Rattle.records.specs.Root.{rootBytes}
 use Rattle.records.specs.Bytes.{bytes32}
 use Rattle.records.specs.Put.{put, joined}
-use Rattle.records.specs.Layout.{pages, headerBytes}
-use Rattle.records.proofs.Puts.{put-fits, put-out, set-put, then}
+use Rattle.records.specs.Layout.{pages, headerSize, headerBytes}
+use Rattle.records.proofs.Puts.{put-fits, put-out, stored-in, stored-out, set-put, then}
 use Rattle.records.proofs.RootWords.{words-joined}
 use Rattle.records.proofs.Laid.{root-length, header-length}
 use borrow.Author.Needs.{needs}
@@ -16,7 +16,9 @@ use Rattle.records.proofs.layout.put_header.Statement.{statement}
 use Rattle.records.proofs.layout.put_header.Tie as tie
 
 returns : tie.Need-returns
-returns c = sym (put-out (c .before .before .args .section .now) 0 (headerBytes (c .before .before .args .root)) (omega (arith, header-length (c .before .before .args .root))))
+returns c =
+    let a = c .before .before .args in
+    (sym (put-out (a .section .now) 0 (headerBytes (a .root)) (omega (arith, header-length (a .root)))), stored-out headerSize (length (a .section .now)) (omega arith))
 
 copy-zeros-requires-2 : tie.Need-copy-zeros-requires-2
 copy-zeros-requires-2 c κs = simp length-set (omega arith)
@@ -46,9 +48,11 @@ returns-2 c =
     ∙ ap (put s 0) (bytes-are (c .before .before .before .before .before .before .before .before .before .before .before .before .before)) in
     let e2 = then s _ _ 0 112 w z e1 (c .before .before .before .before .before .before .copy-zeros .ensures) (omega (arith, long)) (omega arith) in
     let e3 = then s _ _ 0 120 (w ++ z) (128 ∷ []) e2 (set-put (c .before .before .before .before .before .before .copy-zeros .last .0) 120 128 room) (omega (arith, longer)) (omega arith) in
-    let e4 = then s _ _ 0 121 (w ++ z ++ (128 ∷ [])) y e3 (c .before .before .copy-zeros2 .ensures) (omega (arith, longest)) (omega arith) in
-    e4 ∙ ap (put s 0) (ap (λ (x : List ℕ). x ++ y) (append-assoc w z (128 ∷ [])) ∙ append-assoc w (z ++ (128 ∷ [])) y)
-    ∙ sym (put-fits s 0 (headerBytes r) (omega (arith, header-length r)))
+    let e4 = then s _ _ 0 121 (w ++ z ++ (128 ∷ [])) y e3 (c .before .before .copy-zeros2 .ensures) (omega (arith, longest)) (omega arith) in (
+      e4 ∙ ap (put s 0) (ap (λ (x : List ℕ). x ++ y) (append-assoc w z (128 ∷ [])) ∙ append-assoc w (z ++ (128 ∷ [])) y)
+          ∙ sym (put-fits s 0 (headerBytes r) (omega (arith, header-length r))),
+      stored-in headerSize (length s) (omega arith),
+    )
 
 pub put-header-spec : {M : Type 1} → statement M
 put-header-spec =

@@ -36,7 +36,7 @@ returns-6 c = λ ns ls rs.
     let else3 = else4 .before .before in
     let else2 = else3 .before .before in
     values-copied _ _ _ (else2 .before .before .if1 .left) (sym (else2 .before .over-limit .ensures) ∙ else2 .if2 .left) (else3 .if3 .left) (else4 .if4 .left) _
-    (after-values-at .values-at .ensures ns ls rs) (c .before .before .before .before .if5 .left) (c .before .before .put-bytes .ensures)
+    (after-values-at .values-at .ensures ns ls rs) (c .before .before .before .before .if5 .left) (c .before .before .put-bytes .ensures .0)
 
 pub shown-values-spec : {M : Type 1} → statement M
 shown-values-spec =
