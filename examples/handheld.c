@@ -25,7 +25,7 @@ typedef struct {
 
 static const char *const REFUSALS[] = {
     "accepted",
-    "fewer than 112 system bytes",
+    "1 to 111 system bytes",
     "a section over 16,777,216 bytes",
     "an array's address or extent is bad",
     "a node's links leave the list of links",

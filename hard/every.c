@@ -126,6 +126,38 @@ static void records(void)
     unblock(section, N);
 }
 
+/* No system bytes are the cell of ynd_new, in any lists and with any graphics; 1 to 111 are refused with 1. */
+static void undrawn(void)
+{
+    uint8_t *zeros = block(YND_ROOT_BYTES), *graphics = block(YND_SECTION_MOST + 1), *heights = block(1);
+    size_t *place = block(sizeof *place);
+    ynd_cell *ynd = block(sizeof *ynd), *fresh = block(sizeof *fresh), *before = block(sizeof *before);
+    ynd_counts *counts = block(sizeof *counts);
+    memset(zeros, 0, YND_ROOT_BYTES);
+    memset(graphics, 0xA5, YND_SECTION_MOST + 1);
+    memset(ynd, 0xA5, sizeof *ynd);
+    memcpy(before, ynd, sizeof *ynd);
+    *heights = 7;
+    ynd_new(fresh);
+    for (size_t n = 1; n < YND_ROOT_BYTES; n++)
+        CHECK(ynd_read(ynd, zeros, n, NULL, 0, NULL, 0, NULL, 0, NULL, 0, NULL, 0, NULL, 0, place)
+            == YND_FEW_SYSTEM_BYTES && *place == 0 && memcmp(ynd, before, sizeof *ynd) == 0);
+    uint32_t number =
+        ynd_read(ynd, NULL, 0, graphics, YND_SECTION_MOST + 1, NULL, 0, NULL, 0, NULL, 0, NULL, 0, NULL, 0, place);
+    CHECK(number == YND_SECTION_TOO_LONG && *place == 1 && memcmp(ynd, before, sizeof *ynd) == 0);
+    CHECK(ynd_count(NULL, 0, graphics, 3, counts, place) == 0 && counts->nodes == 0 && counts->refs == 0);
+    number = ynd_read(ynd, NULL, 0, graphics, YND_SECTION_MOST, NULL, 0, NULL, 0, NULL, 0, heights, 1, NULL, 0, place);
+    CHECK(number == 0 && memcmp(ynd, fresh, sizeof *ynd) == 0 && *heights == 7);
+    unblock(counts, sizeof *counts);
+    unblock(before, sizeof *before);
+    unblock(fresh, sizeof *fresh);
+    unblock(ynd, sizeof *ynd);
+    unblock(place, sizeof *place);
+    unblock(heights, 1);
+    unblock(graphics, YND_SECTION_MOST + 1);
+    unblock(zeros, YND_ROOT_BYTES);
+}
+
 /* An empty list may be NULL: a cell of 112 zero bytes, with nothing lent. */
 static void empty_lists(void)
 {
@@ -139,7 +171,7 @@ static void empty_lists(void)
     ynd_walk_end *end = block(sizeof *end);
     memset(zeros, 0, YND_ROOT_BYTES);
     *yes = false;
-    CHECK(ynd_count(NULL, 0, NULL, 0, counts, place) == YND_FEW_SYSTEM_BYTES && *place == 0);
+    CHECK(ynd_count(NULL, 0, NULL, 0, counts, place) == 0 && counts->nodes == 0 && counts->refs == 0);
     CHECK(ynd_count(zeros, YND_ROOT_BYTES, NULL, 0, counts, place) == 0 && counts->nodes == 0 && counts->refs == 0);
     CHECK(ynd_read(ynd, zeros, YND_ROOT_BYTES, NULL, 0, NULL, 0, NULL, 0, NULL, 0, NULL, 0, NULL, 0, place) == 0 && ynd->node_count == 0);
     CHECK(ynd_sound(ynd, NULL, 0, NULL, 0, NULL, 0, scratch, YND_SCRATCH, yes, place) == 0 && *yes);
@@ -182,5 +214,6 @@ void every_call(void)
     unblock(l, sizeof *l);
     unblock(v, sizeof *v);
     records();
+    undrawn();
     empty_lists();
 }

@@ -54,6 +54,15 @@ static void check_nodes(const lent *m, const uint8_t *system, size_t ns, const u
     unblock(where, sizeof *where);
 }
 
+/* No system bytes: the cell of ynd_new. */
+static void check_undrawn(const lent *m)
+{
+    ynd_cell *fresh = block(sizeof *fresh);
+    ynd_new(fresh);
+    CHECK(memcmp(m->ynd, fresh, sizeof *fresh) == 0);
+    unblock(fresh, sizeof *fresh);
+}
+
 static bool read_cell(lent *m, script *s, part graphics_part, part system_part)
 {
     size_t ns = system_part.length, ng = graphics_part.length, *place = block(sizeof *place);
@@ -74,7 +83,9 @@ static bool read_cell(lent *m, script *s, part graphics_part, part system_part)
     }
     done = read_into(m, system, ns, graphics, ng, room, number, *place);
     CHECK(done == (number == 0));
-    if (done)
+    if (done && ns == 0)
+        check_undrawn(m);
+    else if (done)
         check_nodes(m, system, ns, graphics, ng);
     CHECK(ns == 0 || memcmp(system, system_part.bytes, ns) == 0);
     unblock(counts, sizeof *counts);

@@ -34,7 +34,7 @@ extern "C" {
  *
  * | Number | Cause | Place |
  * |---|---|---|
- * | 1 | fewer than 112 system bytes | 0 |
+ * | 1 | 1 to 111 system bytes | 0 |
  * | 2 | a section over 16,777,216 bytes | 0 system, 1 graphics |
  * | 3 | an array's address or extent is bad | 0 nodes, 1 links, 2 junctions, 3 heightmap, 4 refs |
  * | 4 | a node's link start, or start plus count, over the list's length | the node |
@@ -208,8 +208,8 @@ YND_ASSERT(sizeof(ynd_counts) == 5 * 8 && sizeof(ynd_walk_end) == 3 * 4 && sizeo
 
 /* ---- Reading ---- */
 
-/* How many entries of each kind a file holds: what ynd_read has to be lent. Stores nothing but `counts`. Refused,
- * in this order: 2, 1, 3, 6, 4, 5. */
+/* How many entries of each kind a file holds: what ynd_read has to be lent. Stores nothing but `counts`. A system
+ * section of no bytes is a yard not drawn yet: it holds nothing. Refused, in this order: 2, 1, 3, 6, 4, 5. */
 uint32_t ynd_count(
     const uint8_t *system, size_t system_len, const uint8_t *graphics, size_t graphics_len, ynd_counts *counts,
     size_t *place);
@@ -218,8 +218,8 @@ uint32_t ynd_count(
 void ynd_new(ynd_cell *ynd);
 
 /* Reads a cell from its two sections into the lent lists, from their front on; later entries stay. `ynd` gets the
- * counts and the words of the root; what it held before does not matter. The sections may be given back after the
- * call. Refused, in this order: 2, 1, 3, 6, 4, 5, then 7 at 0 to 4 where a list is shorter than ynd_count says. */
+ * counts and the words of the root; what it held before does not matter. A system section of no bytes gives the cell
+ * of ynd_new and leaves the lists. The sections may be given back after the call. Refused, in this order: 2, 1, 3, 6, 4, 5, then 7 at 0 to 4 where a list is shorter than ynd_count says. */
 uint32_t ynd_read(
     ynd_cell *ynd, const uint8_t *system, size_t system_len, const uint8_t *graphics, size_t graphics_len,
     ynd_node_entry *nodes, size_t nodes_len, ynd_link_entry *links, size_t links_len,
@@ -735,7 +735,7 @@ bool ynd_locate(
     uint64_t address, uint32_t count, uint8_t width, size_t system, size_t graphics, ynd_part *part);
 
 /* The root at the start of a section, as it is written (28 words; word 1 is 1). Fills `words`. Refused, in this
- * order: 2 at 0 over YND_SECTION_MOST bytes; 1 under 112 bytes. */
+ * order: 2 at 0 over YND_SECTION_MOST bytes; 1 under 112 bytes, none too: there is no root to show. */
 uint32_t ynd_root(const uint8_t *section, size_t section_len, uint32_t words[28], size_t *place);
 
 /* The node record at an offset of a section, as it is written. Fills `bytes`. Refused: 3 at 0 where it does not end

@@ -60,7 +60,7 @@ impl Cell {
         Cell { words, nodes: Vec::new(), links: Vec::new(), junctions: Vec::new(), heights: Vec::new(), refs: Vec::new() }
     }
 
-    /// Reads a cell from its two sections. Refused as [`count`] is.
+    /// Reads a cell from its two sections; no system bytes are the cell of [`Cell::new`]. Refused as [`count`] is.
     pub fn read(system: &[u8], graphics: &[u8]) -> Result<Cell, Refusal> {
         let c = count(system, graphics)?;
         let mut cell = Cell {

@@ -5,7 +5,7 @@ use std::fmt;
 /// or of one of two sections, two limits, or of the lists.
 #[derive(Clone, Copy, Debug, PartialEq, Eq, Hash)]
 pub enum Refusal {
-    /// 1: fewer than 112 system bytes.
+    /// 1: 1 to 111 system bytes.
     FewSystemBytes,
     /// 2: a section over 16,777,216 bytes (0 system, 1 graphics).
     SectionTooLong(usize),
@@ -64,7 +64,7 @@ impl Refusal {
 
     fn words(self) -> &'static str {
         match self {
-            Refusal::FewSystemBytes => "fewer than 112 system bytes",
+            Refusal::FewSystemBytes => "1 to 111 system bytes",
             Refusal::SectionTooLong(_) => "a section over 16,777,216 bytes",
             Refusal::BadArray(_) => "an array's address or extent is bad",
             Refusal::BadLinkRange(_) => "a node's link start, or start plus count, over the list's length",

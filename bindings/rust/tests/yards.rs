@@ -24,8 +24,20 @@ fn a_ramp_stands_over_the_floor() {
 fn a_file_that_is_too_short_is_refused() {
     let e = Cell::read(&[0; 111], &[]).unwrap_err();
     assert_eq!((e, e.number(), e.place()), (Refusal::FewSystemBytes, 1, 0));
-    assert_eq!(e.to_string(), "refused 1 0: fewer than 112 system bytes");
+    assert_eq!(e.to_string(), "refused 1 0: 1 to 111 system bytes");
     assert!(Cell::read(&[0; 112], &[]).unwrap().nodes().is_empty());
+}
+
+#[test]
+fn a_yard_not_drawn_yet_is_the_new_cell() {
+    let mut cell = Cell::read(&[], &[]).unwrap();
+    assert_eq!(cell, Cell::new());
+    assert_eq!((cell.vft(), cell.unknowns()), (0x4061_E3B0, [0, 0, 1, 0, 0, 0, 0]));
+    assert_eq!(Cell::read(&[], &[7; 3]).unwrap(), cell);
+    assert_eq!(Cell::read(&[0], &[]).unwrap_err(), Refusal::FewSystemBytes);
+    let section = cell.write_then_read().unwrap();
+    assert_eq!((section.len(), &cell), (1152, &Cell::new()));
+    assert_eq!(Cell::read(&section, &[]).unwrap(), cell);
 }
 
 #[test]

@@ -3,3 +3,5 @@ pub mod ReadLaws
 pub mod FileRead
 pub mod Fits
 pub mod NewYnd
+pub mod Undrawn
+pub mod UndrawnCell

@@ -9,3 +9,4 @@ pub mod BackCheck
 pub mod BackAnswer
 pub mod AsRead
 pub mod BackAccepted
+pub mod UndrawnBack

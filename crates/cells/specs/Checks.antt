@@ -1,6 +1,6 @@
 -- Reading's checks, in their order: 2, 1, 3, 6, 4, 5. Lists are bytes: of the sections s and g, and of the five arrays n, l, j, h, r.
 use Prim.Native.Nat.{ℕ, zero, suc, _+_, _*_, _/_}
-use mathlib.Core.Bool.{Bool, true, false, cond}
+use mathlib.Core.Bool.{Bool, true, false, not, _&&_, cond}
 use mathlib.Core.List.{List, [], _∷_}
 use lib.Dec.{ltb, eqb}
 use lib.ListN.{length}
@@ -13,6 +13,7 @@ use Rattle.records.specs.Sections.{located, bytesOf}
 use Rattle.records.specs.Root.{rootOf}
 use Rattle.records.specs.Records.{nodeAt, junctionAt}
 use Rattle.cells.specs.Lists.{sumTo}
+use Rattle.cells.specs.NewYnd.{newRoot}
 use Rattle.numbers.specs.declared.answer.Answer.{Answer}
 use Rattle.numbers.specs.declared.answer.Answer.the-variants as answer
 use Rattle.cells.specs.declared.arrays.Found.{Found}
@@ -23,18 +24,19 @@ use Rattle.cells.specs.declared.count.Counts.{Counts}
 use Rattle.cells.specs.declared.count.Counted.{Counted}
 use Rattle.cells.specs.declared.count.Counted.the-variants as counted
 
--- Section 2: the root that reading goes by.
+-- Section 2: the root that reading goes by. T-02: no system bytes at all mean the cell of `Ynd::new`.
 abbrev pub rootRead : List ℕ → Root
-rootRead s = rootOf s
+rootRead [] = newRoot
+rootRead (b ∷ bs) = rootOf (b ∷ bs)
 
 -- ---- 2 and 1: the sections' sizes
 
 abbrev pub refuseIf : Bool → ℕ → ℕ → Answer → Answer
 refuseIf b cause place next = cond b (answer.Refused cause place) next
 
--- 1: a system section without a whole root
+-- 1: a system section without a whole root. T-02: from 1 to 111 bytes; none is a yard not drawn yet
 abbrev pub tooFew : ℕ → Bool
-tooFew s = ltb s 112
+tooFew s = ltb s 112 && not (eqb s 0)
 
 unfoldable pub sizesCheck : ℕ → ℕ → Answer
 sizesCheck s g = decided (when (ltb 16777216 s) 2 0 ∷ when (ltb 16777216 g) 2 1 ∷ when (tooFew s) 1 0 ∷ [])

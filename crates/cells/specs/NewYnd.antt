@@ -1,5 +1,6 @@
 -- Section 4: a cell that holds nothing, with the root's own words as the Rust's `Ynd::new` sets them.
 use mathlib.Core.List.{[], _∷_}
+use Rattle.records.specs.declared.root.Root.{Root}
 use Rattle.cells.specs.declared.ynd.Ynd.{Ynd}
 
 unfoldable pub newYnd : Ynd
@@ -13,4 +14,23 @@ newYnd = record {
   «junction_count» = 0;
   «heightmap_count» = 0;
   «ref_count» = 0;
+}
+
+-- T-02: the root of a section that holds nothing yet: these words, and no array
+unfoldable pub newRoot : Root
+newRoot = record {
+  vft = newYnd .vft;
+  nodes = 0;
+  «node_count» = 0;
+  «vehicle_node_count» = newYnd .«vehicle_node_count»;
+  «ped_node_count» = newYnd .«ped_node_count»;
+  links = 0;
+  «link_count» = 0;
+  junctions = 0;
+  heightmap = 0;
+  refs = 0;
+  «ref_count» = 0;
+  «junction_count» = 0;
+  «heightmap_count» = 0;
+  unknowns = newYnd .unknowns;
 }

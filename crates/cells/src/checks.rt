@@ -23,6 +23,9 @@ pub(crate) fn check_sizes(system: usize, graphics: usize) -> Answer
     if 16777216 < graphics {
         return Answer::Refused(2, 1);
     }
+    if system == 0 {
+        return Answer::Done;
+    }
     if system < 112 {
         return Answer::Refused(1, 0);
     }

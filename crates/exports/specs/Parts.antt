@@ -25,7 +25,8 @@ abbrev pub partOr : Located → List ℕ → List ℕ
 partOr (At p) old = sectionNumber (p .section) ∷ p .offset ∷ p .len ∷ []
 partOr Bad old = old
 
--- The root at the start of a section, as it is written. 2 at 0 a section over its limit; 1 fewer than 112 bytes.
+-- The root at the start of a section, as it is written. 2 at 0 a section over its limit; 1 fewer than 112 bytes: also
+-- none, since there is no root to show (reading no bytes gives the new cell, T-02).
 unfoldable pub rootTold : List ℕ → List ℕ → Told (List ℕ)
 rootTold s old =
     cond (ltb 16777216 (length s)) (told 2 0 old)

@@ -2,7 +2,8 @@
 // file either. So what refuses an edit of must-fail/ is what it does, not how it is written.
 ghost use mathlib.Core.Path.{_≡_};
 ghost use lib.ListN.{length};
-ghost use Rattle.cells.specs.Memory.{memory};
+ghost use Rattle.cells.specs.Memory.{memory, left};
+ghost use Rattle.cells.specs.Read.{readOf};
 ghost use Rattle.cells.specs.Renumber.{renumberedBy, renumber};
 ghost use Rattle.cells.specs.Write.{left as writeLeft, writeCall};
 use cells::junction::JunctionWords;
@@ -72,5 +73,48 @@ pub fn renumbers_in_two_arms(
         refs,
         scratch,
         places,
+    )
+}
+
+// Reading behind the very tests that the worthless bodies of refuses_no_bytes and zero_words_for_no_bytes make.
+pub fn reads_in_two_arms<'a>(
+    ynd: Ynd,
+    system: &'a [u8],
+    graphics: &'a [u8],
+    nodes: &mut [NodeWords],
+    links: &mut [LinkWords],
+    junctions: &mut [JunctionWords],
+    heights: &mut [u8],
+    refs: &mut [RefWords],
+) -> Outcome
+    ensures { λ a. ⌜ left a (now (nodes .exit)) (now (links .exit)) (now (junctions .exit)) (now (heights .exit))
+        (now (refs .exit))
+        ≡ readOf (now (system .entry)) (now (graphics .entry))
+        (memory ynd (now (nodes .entry)) (now (links .entry)) (now (junctions .entry)) (now (heights .entry))
+        (now (refs .entry))) ⌝ }
+{
+    if system.len() == 0 {
+        if graphics.len() <= 16777216 {
+            return cells::read::read(
+                ynd,
+                system,
+                graphics,
+                nodes,
+                links,
+                junctions,
+                heights,
+                refs,
+            );
+        }
+    }
+    cells::read::read(
+        ynd,
+        system,
+        graphics,
+        nodes,
+        links,
+        junctions,
+        heights,
+        refs,
     )
 }

@@ -18,4 +18,5 @@ pub mod Demand
 pub mod WritesAlike
 pub mod Example
 pub mod ClaimFacts
+pub mod Undrawn
 pub mod StarredPairs

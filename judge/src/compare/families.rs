@@ -71,8 +71,8 @@ pub const FAMILIES: &[Family] = &[
         (Edge(Named), 10_000), (Edge(Unnamed), 10_000),
     ]),
     cells("files around limits", "each limit of reading, with its neighbours", &[
-        (At(Read, 2, 0), 2), (At(Read, 2, 1), 2), (No(Read, 1), 100), (At(Read, 6, 0), 2), (At(Read, 6, 1), 1),
-        (Yes(Read), 10),
+        (At(Read, 2, 0), 2), (At(Read, 2, 1), 7), (No(Read, 1), 100), (At(Read, 6, 0), 2), (At(Read, 6, 1), 1),
+        (Yes(Read), 10), (Edge(Undrawn), 6),
     ]),
     cells("cells around limits", "each limit of writing, with its neighbours", &[
         (No(Write, 8), 7), (No(Write, 9), 2), (No(Write, 10), 2), (No(Write, 11), 1), (Yes(Write), 2),
@@ -95,6 +95,7 @@ pub const FAMILIES: &[Family] = &[
         (No(Walk, 13), 100), (At(Walk, 7, 8), 500), (Edge(Sound), 1_000), (Edge(Unsound), 1_000),
         (At(Soundness, 7, 6), 500), (Edge(Equal), 1_000), (Edge(Copies), 1_000), (Edge(Watched), 1_000_000),
         (No(Lookup, 7), 100), (No(Entry, 7), 100), (Yes(Shown), 1_000), (No(Shown, 13), 1_000), (No(Shown, 7), 100),
+        (Edge(Undrawn), 100),
     ]),
     cells("any memory", "structs and lists made by hand: every call", &[
         (Yes(Renumber), 1_000), (Yes(Write), 200), (No(Write, 8), 100), (Yes(WriteRead), 50), (No(WriteRead, 5), 20),
@@ -138,7 +139,7 @@ pub const FAMILIES: &[Family] = &[
         (Edge(RustBytes), 1_000_000),
     ]),
     programs("cellsum, samples and limits", "samples, zeros, any bytes, around 112 and 65,536", &[
-        (Yes(Program), 10), (No(Program, 1), 3), (At(Program, 6, 1), 1),
+        (Yes(Program), 10), (No(Program, 1), 3), (At(Program, 6, 1), 1), (Edge(Undrawn), 2),
     ]),
     programs("cellsum", "random sections", &[
         (Yes(Program), 300), (No(Program, 1), 80), (No(Program, 3), 500), (No(Program, 4), 5), (No(Program, 5), 4),

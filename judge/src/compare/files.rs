@@ -20,8 +20,9 @@ pub fn generate(r: &mut Rng) -> File {
 pub fn check(f: &File) -> Verdict {
     let model = read::read(&f.system, &f.graphics);
     seen::note(Call::Read, &model);
-    // 2 and 6 are added by document 01; the Rust has no such limits.
-    if !matches!(model, Err(Refused(2 | 6, _))) {
+    seen::met_if(f.system.is_empty() && model.is_ok(), Met::Undrawn);
+    // 2 and 6 are added by document 01; the Rust has no such limits. No system bytes it refuses: they are T-02's.
+    if !f.system.is_empty() && !matches!(model, Err(Refused(2 | 6, _))) {
         match (&model, rust::read(&f.system, &f.graphics)) {
             (Ok(m), Ok(y)) => same("reading", MODEL, m, RUST, &rust::cell_of(&y))?,
             (Err(_), Err(_)) => {}
@@ -37,10 +38,14 @@ pub fn check(f: &File) -> Verdict {
     same("counting", PORT, &port::cells::count(&f.system, &f.graphics), MODEL, &(counts, true))?;
     reading(f, &model)?;
     let Ok(cell) = &model else { return Ok(()) };
-    // Each node gets its copy of a range that two share.
-    let links = le(&f.system, COUNT_AT[1], 4) as usize;
-    seen::met_if(le(&f.system, ADDRESS_AT[1], 8) != 0 && cell.counts()[1] > links, Met::Copies);
+    seen::met_if(copied(f, cell), Met::Copies);
     cells::check(cell, f.aux)
+}
+
+/// Each node gets its copy of a range that two share.
+fn copied(f: &File, cell: &Cell) -> bool {
+    let word = |at, width| le(&f.system, at, width);
+    !f.system.is_empty() && word(ADDRESS_AT[1], 8) != 0 && cell.counts()[1] > word(COUNT_AT[1], 4) as usize
 }
 
 /// Reading into lists with room to spare, and into lists of which one may be too short.

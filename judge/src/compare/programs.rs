@@ -1,7 +1,7 @@
 //! The programs as processes, where they are built: what each writes for its standard input.
 use super::files::generate;
 use super::run::Run;
-use super::seen::{self, Call};
+use super::seen::{self, Call, Met};
 use super::{same, Mismatch, Verdict, MODEL, PORT, RUST};
 use crate::inputs::files::File;
 use crate::inputs::limits;
@@ -80,9 +80,10 @@ fn sum(f: &File) -> Verdict {
     let model = read::count(&f.system, &[]);
     let long = f.system.len() > MOST;
     if !long { seen::note(Call::Program, &model); }
+    seen::met_if(f.system.is_empty(), Met::Undrawn);
     let expected = if long { "too long\n".into() } else { line(&model) };
     same("what cellsum writes", PORT, &written("cellsum", &f.system)?, MODEL, &(expected, true))?;
-    if long || matches!(model, Err(Refused(2 | 6, _))) { return Ok(()); }
+    if long || f.system.is_empty() || matches!(model, Err(Refused(2 | 6, _))) { return Ok(()); }
     let judged = rust::read(&f.system, &[]).ok().map(|y| rust::cell_of(&y).counts());
     same("counts", MODEL, &model.ok(), RUST, &judged)
 }

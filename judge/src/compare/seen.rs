@@ -24,10 +24,11 @@ pub enum Met {
     Nan, Low, High, Cut, Before, Exactly, After, Axis, Split, Difference, Square, FirstSum, LastSum, Named, Unnamed,
     Sound, Unsound, Moved, Done, NoLink, Left, NoNode, Followed, Watched, Equal, Copies, Written, RustBytes,
     FarLinks, FarValues, UpperHalf, MostNodes, MostLinks, MostJunctions, MostRefs, Many, Found, NotFound,
-    FarApart, Radius0, Radius1, RadiusMost, OnCircle, StepBeyond, EqualNear, Infinite, Third, Empty, JustLong, OneShort,
+    FarApart, Radius0, Radius1, RadiusMost, OnCircle, StepBeyond, EqualNear, Infinite, Third, Empty, JustLong,
+    OneShort, Undrawn,
 }
 
-const METS: [&str; 50] = [
+const METS: [&str; 51] = [
     "NaN", "below the lower limit", "over the upper limit", "cut towards zero", "before a threshold", "at a threshold",
     "after a threshold", "along an axis", "over several axes", "difference rounded", "square rounded",
     "first sum rounded", "last sum rounded", "a number", "none", "sound cells", "unsound cells",
@@ -36,7 +37,8 @@ const METS: [&str; 50] = [
     "values past 65,535", "starts in the upper half", "65,536 nodes", "65,535 links before the last node",
     "4,096 junctions", "65,535 refs", "2,000 nodes and more", "found", "not found",
     "65,535 steps away on both axes", "radius 0", "radius 1", "radius 65,535", "on the circle", "one step beyond",
-    "nearest of equal distances", "infinite", "-0.3", "an empty cell", "a list just long enough", "a list one too short",
+    "nearest of equal distances", "infinite", "-0.3", "an empty cell", "a list just long enough",
+    "a list one too short", "no system bytes",
 ];
 
 /// What a family has to meet: accepted, refused with a number, refused with a number at a place, or an edge.

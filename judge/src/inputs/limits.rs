@@ -17,6 +17,12 @@ pub fn files(r: &mut Rng) -> Vec<(String, File)> {
         out.push((format!("a graphics section of {n} bytes"), bare(ROOT, n)));
         out.push((format!("no root, a graphics section of {n} bytes"), bare(0, n)));
     }
+    // T-02: no system bytes are a yard not drawn yet, whatever graphics holds within its limit.
+    for n in [0, 1, ROOT - 1, ROOT, ROOT + 1] {
+        for g in [0, 7, MOST_SECTION, MOST_SECTION + 1] {
+            out.push((format!("{n} zero bytes, a graphics section of {g}"), bare(n, g)));
+        }
+    }
     out.push(("both sections over the limit".into(), bare(MOST_SECTION + 1, MOST_SECTION + 1)));
     for n in [65_535, 65_536, 65_537] {
         out.push((format!("{n} nodes"), of_array(r, 0, n)));

@@ -54,6 +54,9 @@ pub struct Cell {
 }
 
 impl Cell {
+    /// T-02: a yard not drawn yet has no nodes and the default words.
+    pub fn undrawn() -> Cell { Cell { vft: 0x4061_E3B0, unknowns: [0, 0, 1, 0, 0, 0, 0], ..Cell::default() } }
+
     /// The own area: the first node's, 0 if there is no node.
     pub fn area(&self) -> u16 { self.nodes.first().map_or(0, |n| n.area_id) }
 

@@ -1,4 +1,5 @@
-//! Section 4: reading, with every refusal in document 01's order: 2, 1, 3, 6, 4, 5, then 7.
+//! Section 4: reading, with every refusal in document 01's order: 2, 1, 3, 6, 4, 5, then 7. T-02: no system bytes at
+//! all are a yard not drawn yet.
 use super::cell::{Cell, Junction, Node};
 use super::sections::{le, part};
 use super::{records, refuse_if, room, Answer, Refused, MOST_JUNCTIONS, MOST_NODES, MOST_SECTION};
@@ -8,6 +9,7 @@ type Arrays<'a> = [&'a [u8]; 5];
 
 pub fn read(system: &[u8], graphics: &[u8]) -> Answer<Cell> {
     let arrays = checked(system, graphics)?;
+    if system.is_empty() { return Ok(Cell::undrawn()); }
     let word = |at| le(system, at, 4) as u32;
     Ok(Cell {
         vft: word(0),
@@ -39,6 +41,7 @@ pub fn read_into(system: &[u8], graphics: &[u8], lent: [usize; 5]) -> Answer<Cel
 fn checked<'a>(system: &'a [u8], graphics: &'a [u8]) -> Answer<Arrays<'a>> {
     refuse_if(system.len() > MOST_SECTION, 2, 0)?;
     refuse_if(graphics.len() > MOST_SECTION, 2, 1)?;
+    if system.is_empty() { return Ok([&[]; 5]); }
     refuse_if(system.len() < records::ROOT, 1, 0)?;
     let mut arrays: Arrays = [&[]; 5];
     for (i, array) in arrays.iter_mut().enumerate() {

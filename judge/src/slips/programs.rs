@@ -7,7 +7,7 @@ pub fn said(program: &str, input: &[u8], right: String) -> String {
     if !any() { return right; }
     let words: Vec<&str> = right.split(' ').collect();
     match program {
-        "cellsum" if on(Slip::FileLinks) && words[0] == "nodes" => {
+        "cellsum" if on(Slip::FileLinks) && words[0] == "nodes" && !input.is_empty() => {
             let links = le(input, COUNT_AT[1], 4).to_string();
             format!("{} {} {} {links} {}", words[0], words[1], words[2], words[4..].join(" "))
         }

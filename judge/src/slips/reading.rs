@@ -43,6 +43,7 @@ pub fn read(m: &mut Memory, system: &[u8], graphics: &[u8]) -> Answer<()> {
     let [n, _, j, _, _] = m.held();
     match &answer {
         Ok(()) if on(Slip::Flags5Whole) => for w in &mut m.nodes[..n] { w[6] |= (w[6] >> 16 & 31) << 11; },
+        Ok(()) if on(Slip::UndrawnZeros) && system.is_empty() => m.ynd = [0; 15],
         Ok(()) => exchange(&mut m.junctions[..j]),
         Err(Refused(7, _)) if on(Slip::LastShortList) => {
             let counts = count_right(system, graphics).0.unwrap_or_default();
@@ -64,6 +65,7 @@ fn at_limit(system: &[u8], graphics: &[u8]) -> Option<Refused> {
     let [nodes, _, junctions, ..] = count_right(system, graphics).0.ok()?;
     if on(Slip::SixAtNodes) && nodes == 65_536 { return Some(Refused(6, 0)); }
     if on(Slip::SixAtJunctions) && junctions == 4_096 { return Some(Refused(6, 1)); }
+    if on(Slip::UndrawnRefused) && system.is_empty() { return Some(Refused(1, 0)); }
     if on(Slip::TwoAtLimit) && system.len() == 16_777_216 { return Some(Refused(2, 0)); }
     None
 }

@@ -9,6 +9,7 @@ use crate::model::records::{ADDRESS_AT, ROOT, WIDTHS};
 use crate::model::sections::{put_le, SYSTEM};
 use crate::model::{read, renumber, write, Answer, Refused};
 use crate::rust;
+use crate::ynd::Ynd;
 
 const FILE: u8 = 9;
 
@@ -152,12 +153,18 @@ fn written(cell: &Cell) -> Vec<u8> {
     [&bytes[..ROOT], &bytes[ROOT + 1_040..]].concat()
 }
 
+/// The Rust's cell of a file that is read. T-02: no system bytes are its new cell.
+fn judged(f: &File) -> Ynd {
+    if f.system.is_empty() { return Ynd::new(); }
+    rust::read(&f.system, &f.graphics).expect("the Rust reads it too")
+}
+
 /// The layout stands at the head of the program's files.rt.
 fn file(to: &mut Records, f: &File, lent: Lent) {
     let reading = read::read_into(&f.system, &f.graphics, lent.lists);
     if let Err(Refused(1 | 3 | 4 | 5, _)) = reading { assert!(rust::read(&f.system, &f.graphics).is_err()); }
     let mut cell = reading.clone().unwrap_or_default();
-    if reading.is_ok() { cell = rust::cell_of(&rust::read(&f.system, &f.graphics).expect("the Rust reads it too")); }
+    if reading.is_ok() { cell = rust::cell_of(&judged(f)); }
     let mut section = vec![0; lent.section];
     let none = || Err(Refused(0, 0));
     let first = if reading.is_ok() { write::write(&cell, &mut section) } else { none() };

@@ -7,12 +7,18 @@ use mathlib.Core.List.{List, [], _∷_, _++_, map}
 use lib.ListN.{replicate}
 use Rattle.records.specs.Bytes.{numberAt}
 use Rattle.records.specs.Records.{nodeAt, junctionAt}
-use Rattle.cells.specs.Checks.{scan, arraysCheck}
+use Rattle.records.specs.Root.{rootOf, unknownsOf}
+use Rattle.records.specs.Sections.{located, extent, bytesOf}
+use Rattle.numbers.specs.declared.answer.Answer.the-variants as answer
+use Rattle.cells.specs.Lists.{upTo, joinTo, sumTo}
+use Rattle.cells.specs.NewYnd.{newYnd, newRoot}
+use Rattle.cells.specs.Checks.{sizesCheck, arraysFound, scan, arraysCheck}
+use Rattle.cells.specs.Read.{roomCheck, cellRead, filled, readArrays, readOf}
 use Rattle.cells.specs.WriteChecks.{checkNodes}
 use Rattle.cells.specs.NodeWords.{isPed}
 use Rattle.cells.specs.Words.{toNode, linkWords}
 use Rattle.cells.specs.Entries.{fileNode}
-use Rattle.cells.specs.Memory.{Memory, memory, overLimit}
+use Rattle.cells.specs.Memory.{Memory, memory, refuse, overLimit}
 use Rattle.cells.specs.LinkAccess.{linkTo}
 use Rattle.cells.specs.Edit.{heldIn}
 use Rattle.cells.specs.AddLink.{addLink, roomForLink, behind, inserted}
@@ -73,3 +79,62 @@ two =
 pub bare-link-last : addLink two 1 (linkTo 0 7) .memory .links ≡ (0 ∷ 1 ∷ 0 ∷ 0 ∷ []) ∷ (0 ∷ 0 ∷ 0 ∷ 0 ∷ []) ∷ (0 ∷ 7 ∷ 0 ∷ 0 ∷ []) ∷ []
 unfolding addLink overLimit roomForLink behind heldIn inserted linkWords linkTo
 bare-link-last = refl
+
+-- ---- a yard not drawn yet (T-02)
+
+-- nothing lent, and a struct whose words are others
+abbrev bare : Memory
+bare =
+    memory
+    (record {
+      vft = 5;
+      «vehicle_node_count» = 5;
+      «ped_node_count» = 5;
+      unknowns = replicate 7 5;
+      «node_count» = 5;
+      «link_count» = 5;
+      «junction_count» = 5;
+      «heightmap_count» = 5;
+      «ref_count» = 5;
+    })
+    []
+    []
+    []
+    []
+    []
+
+-- no bytes: no nodes, and the default words
+pub no-bytes : readOf [] [] bare .memory .ynd
+    ≡ record {
+      vft = 0x4061E3B0;
+      «vehicle_node_count» = 0;
+      «ped_node_count» = 0;
+      unknowns = 0 ∷ 0 ∷ 1 ∷ 0 ∷ 0 ∷ 0 ∷ 0 ∷ [];
+      «node_count» = 0;
+      «link_count» = 0;
+      «junction_count» = 0;
+      «heightmap_count» = 0;
+      «ref_count» = 0;
+    }
+unfolding readOf sizesCheck arraysFound located newRoot newYnd readArrays arraysCheck scan roomCheck filled cellRead
+    upTo joinTo sumTo bytesOf extent
+no-bytes = refl
+
+pub no-bytes-done : readOf [] [] bare .answer ≡ answer.Done
+unfolding readOf sizesCheck arraysFound located newRoot newYnd readArrays arraysCheck scan roomCheck sumTo bytesOf
+    extent
+no-bytes-done = refl
+
+-- 1 to 111 bytes are refused with 1; 112 are a root
+pub one-byte : readOf (0 ∷ []) [] bare ≡ refuse 1 0 bare
+unfolding readOf sizesCheck
+one-byte = refl
+
+pub bytes-111 : readOf (replicate 111 0) [] bare ≡ refuse 1 0 bare
+unfolding readOf sizesCheck
+bytes-111 = refl
+
+pub bytes-112 : readOf (replicate 112 0) [] bare .answer ≡ answer.Done
+unfolding readOf sizesCheck arraysFound located rootOf unknownsOf numberAt readArrays arraysCheck scan roomCheck
+    sumTo bytesOf extent
+bytes-112 = refl

@@ -31,7 +31,7 @@ oneNode count =
     []
 
 -- what has room is written
-wrote : (h : Memory) (s : List ℕ) (n : ℕ) → length (written h) ≡ n → n ≤ length s → stored h s .answer ≡ Wrote n
+pub wrote : (h : Memory) (s : List ℕ) (n : ℕ) → length (written h) ≡ n → n ≤ length s → stored h s .answer ≡ Wrote n
 unfolding stored
 wrote h s n e room =
     let m = length (written h) in

@@ -195,7 +195,7 @@ module _ (h : Memory) (told : Told h) (m : Memory) where
 -- ---- from the section
 
 not-few : (h : Memory) → tooFew (length (written h)) ≡ false
-not-few h = le-ltb (length (written h)) 112 (long-enough h)
+not-few h = rw (le-ltb (length (written h)) 112 (long-enough h))
 
 -- reading back, after an accepted writing
 pub read-back-done : (h m : Memory) → Told h → readOf (written h) [] m .answer ≡ backCheck h (lengths m)

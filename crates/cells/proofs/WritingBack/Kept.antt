@@ -20,6 +20,7 @@ use Rattle.records.specs.Bytes.{byteAt, le16, le32, signed16}
 use Rattle.records.specs.Root.{rootOf, unknownsOf}
 use Rattle.records.specs.Records.{nodeAt, linkAt, junctionAt, refAt}
 use Rattle.cells.specs.Lists.{upTo}
+use Rattle.cells.specs.NewYnd.{newYnd, newRoot}
 use Rattle.cells.specs.Checks.{rootRead}
 use Rattle.cells.specs.Area.{belongs}
 use Rattle.cells.specs.Order.{keep, lastWith, newPlace, newNumber, placeOr, renamed, Old, parted}
@@ -98,12 +99,13 @@ junction-kept h s at =
     )
 
 root-kept : (s : List ℕ) (n l j h r : List ℕ) → keptRoot (cellFrom (rootRead s) n l j h r) ≡ true
-unfolding cellFrom rootOf unknownsOf every
-root-kept s n l j h r =
+unfolding cellFrom newRoot newYnd rootOf unknownsOf every
+root-kept [] n l j h r = refl
+root-kept (b ∷ bs) n l j h r =
     cc (word 28, word 32, word 0, word 36, word 52, word 72, word 76, word 92, word 104, word 108)
   where
-    word : (at : ℕ) → isWord (le32 s at) ≡ true
-    word at = below (le32 s at) 4294967296 (le32-below s at)
+    word : (at : ℕ) → isWord (le32 (b ∷ bs) at) ≡ true
+    word at = below (le32 (b ∷ bs) at) 4294967296 (le32-below (b ∷ bs) at)
 
 from-kept : (s : List ℕ) (n l j h r : List ℕ) → kept (cellFrom (rootRead s) n l j h r) ≡ true
 unfolding kept cellFrom fileNodes fileJunctions fileRefs

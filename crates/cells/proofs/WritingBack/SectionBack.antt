@@ -22,6 +22,7 @@ use Rattle.cells.specs.Checks.{rootRead}
 use Rattle.cells.specs.Memory.{Memory}
 use Rattle.cells.specs.Entries.{linksIn}
 use Rattle.cells.specs.Blocks.{refsBlock, heightsBlock, junctionsBlock, linksBlock, nodesBlock, arrays, blocks, rootFor, written}
+use Rattle.cells.proofs.Reading.Undrawn.{root-drawn}
 use Rattle.cells.proofs.Writing.BlockLaws.{nodes-length, links-length, junctions-length, refs-length}
 
 -- the section is long enough for a root
@@ -170,7 +171,7 @@ module _ (h : Memory) (few : length (h .refs) ≤ 65535) (small : length (writte
 
   pub root-read : rootRead (written h) ≡ storedRoot root
   unfolding written
-  root-read = ap rootRead (same-section root (blocks h) ∙ sym (append-nil (sectionBytes (storedRoot root) (blocks h)))) ∙ section.root-in (storedRoot root) (blocks h) [] root-in
+  root-read = root-drawn (written h) (omega (arith, long-enough h)) ∙ ap rootOf (same-section root (blocks h) ∙ sym (append-nil (sectionBytes (storedRoot root) (blocks h)))) ∙ section.root-in (storedRoot root) (blocks h) [] root-in
 
   pub nodes-here : Here (root .nodes) (root .«node_count») 40 (written h) (nodesBlock (h .links) (h .nodes))
   unfolding rootFor placesOf arrays
