@@ -22,7 +22,7 @@ fn links_are_replaced() {
         cell.set_links(0, &links).unwrap();
         assert_eq!((cell.links_of(0), cell.links_of(1)), (Ok(&links[..]), Ok(&[to(3)][..])));
         assert_eq!(cell.link_count(), n as usize + 1);
-        assert_eq!(cell.write().map(|s| s.len()), Ok(cell.written_length()));
+        assert_eq!(cell.write().map(|s| s.len()), Ok(cell.written_length().unwrap()));
         assert_eq!(Cell::read(&cell.write().unwrap(), &[]), Ok(cell.clone()));
         let again = cell.clone();
         cell.write_then_read().unwrap();
