@@ -2,7 +2,7 @@
 -- these false. Computed, but for the two that take the claim itself apart.
 use Prim.Native.Nat.{ℕ, _+_, _<_}
 use native.Mathlib.Omega.{arith}
-use mathlib.Core.Path.{_≡_, refl}
+use mathlib.Core.Path.{_≡_, refl, ap}
 use mathlib.Core.Bool.{Bool, true, false}
 use mathlib.Core.List.{List, [], _∷_, _++_, map}
 use mathlib.Core.Option.{Option, none, some}
@@ -91,10 +91,10 @@ unfolding walk walkIn next see junctionOf find firstWith refOf refFor belongs by
 walked = refl
 
 pub shows : shown (walk (fileCell bytes []) (0 ∷ 5 ∷ []) 0) ≡ (seenAt 32 2 none, some theLink) ∷ (seenAt 0 82 (some theJunction), none) ∷ []
-shows = rw walked
+shows = ap shown walked
 
 pub follows : followed (walk (fileCell bytes []) (0 ∷ 5 ∷ []) 0) ≡ 1
-follows = rw walked
+follows = ap followed walked
 
 -- a write-then-read is a call, too
 pub ran : run first (accepted ∷ stored-read ∷ []) ≡ writeReadOf (renumber first 65536 (9 ∷ 9 ∷ 9 ∷ []) .memory) (replicate 1400 9) .memory
@@ -140,9 +140,9 @@ numbers-places = on-example .numbered one-accepted
 
 -- ---- the check and the call
 
--- one node, number 7 of area 5, without links
+-- one node, number 5 of area 5, without links
 abbrev alone : Node
-alone = record { area = 5; number = 7; links = []; body = noBody }
+alone = record { area = 5; number = 5; links = []; body = noBody }
 
 -- a ref of the own area to a number that no node has
 pub ref-to-nobody : sound (record {
