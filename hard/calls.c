@@ -224,6 +224,15 @@ static size_t section_length(const lent *m, script *s)
     return length;
 }
 
+/* Whether a junction, changed by hand, holds fewer values than its size says: writing refuses it with 12. */
+static bool values_cut(const lent *m)
+{
+    for (size_t p = 0; p < m->ynd->junction_count; p++)
+        if (values_held(m, p) < (size_t)m->junctions[p].width * m->junctions[p].height)
+            return true;
+    return false;
+}
+
 static uint32_t write_with(const lent *m, size_t room, size_t expected)
 {
     uint8_t *section = block(room);
@@ -234,7 +243,7 @@ static uint32_t write_with(const lent *m, size_t room, size_t expected)
         for (size_t i = 0; i < room; i++)
             CHECK(section[i] == KEPT);
     } else {
-        CHECK(*length == expected && *length <= room && number_at(section, 4, 4) == 1);
+        CHECK(*length == expected && *length <= room && number_at(section, 4, 4) == 1 && !values_cut(m));
         CHECK(number_at(section, 24, 4) == m->ynd->node_count);
         for (size_t i = *length; i < room; i++)
             CHECK(section[i] == KEPT);
@@ -255,15 +264,6 @@ void check_write(const lent *m, script *s)
     }
 }
 
-/* Whether a junction, changed by hand, holds fewer values than its size says: then reading back gives it those of the next one. */
-static bool values_cut(const lent *m)
-{
-    for (size_t p = 0; p < m->ynd->junction_count; p++)
-        if (values_held(m, p) < (size_t)m->junctions[p].width * m->junctions[p].height)
-            return true;
-    return false;
-}
-
 void check_write_read(lent *m, script *s, bool as_read)
 {
     size_t room = section_length(m, s) + byte(s) % 3, *length = block(sizeof *length), *place = block(sizeof *place);
@@ -275,7 +275,7 @@ void check_write_read(lent *m, script *s, bool as_read)
         for (size_t i = 0; i < room; i++)
             CHECK(section[i] == KEPT);
     } else {
-        CHECK(values_cut(&before) || same_written(&before, m));
+        CHECK(!values_cut(&before) && same_written(&before, m));
         CHECK(!as_read || same_lent(m, &before));
     }
     unlend(&before);

@@ -121,6 +121,7 @@ static void records(void)
     CHECK(ynd_root(section, N, words, place) == 0 && *place == 0);
     CHECK(words[0] == number_at(section, 0, 4) && words[1] == 1 && words[6] == number_at(section, 24, 4));
     CHECK(ynd_root(section, 111, words, place) == YND_FEW_SYSTEM_BYTES && words[1] == 1);
+    CHECK(ynd_root(section, 0, words, place) == 0 && words[0] == 0x4061E3B0 && words[6] == 0);
     unblock(place, sizeof *place);
     unblock(words, YND_ROOT_WORDS * sizeof *words);
     unblock(section, N);

@@ -242,8 +242,9 @@ uint32_t ynd_renumber(
 /* ---- Writing ---- */
 
 /* Writes the cell into `section`, from its first byte on; later bytes stay. `length` gets how many bytes were
- * written. Refused, in this order: 14 over a limit, 8 and 9 node by node, 10, 11, 7 at 0 to 4 where a list is
- * shorter than its count, 7 at 5 where the section is too short. */
+ * written. Refused, in this order: 14 over a limit, 12 where a junction made by hand has fewer than width × height
+ * of the values that the struct counts, 8 and 9 node by node, 10, 11, 7 at 0 to 4 where a list is shorter than its
+ * count, 7 at 5 where the section is too short. What is written is never refused on reading, but for memory (7). */
 uint32_t ynd_write(
     const ynd_cell *ynd, const ynd_node_entry *nodes, size_t nodes_len,
     const ynd_link_entry *links, size_t links_len, const ynd_junction_entry *junctions, size_t junctions_len,
@@ -251,9 +252,8 @@ uint32_t ynd_write(
     uint8_t *section, size_t section_len, size_t *length, size_t *place);
 
 /* Writes the cell into `section` and reads just those bytes back into the cell's own lists. `length` gets how many
- * bytes were written. Refused as ynd_write is; a cell made by hand is also refused where reading back would be: 5,
- * and 7 at 0 to 4 where a list is too short for copies of ranges that overlap. A refusal leaves cell, lists and
- * section as they were. */
+ * bytes were written. Refused as ynd_write is; a cell made by hand is also refused with 7 at 0 to 4 where a list is
+ * too short for copies of ranges that overlap. A refusal leaves cell, lists and section as they were. */
 uint32_t ynd_write_then_read(
     ynd_cell *ynd, ynd_node_entry *nodes, size_t nodes_len, ynd_link_entry *links, size_t links_len,
     ynd_junction_entry *junctions, size_t junctions_len, uint8_t *heights, size_t heights_len,
@@ -734,8 +734,8 @@ bool ynd_area_id_from_file_name(const uint8_t *name, size_t name_len, uint32_t *
 bool ynd_locate(
     uint64_t address, uint32_t count, uint8_t width, size_t system, size_t graphics, ynd_part *part);
 
-/* The root at the start of a section, as it is written (28 words; word 1 is 1). Fills `words`. Refused, in this
- * order: 2 at 0 over YND_SECTION_MOST bytes; 1 under 112 bytes, none too: there is no root to show. */
+/* The root that reading goes by, as it is written (28 words; word 1 is 1); of no bytes that of ynd_new. Fills `words`.
+ * Refused, in this order: 2 at 0 over YND_SECTION_MOST bytes; 1 from 1 to 111 bytes. */
 uint32_t ynd_root(const uint8_t *section, size_t section_len, uint32_t words[28], size_t *place);
 
 /* The node record at an offset of a section, as it is written. Fills `bytes`. Refused: 3 at 0 where it does not end

@@ -1,11 +1,12 @@
--- The call: refusals in their order (14, 8 to 11, 7), then the section. Refs are counted by the struct.
+-- The call: refusals in their order (14, 12, 8 to 11, 7), then the section. Refs are counted by the struct, and so are the values
+-- that heightmaps lie in.
 use Prim.Native.Nat.{ℕ}
 use mathlib.Core.Bool.{Bool, cond}
 use mathlib.Core.List.{List, _++_}
 use lib.Dec.{ltb}
 use lib.ListN.{length, take, drop}
 use Rattle.cells.specs.Entries.{linksIn, valuesIn}
-use Rattle.cells.specs.WriteChecks.{checkNodes, checkJunctions}
+use Rattle.cells.specs.WriteChecks.{mapsCut, checkNodes, checkJunctions}
 use Rattle.cells.specs.declared.count.Total.{Total}
 use Rattle.cells.specs.declared.count.Total.the-variants.{Sum, Refused}
 use Rattle.cells.specs.declared.write.Written.{Written}
@@ -47,11 +48,12 @@ stored h s =
 unfoldable pub writeHeld : Memory → ℕ → List ℕ → WriteLeft
 writeHeld h lack s =
     orElse (overLimit (h .ynd)) (refuse 14 0 s)
+    (orElse (mapsCut (h .ynd .«heightmap_count») (h .junctions)) (refuse 12 0 s)
     (after (checkNodes (λ n. length (linksIn (h .links) n)) 0 0 (h .nodes)) s
     (after (checkJunctions (λ j. length (valuesIn (h .heights) j)) 0 0 (h .junctions)) s
     (orElse (ltb 65535 (h .ynd .«ref_count»)) (refuse 11 0 s)
     (orElse (ltb lack 5) (refuse 7 lack s)
-    (stored h s)))))
+    (stored h s))))))
 
 unfoldable pub writeCall : Memory → List ℕ → WriteLeft
 writeCall m s = writeHeld (held m) (short m) s

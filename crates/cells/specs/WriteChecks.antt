@@ -1,6 +1,7 @@
--- Causes of refusal, the cell being written: 8 and 9 node by node, 8 first, then 10 junction by junction.
+-- Causes of refusal, the cell being written: 12 where a heightmap is cut, 8 and 9 node by node, 8 first, then 10 junction by
+-- junction.
 use Prim.Native.Nat.{ℕ, _+_, _-_, min}
-use mathlib.Core.Bool.{Bool, true, false, cond}
+use mathlib.Core.Bool.{Bool, true, false, cond, _||_}
 use mathlib.Core.List.{List, [], _∷_}
 use lib.Dec.{ltb}
 use Rattle.cells.specs.Entries.{storedStart}
@@ -21,6 +22,11 @@ linksWithin pool n = min (linkCount n) (pool - linkStart n)
 
 unfoldable pub valuesWithin : ℕ → List ℕ → ℕ
 valuesWithin pool j = min (valueCount j) (pool - valueStart j)
+
+-- 12: some junction has fewer than width × height of the cell's `pool` values: a struct made by hand
+unfoldable pub mapsCut : ℕ → List (List ℕ) → Bool
+mapsCut pool [] = false
+mapsCut pool (j ∷ js) = ltb (valuesWithin pool j) (valueCount j) || mapsCut pool js
 
 -- 9: the start that this node stores over 65,535, even if it has no links.
 abbrev pub startOver : ℕ → ℕ → Bool

@@ -1,4 +1,4 @@
--- What checks 14 and 8 to 11 give together: a refusal, or how much there is to write. No public function's contract cites this.
+-- What checks 14, 12 and 8 to 11 give together: a refusal, or how much there is to write. No public function's contract cites this.
 use Prim.Native.Nat.{ℕ, _≤_}
 use mathlib.Core.List.{List}
 use lib.Dec.{ltb}
@@ -6,7 +6,7 @@ use lib.ListN.{length}
 use Rattle.cells.specs.Checks.{refuseMore}
 use Rattle.cells.specs.Memory.{Memory, overLimit}
 use Rattle.cells.specs.Entries.{linksIn, valuesIn}
-use Rattle.cells.specs.WriteChecks.{checkNodes, checkJunctions}
+use Rattle.cells.specs.WriteChecks.{mapsCut, checkNodes, checkJunctions}
 use Rattle.cells.specs.declared.ynd.Ynd.{Ynd}
 use Rattle.cells.specs.declared.count.Total.{Total}
 use Rattle.cells.specs.declared.count.Total.the-variants as total
@@ -23,10 +23,11 @@ ifSum (total.Sum n) next = next n
 unfoldable pub writeCounts : Ynd → List (List ℕ) → List (List ℕ) → List (List ℕ) → List ℕ → List (List ℕ) → Counted
 writeCounts y nodes links junctions heights refs =
     refuseMore (overLimit y) 14 0
+    (refuseMore (mapsCut (y .«heightmap_count») junctions) 12 0
     (ifSum (checkNodes (λ n. length (linksIn links n)) 0 0 nodes) λ l.
     ifSum (checkJunctions (λ j. length (valuesIn heights j)) 0 0 junctions) λ v.
     refuseMore (ltb 65535 (y .«ref_count»)) 11 0
-    (counted.Held (record { nodes = length nodes; links = l; junctions = length junctions; heights = v; refs = length refs })))
+    (counted.Held (record { nodes = length nodes; links = l; junctions = length junctions; heights = v; refs = length refs }))))
 
 -- the lists are no longer than the struct's counts
 pub record Cut (h : Memory) : Type 0 where

@@ -1,10 +1,7 @@
-// The root of a file, and where its five arrays lie: cause 3, in its order.
+// Where a file's five arrays lie: cause 3, in its order.
 ghost use mathlib.Core.Path.{_≡_};
-ghost use Rattle.cells.specs.NewYnd.{newRoot};
-ghost use Rattle.cells.specs.Checks.{rootRead, arraysFound};
-use crate::ynd::Ynd;
+ghost use Rattle.cells.specs.Checks.{arraysFound};
 use records::root::Root;
-use records::root::root_of;
 use records::section::Located;
 use records::section::Part;
 use records::section::locate;
@@ -20,40 +17,6 @@ pub struct Arrays {
 pub enum Found {
     Arrays(Arrays),
     Refused(u32, usize),
-}
-
-// The root of a section that holds nothing yet.
-fn new_root() -> Root
-    ensures { λ r. ⌜ r ≡ newRoot ⌝ }
-{
-    let y = Ynd::new();
-    let unknowns = y.unknowns;
-    Root {
-        vft: y.vft,
-        nodes: 0,
-        node_count: 0,
-        vehicle_node_count: y.vehicle_node_count,
-        ped_node_count: y.ped_node_count,
-        links: 0,
-        link_count: 0,
-        junctions: 0,
-        heightmap: 0,
-        refs: 0,
-        ref_count: 0,
-        junction_count: 0,
-        heightmap_count: 0,
-        unknowns,
-    }
-}
-
-// The root that reading goes by.
-pub(crate) fn read_root(system: &[u8]) -> Root
-    ensures { λ r. ⌜ r ≡ rootRead (now (system .entry)) ⌝ }
-{
-    if system.len() == 0 {
-        return new_root();
-    }
-    root_of(system)
 }
 
 pub(crate) fn find_arrays(root: Root, system: usize, graphics: usize) -> Found

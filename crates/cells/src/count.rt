@@ -3,11 +3,11 @@ ghost use mathlib.Core.Path.{_≡_};
 ghost use Rattle.cells.specs.Checks.{countOf};
 use crate::arrays::Found;
 use crate::arrays::find_arrays;
-use crate::arrays::read_root;
 use crate::checks::check_arrays;
 use crate::checks::check_sizes;
 use crate::checks::counted_of;
 use crate::checks::found_answer;
+use crate::root::read_root;
 use numbers::answer::Answer;
 use records::section::named_part;
 

@@ -36,6 +36,7 @@ pub mod renumber;
 mod replace;
 pub mod room;
 mod room_check;
+pub mod root;
 mod shift;
 pub mod special;
 mod to_file;

@@ -1,7 +1,7 @@
-// The checks before writing: 14, 8 and 9 node by node, 10 junction by junction, then 11.
+// The checks before writing: 14, 12, 8 and 9 node by node, 10 junction by junction, then 11.
 ghost use mathlib.Core.Path.{_≡_};
 ghost use Prim.Native.Nat.{_<_};
-ghost use Rattle.cells.specs.WriteChecks.{linksWithin, valuesWithin, checkNodes, checkJunctions};
+ghost use Rattle.cells.specs.WriteChecks.{linksWithin, valuesWithin, mapsCut, checkNodes, checkJunctions};
 ghost use Rattle.cells.specs.WriteCounts.{writeCounts};
 use crate::checks::refused;
 use crate::count::Counted;
@@ -42,6 +42,21 @@ pub(crate) fn values_within(w: JunctionWords, pool: usize) -> usize
     cut(start, value_count(w), pool)
 }
 
+// Whether some junction has fewer than width × height of `pool` values.
+pub(crate) fn maps_cut(junctions: &[JunctionWords], pool: usize) -> bool
+    ensures { λ r. ⌜ r ≡ mapsCut pool (now (junctions .entry)) ⌝ }
+{
+    let mut i = 0;
+    while i < junctions.len() {
+        let count = value_count(junctions[i]);
+        if values_within(junctions[i], pool) < count {
+            return true;
+        }
+        i += 1;
+    }
+    false
+}
+
 pub(crate) fn check_nodes(nodes: &[NodeWords], pool: usize) -> Total
     ensures { λ r. ⌜ r ≡ checkNodes (linksWithin pool) 0 0 (now (nodes .entry)) ⌝ }
 {
@@ -76,7 +91,7 @@ pub(crate) fn check_junctions(junctions: &[JunctionWords], pool: usize) -> Total
     Total::Sum(before)
 }
 
-// 14 and 8 to 11, of the cell whose entries these are. Else how much there is to write.
+// 14, 12 and 8 to 11, of the cell whose entries these are. Else how much there is to write.
 pub(crate) fn write_counts(
     ynd: Ynd,
     nodes: &[NodeWords],
@@ -89,6 +104,9 @@ pub(crate) fn write_counts(
 {
     if over_limit(ynd) {
         return Counted::Refused(14, 0);
+    }
+    if maps_cut(junctions, wide(ynd.heightmap_count)) {
+        return Counted::Refused(12, 0);
     }
     let a = check_nodes(nodes, links.len());
     let Total::Sum(l) = a else {

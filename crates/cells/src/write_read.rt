@@ -3,25 +3,20 @@ ghost use mathlib.Core.Path.{_≡_};
 ghost use Prim.Native.Nat.{_≤_};
 ghost use mathlib.Core.List.{[]};
 ghost use lib.ListN.{length, take};
-ghost use Rattle.cells.specs.Lists.{sumTo};
-ghost use Rattle.cells.specs.Checks.{scan, totalOf};
 ghost use Rattle.cells.specs.Memory.{memory, left};
 ghost use Rattle.cells.specs.Read.{readOf};
-ghost use Rattle.cells.specs.Blocks.{heightsBlock};
 ghost use Rattle.cells.specs.Write.{held, writeCall};
 ghost use Rattle.cells.specs.WriteCounts.{Cut};
 ghost use Rattle.cells.specs.WriteRead.{writeReadOf};
-ghost use Rattle.cells.specs.BackCheck.{areaAt, lacks, lengths, backTests};
+ghost use Rattle.cells.specs.BackCheck.{lengths, backTests};
 ghost use Rattle.cells.specs.BackAnswer.{backAnswer};
 ghost use Rattle.cells.specs.WriteRead.{both};
 use crate::count::Counted;
 use crate::count::Counts;
-use crate::count::Total;
 use crate::junction::JunctionWords;
 use crate::junction_ref::RefWords;
 use crate::link::LinkWords;
 use crate::node::NodeWords;
-use crate::range::value_count;
 use crate::read::check_room;
 use crate::read::read;
 use crate::room::lacking;
@@ -30,7 +25,6 @@ use crate::write::least;
 use crate::write::not_written;
 use crate::write::places_for;
 use crate::write::write;
-use crate::write_checks::values_within;
 use crate::write_checks::write_counts;
 use crate::ynd::Outcome;
 use crate::ynd::Ynd;
@@ -42,50 +36,18 @@ pub struct WroteRead {
     pub ynd: Ynd,
 }
 
-// 5, as reading back finds it in `total` written heightmap bytes. Else how many values are read.
-fn check_values(junctions: &[JunctionWords], heights: &[u8], total: usize) -> Total
-    requires { ⌜ (length (now junctions) ≤ 4096) × (total ≡ length (heightsBlock (now heights) (now junctions))) × (total ≤ 130560) ⌝ }
-    ensures { λ r. ⌜ r ≡ totalOf (scan 5 (lacks (now (heights .entry)) (now (junctions .entry))) 0 (length (now (junctions .entry))))
-        (sumTo (areaAt (now (junctions .entry))) (length (now (junctions .entry)))) ⌝ }
-{
-    let mut before: usize = 0;
-    let mut sum: usize = 0;
-    let mut i = 0;
-    while i < junctions.len() {
-        let size = value_count(junctions[i]);
-        if total < before + size {
-            return Total::Refused(5, i);
-        }
-        before += values_within(junctions[i], heights.len());
-        sum += size;
-        i += 1;
-    }
-    Total::Sum(sum)
-}
-
 // Whether k entries, written, can be read back into lists of so many.
-fn back_check(k: Counts, lent: Counts, junctions: &[JunctionWords], heights: &[u8]) -> Answer
-    requires { ⌜ (length (now junctions) ≤ 4096) × (k .heights ≡ length (heightsBlock (now heights) (now junctions))) × (k .heights ≤ 130560) ⌝ }
-    ensures { λ r. ⌜ r ≡ backTests k (now (heights .entry)) (now (junctions .entry)) lent ⌝ }
+fn back_check(k: Counts, lent: Counts) -> Answer
+    ensures { λ r. ⌜ r ≡ backTests k lent ⌝ }
 {
-    let a = check_values(junctions, heights, k.heights);
-    match a {
-        Total::Refused(cause, place) => Answer::Refused(cause, place),
-        Total::Sum(v) => check_room(
-            Counts {
-                nodes: k.nodes,
-                links: k.links,
-                junctions: k.junctions,
-                heights: v,
-                refs: k.refs,
-            },
-            lent.nodes,
-            lent.links,
-            lent.junctions,
-            lent.heights,
-            lent.refs,
-        ),
-    }
+    check_room(
+        k,
+        lent.nodes,
+        lent.links,
+        lent.junctions,
+        lent.heights,
+        lent.refs,
+    )
 }
 
 // The answer for the cell whose entries these are, in lists of so many.
@@ -122,7 +84,7 @@ fn answer_held(
     if section < total {
         return Written::Refused(7, 5);
     }
-    let b = back_check(k, lent, junctions, heights);
+    let b = back_check(k, lent);
     match b {
         Answer::Refused(cause, place) => Written::Refused(cause, place),
         Answer::Done => Written::Wrote(total),

@@ -4,12 +4,14 @@ use mathlib.Core.Bool.{Bool, true, false, cond}
 use mathlib.Core.List.{List, [], _∷_}
 use lib.Dec.{leb, ltb}
 use lib.ListN.{length}
-use Rattle.records.specs.Root.{rootOf, rootWords}
+use Rattle.numbers.specs.Refusals.{unless}
+use Rattle.records.specs.Root.{rootWords}
 use Rattle.records.specs.declared.layout.Places.{Places}
 use Rattle.records.specs.declared.section.Section.{Section}
 use Rattle.records.specs.declared.section.Section.the-variants.{System, Graphics}
 use Rattle.records.specs.declared.section.Located.{Located}
 use Rattle.records.specs.declared.section.Located.the-variants.{At, Bad}
+use Rattle.cells.specs.Checks.{rootRead, sizesCheck}
 use Rattle.exports.specs.Found.{Told, told}
 
 abbrev pub isAt : Located → Bool
@@ -25,13 +27,10 @@ abbrev pub partOr : Located → List ℕ → List ℕ
 partOr (At p) old = sectionNumber (p .section) ∷ p .offset ∷ p .len ∷ []
 partOr Bad old = old
 
--- The root at the start of a section, as it is written. 2 at 0 a section over its limit; 1 fewer than 112 bytes: also
--- none, since there is no root to show (reading no bytes gives the new cell, T-02).
+-- The root that reading goes by, as it is written: of no bytes that of `Ynd::new` (T-02). 2 at 0 a section over its limit;
+-- 1 from 1 to 111 bytes.
 unfoldable pub rootTold : List ℕ → List ℕ → Told (List ℕ)
-rootTold s old =
-    cond (ltb 16777216 (length s)) (told 2 0 old)
-    (cond (ltb (length s) 112) (told 1 0 old)
-    (told 0 0 (rootWords (rootOf s))))
+rootTold s old = unless (sizesCheck (length s) 0) (λ cause place. told cause place old) (told 0 0 (rootWords (rootRead s)))
 
 -- A record of so many bytes at an offset of a section, whose bytes are `new`. 3 at its array's place where it does not
 -- end inside.

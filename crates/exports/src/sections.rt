@@ -1,4 +1,5 @@
 // Sections, the root and the four records.
+use numbers::answer::Answer;
 use records::section::Located;
 use records::section::Section;
 ghost use mathlib.Core.Path.{_≡_};
@@ -41,24 +42,25 @@ pub extern "C" fn ynd_locate(
     }
 }
 
-// The root at the section's start, as it is written: 28 words.
+// The root that reading goes by, as it is written: 28 words.
 #[no_mangle]
 pub extern "C" fn ynd_root(section: &[u8], words: &mut [u32; 28], place: &mut usize) -> u32
     ensures { λ r. ⌜ told r (now (place .exit)) (now (words .exit))
         ≡ rootTold (now (section .entry)) (now (words .entry)) ⌝ }
 {
-    if 16777216 < section.len() {
-        *place = 0;
-        return 2;
+    let a = cells::root::check_root(section.len());
+    match a {
+        Answer::Refused(number, at) => {
+            *place = at;
+            number
+        }
+        Answer::Done => {
+            let w = records::root::root_words(cells::root::read_root(section));
+            *words = w;
+            *place = 0;
+            0
+        }
     }
-    if section.len() < 112 {
-        *place = 0;
-        return 1;
-    }
-    let w = records::root::root_words(records::root::root_of(section));
-    *words = w;
-    *place = 0;
-    0
 }
 
 // The node at `at`, as it is written.

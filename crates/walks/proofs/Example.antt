@@ -29,7 +29,7 @@ use Rattle.cells.specs.Lookup.{firstWith}
 use Rattle.cells.specs.Renumber.{vehicles, peds, renumberLists, recounted, answerOf, newLists, renumberMemory, renumber}
 use Rattle.cells.specs.Entries.{fileNode, fileLink, fileJunction}
 use Rattle.cells.specs.Entries as entries
-use Rattle.cells.specs.WriteChecks.{checkNodes, checkJunctions}
+use Rattle.cells.specs.WriteChecks.{valuesWithin, mapsCut, checkNodes, checkJunctions}
 use Rattle.cells.specs.Blocks.{laid, arrays, rootFor, written}
 use Rattle.cells.specs.Write.{held, stored, writeHeld, writeCall}
 use Rattle.cells.specs.WriteRead.{writeReadOf}
@@ -145,10 +145,10 @@ isWrote (answer.Wrote n) = true
 isWrote (answer.Refused cause place) = false
 
 pub written-read : isWrote (writeReadOf (run first (accepted ∷ refused ∷ [])) (replicate 1400 9) .answer) ≡ true
-unfolding bytes room rootBytes nodeBytes linkBytes junctionBytes refBytes numberBytes bits16 readOf sizesCheck arraysFound located rootOf unknownsOf numberAt bytesOf extent readArrays arraysCheck scan nodeAt linkAt junctionAt sumTo upTo joinTo roomCheck filled cellRead nodeIn linksIn linksFrom linkWords pathLink pathNode nodeWords junctionIn valuesIn valuesFrom pathJunction junctionWords refIn refWords refAt renumber overLimit answerOf shortOf after run renumberMemory newLists renumberLists recounted vehicles peds reordered numberFrom numbered parted keep isPed areaOf numberOf oldOf firstArea relinked renamed newNumber newPlace newPlaces listed rank lastWith belongs writeReadOf writeCall writeHeld held checkNodes checkJunctions stored written arrays laid joined fileNode toNode fileLink toLink fileJunction toJunction toRef entries.valuesIn rootFor pages headerBytes sectionBytes lay padded gapFor startOf offset total address placesOf entries.linksIn stepOf unstep signed16
+unfolding bytes room rootBytes nodeBytes linkBytes junctionBytes refBytes numberBytes bits16 readOf sizesCheck arraysFound located rootOf unknownsOf numberAt bytesOf extent readArrays arraysCheck scan nodeAt linkAt junctionAt sumTo upTo joinTo roomCheck filled cellRead nodeIn linksIn linksFrom linkWords pathLink pathNode nodeWords junctionIn valuesIn valuesFrom pathJunction junctionWords refIn refWords refAt renumber overLimit answerOf shortOf after run renumberMemory newLists renumberLists recounted vehicles peds reordered numberFrom numbered parted keep isPed areaOf numberOf oldOf firstArea relinked renamed newNumber newPlace newPlaces listed rank lastWith belongs writeReadOf writeCall writeHeld mapsCut valuesWithin held checkNodes checkJunctions stored written arrays laid joined fileNode toNode fileLink toLink fileJunction toJunction toRef entries.valuesIn rootFor pages headerBytes sectionBytes lay padded gapFor startOf offset total address placesOf entries.linksIn stepOf unstep signed16
 written-read = refl
 
 -- where the three nodes stand after all three calls
 pub moves : map (moved first (accepted ∷ refused ∷ stored-read ∷ [])) (0 ∷ 1 ∷ 2 ∷ []) ≡ 0 ∷ 2 ∷ 1 ∷ []
-unfolding bytes room rootBytes nodeBytes linkBytes junctionBytes refBytes numberBytes bits16 readOf sizesCheck arraysFound located rootOf unknownsOf numberAt bytesOf extent readArrays arraysCheck scan nodeAt linkAt junctionAt sumTo upTo joinTo roomCheck filled cellRead nodeIn linksIn linksFrom linkWords pathLink pathNode nodeWords junctionIn valuesIn valuesFrom pathJunction junctionWords refIn refWords refAt renumbers renumber overLimit answerOf shortOf after run renumberMemory newLists renumberLists recounted vehicles peds reordered numberFrom numbered parted keep isPed areaOf numberOf oldOf firstArea relinked renamed newNumber newPlace newPlaces listed rank lastWith belongs writeReadOf writeCall writeHeld held checkNodes checkJunctions stored written arrays laid joined fileNode toNode fileLink toLink fileJunction toJunction toRef entries.valuesIn rootFor pages headerBytes sectionBytes lay padded gapFor startOf offset total address placesOf entries.linksIn stepOf unstep signed16 moved cellOf nodesOf bodyOf
+unfolding bytes room rootBytes nodeBytes linkBytes junctionBytes refBytes numberBytes bits16 readOf sizesCheck arraysFound located rootOf unknownsOf numberAt bytesOf extent readArrays arraysCheck scan nodeAt linkAt junctionAt sumTo upTo joinTo roomCheck filled cellRead nodeIn linksIn linksFrom linkWords pathLink pathNode nodeWords junctionIn valuesIn valuesFrom pathJunction junctionWords refIn refWords refAt renumbers renumber overLimit answerOf shortOf after run renumberMemory newLists renumberLists recounted vehicles peds reordered numberFrom numbered parted keep isPed areaOf numberOf oldOf firstArea relinked renamed newNumber newPlace newPlaces listed rank lastWith belongs writeReadOf writeCall writeHeld mapsCut valuesWithin held checkNodes checkJunctions stored written arrays laid joined fileNode toNode fileLink toLink fileJunction toJunction toRef entries.valuesIn rootFor pages headerBytes sectionBytes lay padded gapFor startOf offset total address placesOf entries.linksIn stepOf unstep signed16 moved cellOf nodesOf bodyOf
 moves = refl

@@ -27,6 +27,13 @@ pub fn entry(m: &Memory, at: usize, needed: &[usize]) -> Answer<()> {
     lists(m, needed)
 }
 
+/// 12: a junction has fewer than width × height of the values that the struct counts.
+pub fn maps(m: &Memory) -> Answer<()> {
+    let values = m.counts()[HEIGHTS];
+    let cut = m.junctions[..m.held()[JUNCTIONS]].iter().map(value_range).any(|(at, n)| n > values.saturating_sub(at));
+    refuse_if(cut, 12, 0)
+}
+
 /// Where link k of the node at a place stands. A range that leaves its pool is cut; of an entry that is counted but not
 /// lent nothing is known, so that k is not asked for there.
 pub fn link(m: &Memory, at: usize, k: usize) -> Answer<usize> {

@@ -25,9 +25,10 @@ pub fn unchanged(what: &str, before: &Memory, after: &Memory) -> Verdict {
 
 fn lists(memory: &Memory) -> Answer<()> { causes::lists(memory, &[0, 1, 2, 3, 4]) }
 
-/// 14, 8 to 11, then 7: refs are counted by the struct.
+/// 14, 12, 8 to 11, then 7: refs and heightmap values are counted by the struct.
 fn writable(memory: &Memory, cell: &Cell) -> Answer<()> {
     causes::limits(memory)?;
+    causes::maps(memory)?;
     write::check(cell)?;
     refuse_if(memory.counts()[4] > 65_535, 11, 0)?;
     lists(memory)

@@ -4,6 +4,7 @@ use super::{same, Verdict, MODEL, PORT, RUST};
 use crate::blocks::{Pod, Reader, Writer};
 use crate::inputs::files::File;
 use crate::inputs::rng::Rng;
+use crate::model::cell::Cell;
 use crate::model::records::{ADDRESS_AT, COUNT_AT, COUNT_WIDTH, ROOT, WIDTHS};
 use crate::model::sections::{le, part, put_le};
 use crate::model::{refuse_if, write, Refused, MOST_JUNCTIONS, MOST_NODES, MOST_SECTION};
@@ -44,11 +45,14 @@ fn located(f: &File, reader: &Reader, address: u64, count: u64, width: u64) -> V
     same("the part that an address names", PORT, &(port, kept), MODEL, &(model, true))
 }
 
-/// The root as read and written: word 1 at offset 4, the pages' address, and the second ref count twice.
+/// The root as read and written: word 1 at offset 4, the pages' address, and the second ref count twice. Of no bytes
+/// it is that of the new cell, as writing stores it.
 fn root(system: &[u8]) -> Verdict {
-    let sizes = refuse_if(system.len() > MOST_SECTION, 2, 0).and_then(|_| refuse_if(system.len() < ROOT, 1, 0));
+    let few = system.len() < ROOT && !system.is_empty();
+    let sizes = refuse_if(system.len() > MOST_SECTION, 2, 0).and_then(|_| refuse_if(few, 1, 0));
     let model = sizes.map(|_| {
-        let mut bytes = system[..ROOT].to_vec();
+        let new = write::written(&Cell::undrawn()).unwrap();
+        let mut bytes = if system.is_empty() { new[..ROOT].to_vec() } else { system[..ROOT].to_vec() };
         put_le(&mut bytes, 4, 4, 1);
         put_le(&mut bytes, 8, 8, 0x5000_0070);
         let refs = le(&bytes, 90, 2);

@@ -14,7 +14,7 @@ use Rattle.records.specs.Layout.{headerBytes, gapFor, startOf, offset, total, a
 use Rattle.records.proofs.Laid.{section-length}
 use Rattle.cells.specs.Memory.{Memory, memory, overLimit, shortOf}
 use Rattle.cells.specs.Entries.{linksIn, fileNode, fileLink}
-use Rattle.cells.specs.WriteChecks.{checkNodes, checkJunctions}
+use Rattle.cells.specs.WriteChecks.{mapsCut, checkNodes, checkJunctions}
 use Rattle.cells.specs.Blocks.{laid, arrays, blocks, rootFor, written}
 use Rattle.cells.specs.Write.{WriteLeft, left, refuse, orElse, held, stored, writeHeld, writeCall}
 use Rattle.cells.specs.declared.write.Written.the-variants.{Wrote}
@@ -39,11 +39,11 @@ wrote h s n e room =
 
 -- no check refuses
 goes-on : (s : List ℕ) → writeCall (oneNode 31) s ≡ stored (held (oneNode 31)) s
-unfolding oneNode writeCall held overLimit writeHeld shortOf checkNodes checkJunctions linksIn
+unfolding oneNode writeCall held overLimit writeHeld mapsCut shortOf checkNodes checkJunctions linksIn
 goes-on s = refl
 
 bare-goes-on : (s : List ℕ) → writeCall (oneNode 0) s ≡ stored (held (oneNode 0)) s
-unfolding oneNode writeCall held overLimit writeHeld shortOf checkNodes checkJunctions linksIn
+unfolding oneNode writeCall held overLimit writeHeld mapsCut shortOf checkNodes checkJunctions linksIn
 bare-goes-on s = refl
 
 size-31 : length (written (held (oneNode 31))) ≡ 1448
@@ -59,7 +59,7 @@ pub links-31 : (s : List ℕ) → 1448 ≤ length s → writeCall (oneNode 31) s
 links-31 s room = ap (λ (w : WriteLeft). w .answer) (goes-on s) ∙ wrote (held (oneNode 31)) s 1448 size-31 room
 
 pub links-32 : (s : List ℕ) → writeCall (oneNode 32) s ≡ refuse 8 0 s
-unfolding oneNode writeCall held overLimit writeHeld checkNodes linksIn
+unfolding oneNode writeCall held overLimit writeHeld mapsCut checkNodes linksIn
 links-32 s = refl
 
 -- one bare node writes 1,192 bytes, with the nodes address 0x50000480

@@ -1,9 +1,9 @@
 -- One turn of a check, and what an accepted check says of each entry.
-use Prim.Native.Nat.{ℕ, _+_, _≤_, _<_}
+use Prim.Native.Nat.{ℕ, zero, suc, _+_, _≤_, _<_}
 use native.Mathlib.Omega.{arith}
 use mathlib.Core.Path.{_≡_, refl, sym, ap, _∙_}
-use mathlib.Core.Bool.{Bool, true, false}
-use mathlib.Core.List.{List, []}
+use mathlib.Core.Bool.{Bool, true, false, _||_}
+use mathlib.Core.List.{List, [], _∷_}
 use lib.Dec.{ltb}
 use lib.ListN.{length, getD, drop, drop-of-length-le}
 use borrow.Author.Tests.{lt-ltb, le-ltb, ltb-false}
@@ -11,7 +11,8 @@ use Rattle.records.proofs.Puts.{split}
 use Rattle.cells.specs.declared.count.Total.{Total}
 use Rattle.cells.specs.declared.count.Total.the-variants.{Sum, Refused}
 use Rattle.cells.specs.Entries.{storedStart}
-use Rattle.cells.specs.WriteChecks.{unless, accepted, startOver, checkNodes, checkJunctions}
+use Rattle.cells.specs.NodeWords.{valueCount}
+use Rattle.cells.specs.WriteChecks.{valuesWithin, mapsCut, unless, accepted, startOver, checkNodes, checkJunctions}
 
 unless-accepted : (b : Bool) (cause place : ℕ) (next : Total) → accepted (unless b (Refused cause place) next) ≡ true → (b ≡ false) × (accepted next ≡ true)
 unless-accepted true cause place next e = let z : _≡_ {A = ℕ} 0 1 = cc in absurd (omega arith)
@@ -68,3 +69,32 @@ module _ (count : List ℕ → ℕ) (ns : List (List ℕ)) (place before i : ℕ
         let rest = checkJunctions count (place + 1) (before + count (getD ns i [])) (drop (i + 1) ns) in
         let b = unless-accepted (ltb 65535 before) 10 place rest (ap accepted (sym junctions-open) ∙ e) in
         (ltb-false _ _ (b .0), b .1)
+
+-- ---- 12: heightmaps that are cut
+
+module _ (pool : ℕ) (js : List (List ℕ)) (i : ℕ) where
+  pub maps-end : length js ≤ i → mapsCut pool (drop i js) ≡ false
+  unfolding mapsCut
+  maps-end h = ap (mapsCut pool) (drop-of-length-le js h)
+
+  module _ (h : i < length js) where
+    maps-open : mapsCut pool (drop i js) ≡ ltb (valuesWithin pool (getD js i [])) (valueCount (getD js i [])) || mapsCut pool (drop (i + 1) js)
+    unfolding mapsCut
+    maps-open = ap (mapsCut pool) (split js i [] h)
+
+    pub maps-hit : valuesWithin pool (getD js i []) < valueCount (getD js i []) → mapsCut pool (drop i js) ≡ true
+    maps-hit t = maps-open ∙ rw (lt-ltb (valuesWithin pool (getD js i [])) (valueCount (getD js i [])) t)
+
+    pub maps-next : valueCount (getD js i []) ≤ valuesWithin pool (getD js i []) → mapsCut pool (drop i js) ≡ mapsCut pool (drop (i + 1) js)
+    maps-next t = maps-open ∙ rw (le-ltb (valuesWithin pool (getD js i [])) (valueCount (getD js i [])) t)
+
+none-of : (a b : Bool) → a || b ≡ false → (a ≡ false) × (b ≡ false)
+none-of true b e = let z : _≡_ {A = ℕ} 0 1 = cc in absurd (omega arith)
+none-of false b e = (refl, e)
+
+-- none is cut: each junction has all its values
+pub maps-at : (pool : ℕ) (js : List (List ℕ)) (i : ℕ) → mapsCut pool js ≡ false → i < length js → valueCount (getD js i []) ≤ valuesWithin pool (getD js i [])
+unfolding mapsCut
+maps-at pool [] i e lt = absurd (omega arith)
+maps-at pool (j ∷ js) zero e lt = ltb-false (valuesWithin pool j) (valueCount j) (none-of (ltb (valuesWithin pool j) (valueCount j)) (mapsCut pool js) e .0)
+maps-at pool (j ∷ js) (suc i) e lt = maps-at pool js i (none-of (ltb (valuesWithin pool j) (valueCount j)) (mapsCut pool js) e .1) (omega arith)

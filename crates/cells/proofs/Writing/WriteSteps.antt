@@ -13,7 +13,7 @@ use Rattle.records.proofs.Laid.{section-length}
 use Rattle.records.specs.declared.layout.Places.{Places}
 use Rattle.cells.specs.Checks.{refuseMore}
 use Rattle.cells.specs.Entries.{linksIn, valuesIn}
-use Rattle.cells.specs.WriteChecks.{linksWithin, valuesWithin, accepted, checkNodes, checkJunctions}
+use Rattle.cells.specs.WriteChecks.{linksWithin, valuesWithin, mapsCut, accepted, checkNodes, checkJunctions}
 use Rattle.cells.specs.Blocks.{refsBlock, heightsBlock, junctionsBlock, linksBlock, nodesBlock, arrays, blocks, rootFor, written}
 use Rattle.cells.specs.Memory.{Memory, memory, overLimit}
 use Rattle.cells.specs.Write.{WriteLeft, refuse, orElse, after, stored, writeHeld}
@@ -30,7 +30,7 @@ use Rattle.cells.proofs.Writing.BlockLaws.{nodes-length, links-length, 
 use Rattle.cells.proofs.Writing.Ranges.{link-count, value-count, value-small, node-counts, junction-counts}
 use Rattle.cells.proofs.Writing.WriteTotals.{nodes-total, junctions-total}
 
--- ---- the checks 14 and 8 to 11
+-- ---- the checks 14, 12 and 8 to 11
 
 module _ (y : Ynd) (nodes links junctions : List (List ℕ)) (heights : List ℕ) (refs : List (List ℕ)) where
   nodes-say : (r : Total) → checkNodes (linksWithin (length links)) 0 0 nodes ≡ r → checkNodes (λ n. length (linksIn links n)) 0 0 nodes ≡ r
@@ -46,25 +46,29 @@ module _ (y : Ynd) (nodes links junctions : List (List ℕ)) (heights : List ℕ
   unfolding writeCounts
   over-refused o = rw o
 
-  module _ (o : overLimit y ≡ false) where
+  pub maps-refused : overLimit y ≡ false → mapsCut (y .«heightmap_count») junctions ≡ true → counted.Refused 12 0 ≡ answer
+  unfolding writeCounts
+  maps-refused o c = rw (o, c)
+
+  module _ (o : overLimit y ≡ false) (w : mapsCut (y .«heightmap_count») junctions ≡ false) where
     pub nodes-refused : (cause place : ℕ) → checkNodes (linksWithin (length links)) 0 0 nodes ≡ Refused cause place → counted.Refused cause place ≡ answer
     unfolding writeCounts
-    nodes-refused cause place e = rw (o, nodes-say (Refused cause place) e)
+    nodes-refused cause place e = rw (o, w, nodes-say (Refused cause place) e)
 
     module _ (l : ℕ) (e : checkNodes (linksWithin (length links)) 0 0 nodes ≡ Sum l) where
       pub junctions-refused : (cause place : ℕ) → checkJunctions (valuesWithin (length heights)) 0 0 junctions ≡ Refused cause place → counted.Refused cause place ≡ answer
       unfolding writeCounts
-      junctions-refused cause place f = rw (o, nodes-say (Sum l) e, junctions-say (Refused cause place) f)
+      junctions-refused cause place f = rw (o, w, nodes-say (Sum l) e, junctions-say (Refused cause place) f)
 
       module _ (v : ℕ) (f : checkJunctions (valuesWithin (length heights)) 0 0 junctions ≡ Sum v) where
         pub refs-refused : 65535 < y .«ref_count» → counted.Refused 11 0 ≡ answer
         unfolding writeCounts
-        refs-refused g = rw (o, nodes-say (Sum l) e, junctions-say (Sum v) f, lt-ltb 65535 (y .«ref_count») g)
+        refs-refused g = rw (o, w, nodes-say (Sum l) e, junctions-say (Sum v) f, lt-ltb 65535 (y .«ref_count») g)
 
         pub counted-all : y .«ref_count» ≤ 65535
             → counted.Held (record { nodes = length nodes; links = l; junctions = length junctions; heights = v; refs = length refs }) ≡ answer
         unfolding writeCounts
-        counted-all g = rw (o, nodes-say (Sum l) e, junctions-say (Sum v) f, le-ltb 65535 (y .«ref_count») g)
+        counted-all g = rw (o, w, nodes-say (Sum l) e, junctions-say (Sum v) f, le-ltb 65535 (y .«ref_count») g)
 
   -- what the counts say, once nothing is refused
   pub record Ready (k : Counts) : Type 0 where
@@ -80,6 +84,7 @@ module _ (y : Ynd) (nodes links junctions : List (List ℕ)) (heights : List ℕ
     pub heights-few : k .heights ≤ 130560
     pub refs-are : k .refs ≡ length refs
     pub refs-few : k .refs ≤ 65535
+    pub maps-told : mapsCut (y .«heightmap_count») junctions ≡ false
 
   pub ready : Cut (memory y nodes links junctions heights refs) → (k : Counts) → answer ≡ counted.Held k → Ready k
   unfolding writeCounts
@@ -88,22 +93,26 @@ module _ (y : Ynd) (nodes links junctions : List (List ℕ)) (heights : List ℕ
       (λ t.
       let r : counted.Refused 14 0 ≡ counted.Held k = rw t at h in
       let z : _≡_ {A = ℕ} 0 1 = cc in absurd (omega arith))
-      (λ o. go o (checkNodes (linksWithin (length links)) 0 0 nodes) (checkJunctions (valuesWithin (length heights)) 0 0 junctions) refl refl)
+      (λ o. by-test (mapsCut (y .«heightmap_count») junctions)
+      (λ t.
+      let r : counted.Refused 12 0 ≡ counted.Held k = rw (o, t) at h in
+      let z : _≡_ {A = ℕ} 0 1 = cc in absurd (omega arith))
+      (λ w. go o w (checkNodes (linksWithin (length links)) 0 0 nodes) (checkJunctions (valuesWithin (length heights)) 0 0 junctions) refl refl))
     where
-      go : overLimit y ≡ false → (a b : Total) → checkNodes (linksWithin (length links)) 0 0 nodes ≡ a → checkJunctions (valuesWithin (length heights)) 0 0 junctions ≡ b → Ready k
-      go o (Refused x p) b ea eb =
-          let r : counted.Refused x p ≡ counted.Held k = rw (o, nodes-say (Refused x p) ea) at h in
+      go : overLimit y ≡ false → mapsCut (y .«heightmap_count») junctions ≡ false → (a b : Total) → checkNodes (linksWithin (length links)) 0 0 nodes ≡ a → checkJunctions (valuesWithin (length heights)) 0 0 junctions ≡ b → Ready k
+      go o w (Refused x p) b ea eb =
+          let r : counted.Refused x p ≡ counted.Held k = rw (o, w, nodes-say (Refused x p) ea) at h in
           let z : _≡_ {A = ℕ} 0 1 = cc in absurd (omega arith)
-      go o (Sum l) (Refused x p) ea eb =
-          let r : counted.Refused x p ≡ counted.Held k = rw (o, nodes-say (Sum l) ea, junctions-say (Refused x p) eb) at h in
+      go o w (Sum l) (Refused x p) ea eb =
+          let r : counted.Refused x p ≡ counted.Held k = rw (o, w, nodes-say (Sum l) ea, junctions-say (Refused x p) eb) at h in
           let z : _≡_ {A = ℕ} 0 1 = cc in absurd (omega arith)
-      go o (Sum l) (Sum v) ea eb =
+      go o w (Sum l) (Sum v) ea eb =
           by-test (ltb 65535 (y .«ref_count»))
           (λ t.
-          let r : counted.Refused 11 0 ≡ counted.Held k = rw (o, nodes-say (Sum l) ea, junctions-say (Sum v) eb, t) at h in
+          let r : counted.Refused 11 0 ≡ counted.Held k = rw (o, w, nodes-say (Sum l) ea, junctions-say (Sum v) eb, t) at h in
           let z : _≡_ {A = ℕ} 0 1 = cc in absurd (omega arith))
           (λ u.
-          let r : counted.Held (record { nodes = length nodes; links = l; junctions = length junctions; heights = v; refs = length refs }) ≡ counted.Held k = rw (o, nodes-say (Sum l) ea, junctions-say (Sum v) eb, u) at h in
+          let r : counted.Held (record { nodes = length nodes; links = l; junctions = length junctions; heights = v; refs = length refs }) ≡ counted.Held k = rw (o, w, nodes-say (Sum l) ea, junctions-say (Sum v) eb, u) at h in
           let e : _≡_ {A = Counts} (record { nodes = length nodes; links = l; junctions = length junctions; heights = v; refs = length refs }) k = cc in
           let p = nodes-total (linksIn links) (linksWithin (length links)) (link-count links) 0 0 nodes l (omega arith) ea in
           let q = junctions-total (valuesIn heights) (valuesWithin (length heights)) (value-count heights) (value-small (length heights)) 0 0 junctions v (omega arith) eb in
@@ -122,6 +131,7 @@ module _ (y : Ynd) (nodes links junctions : List (List ℕ)) (heights : List ℕ
             heights-few = omega (arith, ap (λ (x : Counts). x .heights) e, q .1);
             refs-are = sym (ap (λ (x : Counts). x .refs) e);
             refs-few = omega (arith, ap (λ (x : Counts). x .refs) e, cut .refs-cut, few);
+            maps-told = w;
           })
 
 -- ---- where what is counted is written
@@ -160,17 +170,18 @@ module _ (h : Memory) (lack : ℕ) (s : List ℕ) where
   by-counts : ifCounted (countsOf h) ≡ writeHeld h lack s
   unfolding writeHeld writeCounts
   by-counts =
-      go (overLimit (h .ynd)) (checkNodes (λ n. length (linksIn (h .links) n)) 0 0 (h .nodes)) (checkJunctions (λ j. length (valuesIn (h .heights) j)) 0 0 (h .junctions))
+      go (overLimit (h .ynd)) (mapsCut (h .ynd .«heightmap_count») (h .junctions)) (checkNodes (λ n. length (linksIn (h .links) n)) 0 0 (h .nodes)) (checkJunctions (λ j. length (valuesIn (h .heights) j)) 0 0 (h .junctions))
       (ltb 65535 (h .ynd .«ref_count»))
     where
-      go : (o : Bool) (a b : Total) (c : Bool)
-          → ifCounted (refuseMore o 14 0 (ifSum a λ l. ifSum b λ v. refuseMore c 11 0 (counted.Held (record { nodes = length (h .nodes); links = l; junctions = length (h .junctions); heights = v; refs = length (h .refs) }))))
-          ≡ orElse o (refuse 14 0 s) (after a s (after b s (orElse c (refuse 11 0 s) next)))
-      go true a b c = refl
-      go false (Refused x y) b c = refl
-      go false (Sum l) (Refused x y) c = refl
-      go false (Sum l) (Sum v) true = refl
-      go false (Sum l) (Sum v) false = refl
+      go : (o w : Bool) (a b : Total) (c : Bool)
+          → ifCounted (refuseMore o 14 0 (refuseMore w 12 0 (ifSum a λ l. ifSum b λ v. refuseMore c 11 0 (counted.Held (record { nodes = length (h .nodes); links = l; junctions = length (h .junctions); heights = v; refs = length (h .refs) })))))
+          ≡ orElse o (refuse 14 0 s) (orElse w (refuse 12 0 s) (after a s (after b s (orElse c (refuse 11 0 s) next))))
+      go true w a b c = refl
+      go false true a b c = refl
+      go false false (Refused x y) b c = refl
+      go false false (Sum l) (Refused x y) c = refl
+      go false false (Sum l) (Sum v) true = refl
+      go false false (Sum l) (Sum v) false = refl
 
   pub counts-refused : (cause place : ℕ) → countsOf h ≡ counted.Refused cause place → refuse cause place s ≡ writeHeld h lack s
   counts-refused cause place e = ap ifCounted (sym e) ∙ by-counts

@@ -1,35 +1,33 @@
 -- Write-then-read of a cell as reading leaves it is refused exactly as writing is: reading back never refuses.
-use Prim.Native.Nat.{ℕ, _+_, _≤_, _<_}
+use Prim.Native.Nat.{ℕ, _-_, _≤_, min}
 use native.Mathlib.Omega.{arith}
 use mathlib.Core.Path.{_≡_, refl, sym, ap, _∙_}
 use mathlib.Core.Bool.{Bool, true, false}
 use mathlib.Core.List.{List, [], _∷_, _++_, map}
 use lib.Dec.{ltb}
-use lib.ListN.{length, getD, take, drop, length-map, length-take, List·getD-map}
+use lib.ListN.{length, take, drop, length-map, length-take, length-drop}
 use borrow.Author.Tests.{eqb-true, le-ltb}
 use Rattle.records.specs.Put.{joined}
-use Rattle.cells.specs.Lists.{sumTo, every}
-use Rattle.cells.specs.NodeWords.{linkStart, linkCount}
+use Rattle.cells.specs.Lists.{every}
+use Rattle.cells.specs.NodeWords.{linkStart, linkCount, valueStart, valueCount}
 use Rattle.cells.specs.Cell.{Link, Node, Junction}
 use Rattle.cells.specs.CellOf.{linkOf, nodeWith, junctionWith, nodesOf, junctionsOf, cellOf}
-use Rattle.cells.specs.Checks.{scan}
 use Rattle.cells.specs.Memory.{Memory, overLimit, short}
 use Rattle.cells.specs.Read.{roomCheck, readOf}
 use Rattle.cells.specs.Entries.{linksIn, valuesIn}
-use Rattle.cells.specs.WriteChecks.{checkNodes, checkJunctions}
+use Rattle.cells.specs.WriteChecks.{valuesWithin, mapsCut, checkNodes, checkJunctions}
 use Rattle.cells.specs.Blocks.{written}
 use Rattle.cells.specs.Write.{WriteLeft, left, refuse, orElse, after, held, stored, writeHeld, writeCall}
 use Rattle.cells.specs.WriteRead.{Both, ifRead, ifWritten, writeReadOf}
-use Rattle.cells.specs.BackCheck.{then, areaAt, lacks, backCounts, lengths, backTests, backCheck}
+use Rattle.cells.specs.BackCheck.{heldCounts, lengths, backCheck}
 use Rattle.numbers.specs.declared.answer.Answer.{Answer}
 use Rattle.numbers.specs.declared.answer.Answer.the-variants.{Done}
 use Rattle.cells.specs.declared.count.Total.{Total}
 use Rattle.cells.specs.declared.count.Total.the-variants.{Sum, Refused}
 use Rattle.cells.specs.declared.write.Written.{Written}
 use Rattle.cells.specs.declared.write.Written.the-variants as written
-use Rattle.cells.proofs.Sequences.Tests.{map-take, map-drop, every-at, true-false}
-use Rattle.cells.proofs.WritingBack.WrittenBack.{Told, held-cut, write-told}
-use Rattle.cells.proofs.WritingBack.BackCheck.{scan-same, scan-none, sum-same, sum-joined, part-ends, tested-first}
+use Rattle.cells.proofs.Sequences.Tests.{map-take, map-drop, and-left, and-right}
+use Rattle.cells.proofs.WritingBack.BackCheck.{tested-first}
 use Rattle.cells.proofs.Sequences.JoinedCounts.{count-map}
 use Rattle.cells.proofs.WritingBack.AsRead.{wholeMap, AsRead}
 
@@ -49,25 +47,16 @@ values-same : (hs : List ℕ) (js : List (List ℕ)) → length (joined (λ j. j
 unfolding valuesIn
 values-same hs js = count-map (λ (j : Junction). j .values) (junctionWith hs) (valuesIn hs) (λ w. refl) js
 
--- ---- 5: heightmaps that are whole, written one after the other
+-- ---- 12: heightmaps that are whole are not cut
 
-module _ (hs : List ℕ) (js : List (List ℕ)) (t : every wholeMap (map (junctionWith hs) js) ≡ true) where
-  area-is : (i : ℕ) → i < length js → length (valuesIn hs (getD js i [])) ≡ areaAt js i
-  unfolding valuesIn
-  area-is i lt =
-      let at = every-at wholeMap (map (junctionWith hs) js) i (junctionWith hs []) t (let q : i < length (map (junctionWith hs) js) = omega (arith, length-map js (junctionWith hs)) in q) in
-      eqb-true _ _ (ap wholeMap (sym (List·getD-map (junctionWith hs) js i [])) ∙ at)
-
-  none-lacks : scan 5 (lacks hs js) 0 (length js) ≡ Done
-  none-lacks =
-      scan-same 5 (lacks hs js) (λ i. false) 0 (length js) (λ i lt.
-      let in-list : i < length js = omega arith in
-      le-ltb (length (joined (valuesIn hs) js)) (length (joined (valuesIn hs) (take i js)) + areaAt js i)
-      (let q : length (joined (valuesIn hs) (take i js)) + areaAt js i ≤ length (joined (valuesIn hs) js) = omega (arith, area-is i in-list, part-ends (valuesIn hs) js i [] in-list) in q))
-      ∙ scan-none 5 0 (length js)
-
-  areas-sum : sumTo (areaAt js) (length js) ≡ length (joined (valuesIn hs) js)
-  areas-sum = sum-same (areaAt js) (λ i. length (valuesIn hs (getD js i []))) (length js) (λ i lt. sym (area-is i lt)) ∙ sum-joined (valuesIn hs) js []
+none-cut : (pool : ℕ) (hs : List ℕ) (js : List (List ℕ)) → every wholeMap (map (junctionWith (take pool hs)) js) ≡ true → mapsCut pool js ≡ false
+unfolding mapsCut valuesWithin every
+none-cut pool hs [] t = refl
+none-cut pool hs (j ∷ js) t =
+    let all = eqb-true _ (valueCount j) (and-left (wholeMap (junctionWith (take pool hs) j)) _ t) in
+    let fits : valueCount j ≤ min (valueCount j) (pool - valueStart j) =
+    omega (arith, all, length-take (valueCount j) (drop (valueStart j) (take pool hs)), length-drop (valueStart j) (take pool hs), length-take pool hs) in
+    rw (le-ltb (min (valueCount j) (pool - valueStart j)) (valueCount j) fits) (none-cut pool hs js (and-right (wholeMap (junctionWith (take pool hs) j)) _ t))
 
 -- ---- a refused writing leaves the section
 
@@ -99,11 +88,12 @@ held-leaves h lack s =
     let l₂ = orElse (ltb 65535 (h .ynd .«ref_count»)) (refuse 11 0 s) l₃ in
     let l₁ = after (checkJunctions (λ j. length (valuesIn (h .heights) j)) 0 0 (h .junctions)) s l₂ in
     let l₀ = after (checkNodes (λ n. length (linksIn (h .links) n)) 0 0 (h .nodes)) s l₁ in
-    else-leaves (overLimit (h .ynd)) 14 0 s l₀
+    else-leaves (overLimit (h .ynd)) 14 0 s (orElse (mapsCut (h .ynd .«heightmap_count») (h .junctions)) (refuse 12 0 s) l₀)
+    (else-leaves (mapsCut (h .ynd .«heightmap_count») (h .junctions)) 12 0 s l₀
     (after-leaves (checkNodes (λ n. length (linksIn (h .links) n)) 0 0 (h .nodes)) s l₁
     (after-leaves (checkJunctions (λ j. length (valuesIn (h .heights) j)) 0 0 (h .junctions)) s l₂
     (else-leaves (ltb 65535 (h .ynd .«ref_count»)) 11 0 s l₃
-    (else-leaves (ltb lack 5) 7 lack s (stored h s) (stored-leaves h s)))))
+    (else-leaves (ltb lack 5) 7 lack s (stored h s) (stored-leaves h s))))))
 
 refused-leaves : (m : Memory) (s : List ℕ) → Leaves s (writeCall m s)
 unfolding writeCall
@@ -127,10 +117,6 @@ module _ (m : Memory) (h : AsRead m) where
   abbrev hs : List ℕ
   hs = take (m .ynd .«heightmap_count») (m .heights)
 
-  maps : every wholeMap (map (junctionWith hs) js) ≡ true
-  unfolding cellOf junctionsOf
-  maps = h .maps-whole
-
   links-room : length (joined (linksIn ls) ns) ≤ length (m .links)
   unfolding cellOf nodesOf
   links-room = omega (arith, h .links-fit, links-same ls ns)
@@ -139,21 +125,26 @@ module _ (m : Memory) (h : AsRead m) where
   unfolding cellOf junctionsOf
   values-room = omega (arith, h .values-fit, values-same hs js)
 
-  room-enough : roomCheck (backCounts (held m)) (length (m .nodes)) (length (m .links)) (length (m .junctions)) (length (m .heights)) (length (m .refs)) ≡ Done
+  room-enough : roomCheck (heldCounts (held m)) (length (m .nodes)) (length (m .links)) (length (m .junctions)) (length (m .heights)) (length (m .refs)) ≡ Done
   unfolding held roomCheck
   room-enough =
       rw (
         le-ltb (length (m .nodes)) (length ns) (taken-few (m .ynd .«node_count») (m .nodes)),
         le-ltb (length (m .links)) (length (joined (linksIn ls) ns)) links-room,
         le-ltb (length (m .junctions)) (length js) (taken-few (m .ynd .«junction_count») (m .junctions)),
-        le-ltb (length (m .heights)) (sumTo (areaAt js) (length js)) (omega (arith, areas-sum hs js maps, values-room)),
+        le-ltb (length (m .heights)) (length (joined (valuesIn hs) js)) values-room,
         le-ltb (length (m .refs)) (length (take (m .ynd .«ref_count») (m .refs))) (taken-few (m .ynd .«ref_count») (m .refs)),
       )
       refl
 
   back-done : backCheck (held m) (lengths m) ≡ Done
-  unfolding backCheck backTests held
-  back-done = λ i. then (none-lacks hs js maps i) (room-enough i)
+  unfolding backCheck held
+  back-done = room-enough
+
+  -- 12 never comes
+  pub maps-kept : mapsCut (m .ynd .«heightmap_count») (held m .junctions) ≡ false
+  unfolding cellOf junctionsOf held
+  maps-kept = none-cut (m .ynd .«heightmap_count») (m .heights) js (h .maps-whole)
 
   -- what an accepted writing is followed by
   wrote : (s : List ℕ) (n : ℕ) → writeCall m s .answer ≡ written.Wrote n

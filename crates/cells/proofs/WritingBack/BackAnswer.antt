@@ -7,16 +7,13 @@ use mathlib.Core.List.{List, [], _++_}
 use lib.Dec.{ltb}
 use lib.ListN.{length, take, drop}
 use borrow.Author.Tests.{lt-ltb, le-ltb, ltb-true, ltb-false}
-use Rattle.cells.specs.Checks.{totalOf}
 use Rattle.cells.specs.Memory.{Memory, short, shortOf}
 use Rattle.cells.specs.Read.{readOf}
 use Rattle.cells.specs.Blocks.{written}
 use Rattle.cells.specs.Write.{WriteLeft, left, refuse, orElse, held, stored, writeCall}
 use Rattle.cells.specs.WriteRead.{Both, ifRead, ifWritten, writeReadOf}
-use Rattle.cells.specs.BackCheck.{then, heldCounts, lengths, backTests, backCheck}
+use Rattle.cells.specs.BackCheck.{heldCounts, lengths, backTests, backCheck}
 use Rattle.cells.specs.BackAnswer.{ifCounted, notIf, wroteIf, backAnswer}
-use Rattle.cells.specs.declared.count.Total.{Total}
-use Rattle.cells.specs.declared.count.Total.the-variants as total
 use Rattle.cells.specs.declared.count.Counts.{Counts}
 use Rattle.cells.specs.declared.count.Counted.{Counted}
 use Rattle.cells.specs.declared.count.Counted.the-variants as counted
@@ -25,19 +22,8 @@ use Rattle.numbers.specs.declared.answer.Answer.the-variants as answer
 use Rattle.cells.specs.declared.write.Written.{Written}
 use Rattle.cells.specs.declared.write.Written.the-variants.{Wrote, Refused}
 use Rattle.cells.proofs.Writing.WriteSteps.{Ready, countsOf, counts-refused, list-refused, goes-on}
-use Rattle.cells.proofs.WritingBack.WrittenBack.{held-cut, write-told}
+use Rattle.cells.proofs.WritingBack.WrittenBack.{write-told}
 use Rattle.cells.proofs.WritingBack.BackCheck.{tested-first}
-
--- ---- 5, 7
-
--- what a scan that gives a sum says
-pub then-refused : (x : Answer) (n : ℕ) (next : Answer) (t : Total) (cause place : ℕ) → t ≡ totalOf x n → t ≡ total.Refused cause place → answer.Refused cause place ≡ then x next
-then-refused answer.Done n next t cause place e f = let z : _≡_ {A = ℕ} 0 1 = cc in absurd (omega arith)
-then-refused (answer.Refused a b) n next t cause place e f = cc
-
-pub then-sum : (x : Answer) (n : ℕ) (next : Answer) (t : Total) (m : ℕ) → t ≡ totalOf x n → t ≡ total.Sum m → next ≡ then x next
-then-sum answer.Done n next t m e f = refl
-then-sum (answer.Refused a b) n next t m e f = let z : _≡_ {A = ℕ} 0 1 = cc in absurd (omega arith)
 
 -- ---- the tests in their order
 
@@ -57,11 +43,11 @@ module _ (h : Memory) (lent : Counts) (section : ℕ) where
       room-first u = sym (rw (e, le-ltb (shortOf (h .ynd) (lent .nodes) (lent .links) (lent .junctions) (lent .heights) (lent .refs)) 5 (omega (arith, f, t)), lt-ltb section (length (written h)) u))
 
       pub back-last : length (written h) ≤ section → Ready (h .ynd) (h .nodes) (h .links) (h .junctions) (h .heights) (h .refs) k → (d : Answer) (all : ℕ) → all ≡ length (written h)
-          → d ≡ backTests k (h .heights) (h .junctions) lent → wroteIf d all ≡ backAnswer h lent section
+          → d ≡ backTests k lent → wroteIf d all ≡ backAnswer h lent section
       unfolding backAnswer backCheck
       back-last u r d all same g =
           let counts : k ≡ heldCounts h = λ i. record { nodes = r .nodes-are i; links = r .links-are i; junctions = r .junctions-are i; heights = r .heights-are i; refs = r .refs-are i } in
-          (λ i. wroteIf (g i) all) ∙ (λ i. wroteIf (backTests (counts i) (h .heights) (h .junctions) lent) (same i))
+          (λ i. wroteIf (g i) all) ∙ (λ i. wroteIf (backTests (counts i) lent) (same i))
           ∙ sym (rw (e, le-ltb (shortOf (h .ynd) (lent .nodes) (lent .links) (lent .junctions) (lent .heights) (lent .refs)) 5 (omega (arith, f, t)), le-ltb section (length (written h)) u))
 
 -- ---- and what the call leaves
@@ -99,7 +85,7 @@ module _ (m : Memory) (s : List ℕ) where
       go (answer.Refused cause place) g = g
       go answer.Done g = record {
         room = room;
-        is = g ∙ ap (λ (x : List ℕ). record { answer = Wrote n; memory = readOf x [] m .memory; section = writeCall m s .section }) (sym (write-told (held m) (held-cut m) (short m) s n wrote .bytes));
+        is = g ∙ ap (λ (x : List ℕ). record { answer = Wrote n; memory = readOf x [] m .memory; section = writeCall m s .section }) (sym (write-told m s n wrote .bytes));
       }
 
   by-room : stored (held m) s ≡ writeCall m s → (b : Bool) → ltb (length s) n ≡ b → Means (notIf b 7 5 (wroteIf back n))

@@ -1,4 +1,4 @@
--- Reading back what an accepted writing wrote is refused exactly as `backCheck` says: with 5 or 7, never with 2 or 6.
+-- Reading back what an accepted writing wrote is refused exactly as `backCheck` says: with 7, and never for the file.
 use Prim.Native.Nat.{ℕ, zero, suc, _+_, _*_, _/_, _%_, _≤_, _<_}
 use native.Mathlib.Omega.{arith}
 use native.Mathlib.Nat.{zero-add}
@@ -20,14 +20,17 @@ use Rattle.numbers.specs.declared.answer.Answer.the-variants.{Done, Refused}
 use Rattle.cells.specs.Lists.{sumTo}
 use Rattle.cells.specs.Words.{toNode, toJunction}
 use Rattle.cells.specs.Checks.{rootRead, refuseIf, tooFew, sizesCheck, opened, arraysFound, scan, linksAt, valuesAt, badNode, badJunction, refuseMore, after, nodesScan, junctionsScan, countsOf, arraysCheck}
-use Rattle.cells.specs.Memory.{Memory, Left, unless, short}
+use Rattle.cells.specs.Memory.{Memory, Left, unless}
 use Rattle.cells.specs.Read.{filled, roomCheck, ifHeld, ifFound, readArrays, readOf}
 use Rattle.cells.specs.Entries.{linksIn, valuesIn, storedStart, fileNode, fileJunction}
-use Rattle.cells.specs.WriteChecks.{accepted, checkNodes, checkJunctions}
+use Rattle.cells.specs.NodeWords.{valueCount}
+use Rattle.cells.specs.WriteChecks.{valuesWithin, mapsCut, accepted, checkNodes, checkJunctions}
+use Rattle.cells.proofs.Writing.CheckTurns.{maps-at}
+use Rattle.cells.proofs.Writing.Ranges.{value-count}
 use Rattle.cells.specs.Blocks.{refsBlock, heightsBlock, junctionRecord, junctionsBlock, nodeRecord, linksBlock, nodesBlock, written}
 use Rattle.cells.specs.Write.{held, writeCall}
 use Rattle.cells.specs.WriteRead.{ifRead, ifWritten, writeReadOf}
-use Rattle.cells.specs.BackCheck.{then, areaAt, lacks, backCounts, lengths, backTests, backCheck}
+use Rattle.cells.specs.BackCheck.{heldCounts, lengths, backTests, backCheck}
 use Rattle.cells.specs.declared.arrays.Found.the-variants as found
 use Rattle.cells.specs.declared.count.Counts.{Counts}
 use Rattle.cells.specs.declared.count.Counted.{Counted}
@@ -39,7 +42,7 @@ use Rattle.cells.proofs.Sequences.Joined.{laid-at}
 use Rattle.cells.proofs.Writing.BlockLaws.{nodes-length, links-length, junctions-length, refs-length}
 use Rattle.cells.proofs.WritingBack.BlocksBack.{junctions-ok, stands-at, junction-in, startOf, node-record}
 use Rattle.cells.proofs.WritingBack.SectionBack.{long-enough, root-read, nodes-here, links-here, junctions-here, heights-here, refs-here}
-use Rattle.cells.proofs.WritingBack.WrittenBack.{Told, held-cut, write-told}
+use Rattle.cells.proofs.WritingBack.WrittenBack.{Told, write-told}
 use Rattle.cells.proofs.WritingBack.WrittenFew.{written-few}
 
 -- ---- scans and sums
@@ -120,24 +123,34 @@ module _ (heights : List ℕ) (js : List (List ℕ)) (ok : accepted (checkJuncti
       (stands-at block-j (junctionRecord start w) 12 i (junction-length (fileJunction start (toJunction w)))
       (laid-at (valuesIn heights) junctionRecord 12 (λ s j. junction-length (fileJunction s (toJunction j))) 0 js i [] lt ∙ ap (λ (s : ℕ). junctionBytes (fileJunction s (toJunction w))) (zero-add start)))
 
-  area-at : (i : ℕ) → i < length js → valuesAt block-j i ≡ areaAt js i
-  unfolding fileJunction toJunction
-  area-at i lt = ap (λ r. r .«heightmap_dim_x» * r .«heightmap_dim_y») (junction-record i lt)
-
-  bad-at : (i : ℕ) → i < length js → badJunction block-j (length (heightsBlock heights js)) i ≡ lacks heights js i
-  unfolding fileJunction toJunction
-  bad-at i lt = ap (λ r. ltb (length (heightsBlock heights js)) (r .«heightmap_ptr» + r .«heightmap_dim_x» * r .«heightmap_dim_y»)) (junction-record i lt)
-
   size-j : length block-j / 12 ≡ length js
   size-j = omega (arith, junctions-length heights js)
 
-  pub same-5 : junctionsScan block-j (heightsBlock heights js) ≡ scan 5 (lacks heights js) 0 (length js)
-  same-5 =
-      ap (scan 5 (badJunction block-j (length (heightsBlock heights js))) 0) size-j
-      ∙ scan-same 5 (badJunction block-j (length (heightsBlock heights js))) (lacks heights js) 0 (length js) (λ i h. bad-at i (omega arith))
+  -- no heightmap is cut: all values are written
+  module _ (pool : ℕ) (all : mapsCut pool js ≡ false) (lent : pool ≤ length heights) where
+    values-all : (i : ℕ) → i < length js → valueCount (getD js i []) ≡ length (valuesIn heights (getD js i []))
+    unfolding valuesWithin
+    values-all i lt = omega (arith, maps-at pool js i all lt, value-count heights (getD js i []), lent)
 
-  pub heights-sum : sumTo (valuesAt block-j) (length block-j / 12) ≡ sumTo (areaAt js) (length js)
-  heights-sum = ap (sumTo (valuesAt block-j)) size-j ∙ sum-same (valuesAt block-j) (areaAt js) (length js) area-at
+    count-j : (i : ℕ) → i < length js → valuesAt block-j i ≡ length (valuesIn heights (getD js i []))
+    unfolding fileJunction toJunction
+    count-j i lt = ap (λ r. r .«heightmap_dim_x» * r .«heightmap_dim_y») (junction-record i lt) ∙ values-all i lt
+
+    start-j : (i : ℕ) → i < length js → junctionAt block-j (i * 12) .«heightmap_ptr» ≡ length (joined (valuesIn heights) (take i js))
+    unfolding fileJunction
+    start-j i lt = ap (λ r. r .«heightmap_ptr») (junction-record i lt)
+
+    pub no-5 : junctionsScan block-j (heightsBlock heights js) ≡ Done
+    no-5 =
+        ap (scan 5 (badJunction block-j (length (heightsBlock heights js))) 0) size-j
+        ∙ scan-same 5 (badJunction block-j (length (heightsBlock heights js))) (λ j. false) 0 (length js)
+        (λ i h. let lt : i < length js = omega arith in
+        le-ltb (length (heightsBlock heights js)) (junctionAt block-j (i * 12) .«heightmap_ptr» + valuesAt block-j i)
+        (let q : junctionAt block-j (i * 12) .«heightmap_ptr» + valuesAt block-j i ≤ length (heightsBlock heights js) = omega (arith, start-j i lt, count-j i lt, part-ends (valuesIn heights) js i [] lt) in q))
+        ∙ scan-none 5 0 (length js)
+
+    pub heights-sum : sumTo (valuesAt block-j) (length block-j / 12) ≡ length (joined (valuesIn heights) js)
+    heights-sum = ap (sumTo (valuesAt block-j)) size-j ∙ sum-same (valuesAt block-j) (λ i. length (valuesIn heights (getD js i []))) (length js) count-j ∙ sum-joined (valuesIn heights) js []
 
 -- ---- from the five arrays
 
@@ -157,29 +170,28 @@ module _ (h : Memory) (told : Told h) (m : Memory) where
   abbrev rs : List ℕ
   rs = refsBlock (h .refs)
 
-  counts-are : countsOf ns js rs ≡ backCounts h
+  counts-are : countsOf ns js rs ≡ heldCounts h
   counts-are = λ i. record {
     nodes = size (h .links) (h .nodes) (told .nodes-told) i;
     links = links-sum (h .links) (h .nodes) (told .nodes-told) i;
     junctions = size-j (h .heights) (h .junctions) (told .junctions-told) i;
-    heights = heights-sum (h .heights) (h .junctions) (told .junctions-told) i;
+    heights = heights-sum (h .heights) (h .junctions) (told .junctions-told) (h .ynd .«heightmap_count») (told .maps-told) (told .values-lent) i;
     refs = (let e : length rs / 8 ≡ length (h .refs) = omega (arith, refs-length (h .refs)) in e) i;
   }
 
   abbrev roomOf : Counts → Answer
   roomOf k = roomCheck k (length (m .nodes)) (length (m .links)) (length (m .junctions)) (length (m .heights)) (length (m .refs))
 
-  pub arrays-done : (root : Root) → readArrays root ns ls js hs rs m .answer
-      ≡ then (scan 5 (lacks (h .heights) (h .junctions)) 0 (length (h .junctions))) (roomOf (backCounts h))
+  pub arrays-done : (root : Root) → readArrays root ns ls js hs rs m .answer ≡ roomOf (heldCounts h)
   unfolding readArrays arraysCheck
   arrays-done root =
       (λ i. reading (refuseMore (ltb 65536 (size (h .links) (h .nodes) (told .nodes-told) i)) 6 0
       (refuseMore (ltb 4096 (size-j (h .heights) (h .junctions) (told .junctions-told) i)) 6 1
-      (after (no-4 (h .links) (h .nodes) (told .nodes-told) i) (after (same-5 (h .heights) (h .junctions) (told .junctions-told) i) (counted.Held (counts-are i)))))) .answer)
+      (after (no-4 (h .links) (h .nodes) (told .nodes-told) i)
+      (after (no-5 (h .heights) (h .junctions) (told .junctions-told) (h .ynd .«heightmap_count») (told .maps-told) (told .values-lent) i) (counted.Held (counts-are i)))))) .answer)
       ∙ (λ i. reading (refuseMore (le-ltb 65536 (length (h .nodes)) (told .nodes-few) i) 6 0
-      (refuseMore (le-ltb 4096 (length (h .junctions)) (told .junctions-few) i) 6 1
-      (after Done (after (scan 5 (lacks (h .heights) (h .junctions)) 0 (length (h .junctions))) (counted.Held (backCounts h)))))) .answer)
-      ∙ go (scan 5 (lacks (h .heights) (h .junctions)) 0 (length (h .junctions)))
+      (refuseMore (le-ltb 4096 (length (h .junctions)) (told .junctions-few) i) 6 1 (counted.Held (heldCounts h)))) .answer)
+      ∙ room-done (roomOf (heldCounts h)) (filled root (heldCounts h) ns ls js hs rs m)
     where
       reading : Counted → Left
       reading c = ifHeld c m λ k. unless (roomOf k) m (record { answer = Done; memory = filled root k ns ls js hs rs m })
@@ -188,10 +200,6 @@ module _ (h : Memory) (told : Told h) (m : Memory) where
       room-done Done x = refl
       room-done (Refused a b) x = refl
 
-      go : (c : Answer) → reading (after c (counted.Held (backCounts h))) .answer ≡ then c (roomOf (backCounts h))
-      go (Refused x y) = refl
-      go Done = room-done (roomOf (backCounts h)) (filled root (backCounts h) ns ls js hs rs m)
-
 -- ---- from the section
 
 not-few : (h : Memory) → tooFew (length (written h)) ≡ false
@@ -199,7 +207,7 @@ not-few h = rw (le-ltb (length (written h)) 112 (long-enough h))
 
 -- reading back, after an accepted writing
 pub read-back-done : (h m : Memory) → Told h → readOf (written h) [] m .answer ≡ backCheck h (lengths m)
-unfolding readOf backCheck backTests sizesCheck arraysFound
+unfolding readOf backCheck sizesCheck arraysFound
 read-back-done h m told =
     let few = written-few h told in
     rw (le-ltb 16777216 (length w) few, not-few h) (found-all few)
@@ -214,17 +222,12 @@ read-back-done h m told =
     by a b c d f =
         ifFound (opened 0 a λ n. opened 1 b λ l. opened 2 c λ j. opened 3 d λ t. opened 4 f λ r. found.Arrays (record { nodes = n; links = l; junctions = j; heights = t; refs = r })) m reading
 
-    after-sizes : Answer
-    after-sizes =
-        then (scan 5 (lacks (h .heights) (h .junctions)) 0 (length (h .junctions)))
-        (roomCheck (backCounts h) (length (m .nodes)) (length (m .links)) (length (m .junctions)) (length (m .heights)) (length (m .refs)))
-
     parts : Root → Left
     parts r =
         by (located (r .nodes) (r .«node_count») 40 (length w) 0) (located (r .links) (r .«link_count») 8 (length w) 0) (located (r .junctions) (r .«junction_count») 12 (length w) 0)
         (located (r .heightmap) (r .«heightmap_count») 1 (length w) 0) (located (r .refs) (r .«ref_count») 8 (length w) 0)
 
-    found-all : length w ≤ 16777216 → parts (rootRead w) .answer ≡ after-sizes
+    found-all : length w ≤ 16777216 → parts (rootRead w) .answer ≡ backTests (heldCounts h) (lengths m)
     found-all q =
         let a = nodes-here h (told .refs-told) q in
         let b = links-here h (told .refs-told) q in
@@ -236,22 +239,21 @@ read-back-done h m told =
         ∙ (λ i. readArrays (rootRead w) (a .bytes i) (b .bytes i) (c .bytes i) (d .bytes i) (f .bytes i) m .answer)
         ∙ arrays-done h told m (rootRead w)
 
--- So no call writes a section that reading refuses by its size or its limits, whatever memory it is lent: what is left are
--- heightmaps that were cut (5) and lists that are too short (7).
+-- So no call writes a section that reading refuses, whatever memory it is lent, but for lists that are too short (7).
 pub read-after-write : (m lent : Memory) (s : List ℕ) (n : ℕ) → writeCall m s .answer ≡ written.Wrote n
-    → readOf (take n (writeCall m s .section)) [] lent .answer ≡ backCheck (held m) (lengths lent)
-unfolding writeCall
+    → readOf (take n (writeCall m s .section)) [] lent .answer ≡ backTests (heldCounts (held m)) (lengths lent)
+unfolding backCheck
 read-after-write m lent s n e =
-    let w = write-told (held m) (held-cut m) (short m) s n e in
+    let w = write-told m s n e in
     ap (λ (x : List ℕ). readOf x [] lent .answer) (w .bytes) ∙ read-back-done (held m) lent (w .told)
 
 -- so write-then-read may test first, and write only what will be read back
 pub tested-first : (m : Memory) (s : List ℕ) (n : ℕ) → writeCall m s .answer ≡ written.Wrote n
     → writeReadOf m s ≡ ifRead n (writeCall m s .section) (backCheck (held m) (lengths m)) (readOf (written (held m)) [] m .memory) m s
-unfolding writeReadOf writeCall
+unfolding writeReadOf
 tested-first m s n e =
     let t = writeCall m s .section in
-    let w = write-told (held m) (held-cut m) (short m) s n e in
+    let w = write-told m s n e in
     ap (λ (a : Written). ifWritten a t m s) e
     ∙ ap (λ (x : List ℕ). ifRead n t (readOf x [] m .answer) (readOf x [] m .memory) m s) (w .bytes)
     ∙ ap (λ (c : Answer). ifRead n t c (readOf (written (held m)) [] m .memory) m s) (read-back-done (held m) m (w .told))

@@ -22,7 +22,7 @@ use Rattle.cells.specs.Read.{ifFound, readArrays, readOf}
 use Rattle.cells.specs.CellOf.{cellOf}
 use Rattle.cells.specs.FileCell.{fileCell}
 use Rattle.cells.specs.Entries.{linksIn}
-use Rattle.cells.specs.WriteChecks.{checkNodes, checkJunctions}
+use Rattle.cells.specs.WriteChecks.{mapsCut, checkNodes, checkJunctions}
 use Rattle.cells.specs.Blocks.{laid, arrays, rootFor, written}
 use Rattle.cells.specs.Write.{WriteLeft, held, stored, writeHeld, writeCall}
 use Rattle.cells.specs.WriteRead.{writeReadOf}
@@ -84,7 +84,7 @@ module _ (nodes links junctions : List (List ℕ)) (heights : List ℕ) (refs : 
   undrawn-root = refl
 
   undrawn-goes-on : (s : List ℕ) → writeCall undrawn s ≡ stored (held undrawn) s
-  unfolding newYnd writeCall held overLimit writeHeld shortOf checkNodes checkJunctions linksIn
+  unfolding newYnd writeCall held overLimit writeHeld mapsCut shortOf checkNodes checkJunctions linksIn
   undrawn-goes-on s =
       rw (
         le-ltb (length nodes) 0 (omega arith),

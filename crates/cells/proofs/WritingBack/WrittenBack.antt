@@ -2,7 +2,7 @@
 use Prim.Native.Nat.{ℕ, _%_, _≤_, _<_}
 use native.Mathlib.Omega.{arith}
 use mathlib.Core.Path.{_≡_, refl, sym, ap, _∙_}
-use mathlib.Core.Bool.{Bool, true, false}
+use mathlib.Core.Bool.{Bool, true, false, cond}
 use mathlib.Core.List.{List, [], _∷_, _++_, map}
 use lib.Dec.{eqb, ltb}
 use lib.ListN.{length, take, drop, length-take}
@@ -14,14 +14,14 @@ use Rattle.numbers.specs.declared.answer.Answer.{Answer}
 use Rattle.numbers.specs.declared.answer.Answer.the-variants as answer
 use Rattle.cells.specs.Lists.{every}
 use Rattle.cells.specs.Checks.{rootRead, sizesCheck, arraysFound}
-use Rattle.cells.specs.Memory.{Memory, unless, overLimit, short}
+use Rattle.cells.specs.Memory.{Memory, unless, overLimit, short, shortOf}
 use Rattle.cells.specs.Read.{ifFound, readArrays, readOf}
 use Rattle.cells.specs.Cell.{Cell}
 use Rattle.cells.specs.CellOf.{linkOf, refOf, nodeWith, junctionWith, nodesOf, junctionsOf, refsOf, cellOf}
 use Rattle.cells.specs.FileCell.{cellFrom, cellBy, fileCell}
 use Rattle.cells.proofs.WritingBack.KeptCells.{keptNode, keptJunction, keptRef, isWord, keptRoot, kept}
 use Rattle.cells.specs.Entries.{linksIn, valuesIn}
-use Rattle.cells.specs.WriteChecks.{accepted, checkNodes, checkJunctions}
+use Rattle.cells.specs.WriteChecks.{mapsCut, accepted, checkNodes, checkJunctions}
 use Rattle.cells.specs.Blocks.{refsBlock, heightsBlock, junctionsBlock, linksBlock, nodesBlock, blocks, rootFor, written}
 use Rattle.cells.specs.Write.{WriteLeft, left, refuse, orElse, after, held, stored, writeHeld, writeCall}
 use Rattle.cells.specs.WriteCounts.{Cut}
@@ -30,7 +30,7 @@ use Rattle.cells.specs.declared.count.Total.{Total}
 use Rattle.cells.specs.declared.count.Total.the-variants.{Sum, Refused}
 use Rattle.cells.specs.declared.write.Written.{Written}
 use Rattle.cells.specs.declared.write.Written.the-variants as written
-use Rattle.cells.proofs.Sequences.Tests.{and-left, and-right}
+use Rattle.cells.proofs.Sequences.Tests.{and-left, and-right, true-false}
 use Rattle.cells.proofs.Forms.Limits.{within}
 use Rattle.cells.proofs.Reading.ReadLaws.{small}
 use Rattle.cells.proofs.Reading.FileRead.{read-cell}
@@ -68,6 +68,8 @@ pub record Told (h : Memory) : Type 0 where
   pub refs-told : length (h .refs) ≤ 65535
   pub nodes-few : length (h .nodes) ≤ 65536
   pub junctions-few : length (h .junctions) ≤ 4096
+  pub maps-told : mapsCut (h .ynd .«heightmap_count») (h .junctions) ≡ false
+  pub values-lent : h .ynd .«heightmap_count» ≤ length (h .heights)
 
 -- the cell whose lists are h, each whole
 abbrev wholeOf : Memory → Cell
@@ -169,16 +171,35 @@ held-cut m =
     few : (n : ℕ) (l : List (List ℕ)) → length (take n l) ≤ n
     few n l = omega (arith, length-take n l)
 
-pub write-told : (h : Memory) → Cut h → (lack : ℕ) (s : List ℕ) (n : ℕ) → writeHeld h lack s .answer ≡ written.Wrote n → Held h (writeHeld h lack s) n
+-- the heightmap values are all lent, where no list is too short
+values-all : (m : Memory) → ltb (short m) 5 ≡ false → m .ynd .«heightmap_count» ≤ length (held m .heights)
+unfolding held shortOf
+values-all m t =
+    go (ltb (length (m .nodes)) (m .ynd .«node_count»)) (ltb (length (m .links)) (m .ynd .«link_count»)) (ltb (length (m .junctions)) (m .ynd .«junction_count»))
+    (ltb (length (m .heights)) (m .ynd .«heightmap_count»)) (ltb (length (m .refs)) (m .ynd .«ref_count»)) refl t
+  where
+    go : (a b c d f : Bool) → ltb (length (m .heights)) (m .ynd .«heightmap_count») ≡ d → ltb (cond a 0 (cond b 1 (cond c 2 (cond d 3 (cond f 4 5))))) 5 ≡ false
+        → m .ynd .«heightmap_count» ≤ length (take (m .ynd .«heightmap_count») (m .heights))
+    go true b c d f u e = true-false e
+    go false true c d f u e = true-false e
+    go false false true d f u e = true-false e
+    go false false false true f u e = true-false e
+    go false false false false f u e = omega (arith, length-take (m .ynd .«heightmap_count») (m .heights), ltb-false (length (m .heights)) (m .ynd .«heightmap_count») u)
+
+held-told : (h : Memory) → Cut h → (lack : ℕ) → (ltb lack 5 ≡ false → h .ynd .«heightmap_count» ≤ length (h .heights))
+    → (s : List ℕ) (n : ℕ) → writeHeld h lack s .answer ≡ written.Wrote n → Held h (writeHeld h lack s) n
 unfolding writeHeld
-write-told h cut lack s n e₀ =
+held-told h cut lack lent s n e₀ =
     let l₄ = stored h s in
     let l₃ = orElse (ltb lack 5) (refuse 7 lack s) l₄ in
     let l₂ = orElse (ltb 65535 (h .ynd .«ref_count»)) (refuse 11 0 s) l₃ in
     let l₁ = after (checkJunctions (λ j. length (valuesIn (h .heights) j)) 0 0 (h .junctions)) s l₂ in
     let l₀ = after (checkNodes (λ n. length (linksIn (h .links) n)) 0 0 (h .nodes)) s l₁ in
-    let r₀ = else-told (overLimit (h .ynd)) 14 0 s l₀ n e₀ in
-    let e : l₀ .answer ≡ written.Wrote n = ap (λ (l : WriteLeft). l .answer) (sym (r₀ .1)) ∙ e₀ in
+    let l = orElse (mapsCut (h .ynd .«heightmap_count») (h .junctions)) (refuse 12 0 s) l₀ in
+    let r₀ = else-told (overLimit (h .ynd)) 14 0 s l n e₀ in
+    let e₅ : l .answer ≡ written.Wrote n = ap (λ (l : WriteLeft). l .answer) (sym (r₀ .1)) ∙ e₀ in
+    let r₅ = else-told (mapsCut (h .ynd .«heightmap_count») (h .junctions)) 12 0 s l₀ n e₅ in
+    let e : l₀ .answer ≡ written.Wrote n = ap (λ (l : WriteLeft). l .answer) (sym (r₅ .1)) ∙ e₅ in
     let limits = within (h .ynd) (r₀ .0) in
     let r₁ = after-told (checkNodes (λ n. length (linksIn (h .links) n)) 0 0 (h .nodes)) s l₁ n e in
     let e₁ : l₁ .answer ≡ written.Wrote n = ap (λ (l : WriteLeft). l .answer) (sym (r₁ .1)) ∙ e in
@@ -195,9 +216,15 @@ write-told h cut lack s n e₀ =
         refs-told = omega (arith, ltb-false 65535 (h .ynd .«ref_count») (r₃ .0), cut .refs-cut);
         nodes-few = omega (arith, limits .0, cut .nodes-cut);
         junctions-few = omega (arith, limits .1, cut .junctions-cut);
+        maps-told = r₅ .0;
+        values-lent = lent (r₄ .0);
       };
-      bytes = ap (λ (l : WriteLeft). take n (l .section)) (r₀ .1 ∙ r₁ .1 ∙ r₂ .1 ∙ r₃ .1 ∙ r₄ .1) ∙ stored-told h s n e₄;
+      bytes = ap (λ (l : WriteLeft). take n (l .section)) (r₀ .1 ∙ r₅ .1 ∙ r₁ .1 ∙ r₂ .1 ∙ r₃ .1 ∙ r₄ .1) ∙ stored-told h s n e₄;
     }
+
+pub write-told : (m : Memory) (s : List ℕ) (n : ℕ) → writeCall m s .answer ≡ written.Wrote n → Held (held m) (writeCall m s) n
+unfolding writeCall held
+write-told m s n e = held-told (held m) (held-cut m) (short m) (values-all m) s n e
 
 -- an accepted reading is of at most 16,777,216 bytes
 read-few : (s g : List ℕ) (m : Memory) → readOf s g m .answer ≡ answer.Done → length s ≤ 16777216
@@ -216,7 +243,7 @@ whole-held m = refl
 
 -- write-then-read, accepted or not, leaves a cell that storing keeps
 pub write-read-same : (m : Memory) (s : List ℕ) → kept (cellOf m) ≡ true → cellOf (writeReadOf m s .memory) ≡ cellOf m
-unfolding writeReadOf writeCall
+unfolding writeReadOf
 write-read-same m s k = go (writeCall m s .answer) refl
   where
     t : List ℕ
@@ -231,4 +258,4 @@ write-read-same m s k = go (writeCall m s .answer) refl
 
     go : (a : Written) → writeCall m s .answer ≡ a → cellOf (ifWritten a t m s .memory) ≡ cellOf m
     go (written.Refused x y) e = refl
-    go (written.Wrote n) e = let w = write-told (held m) (held-cut m) (short m) s n e in reading n (w .bytes) (w .told) (readOf (take n t) [] m .answer) refl
+    go (written.Wrote n) e = let w = write-told m s n e in reading n (w .bytes) (w .told) (readOf (take n t) [] m .answer) refl

@@ -62,11 +62,6 @@ returns-3 c =
     let begin = after-a .before .before .before .before in
     room-first (cell begin) (begin .args .lent) (begin .args .section) (after-a .a .given .0 .0) (counts after-a) (after-lacking .lacking .result) (after-lacking .lacking .ensures) (else1 .if1 .left) (omega (arith, ends after-places-for, c .if2 .taken))
 
-back-check-requires : tie.Need-back-check-requires
-back-check-requires c κs =
-    let t = told (c .before .before .before .before .before) in
-    (omega (arith, t .junctions-are, t .junctions-few), t .heights-are, t .heights-few)
-
 returns-4 : tie.Need-returns-4
 returns-4 c =
     let after-b = c .before in
@@ -105,7 +100,7 @@ answer-held-spec =
     returns-2
     places-for-requires
     returns-3
-    back-check-requires
+    (λ c κs. search needs)
     (λ c. search needs)
     (λ c. search needs)
     returns-4

@@ -1,6 +1,5 @@
 -- `exports::sections::ynd_root` meets its contract. Assumes nothing.
-use mathlib.Core.Path.{ap, _∙_}
-use borrow.Author.Tests.{lt-ltb, le-ltb}
+use mathlib.Core.Path.{sym, ap, _∙_}
 use Rattle.records.specs.Root.{rootWords}
 use Rattle.exports.specs.Found.{told}
 use Rattle.exports.specs.Parts.{rootTold}
@@ -10,18 +9,25 @@ use Rattle.exports.proofs.sections.ynd_root.Tie as tie
 
 returns : tie.Need-returns
 unfolding rootTold
-returns c = rw (lt-ltb _ _ (c .if1 .taken))
+returns c =
+    let after-check-root = c .before .before .before in
+    rw (sym (after-check-root .check-root .ensures) ∙ c .before .a .given .1)
 
 returns-2 : tie.Need-returns-2
 unfolding rootTold
-returns-2 c = rw (le-ltb _ _ (c .before .if1 .left), lt-ltb _ _ (c .if2 .taken))
-
-returns-3 : tie.Need-returns-3
-unfolding rootTold
-returns-3 c =
-    let else2 = c .before .before in
-    let e = c .root-words .ensures ∙ ap rootWords (c .before .root-of .ensures) in
-    rw (le-ltb _ _ (else2 .before .if1 .left), le-ltb _ _ (else2 .if2 .left)) (λ i. told 0 0 (e i))
+returns-2 c =
+    let after-check-root = c .before .before .before .before in
+    let e = c .root-words .ensures ∙ ap rootWords (c .before .read-root .ensures) in
+    rw (sym (after-check-root .check-root .ensures) ∙ c .before .before .enum-told .given .1) (λ i. told 0 0 (e i))
 
 pub ynd-root-spec : {M : Type 1} → statement M
-ynd-root-spec = tie.close (tie.spec returns returns-2 (λ c κs. search needs) (λ c κs. search needs) returns-3)
+ynd-root-spec =
+    tie.close
+    (tie.spec
+    (λ c κs. search needs)
+    (λ c. search needs)
+    (λ c. search needs)
+    (λ c κs. search needs)
+    (λ c κs. search needs)
+    returns
+    returns-2)

@@ -2,8 +2,8 @@ use native.Mathlib.Omega.{arith}
 use mathlib.Core.Path.{sym, _∙_}
 use Rattle.cells.proofs.Reading.Undrawn.{root-undrawn, root-drawn}
 use borrow.Author.Needs.{needs}
-use Rattle.cells.proofs.arrays.read_root.Statement.{statement}
-use Rattle.cells.proofs.arrays.read_root.Tie as tie
+use Rattle.cells.proofs.root.read_root.Statement.{statement}
+use Rattle.cells.proofs.root.read_root.Tie as tie
 
 returns : tie.Need-returns
 returns c = c .new-root .ensures ∙ sym (root-undrawn (c .before .before .before .args .system .now) (omega arith))

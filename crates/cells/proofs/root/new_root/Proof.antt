@@ -1,7 +1,7 @@
 use borrow.Author.Needs.{needs}
 use Rattle.cells.specs.NewYnd.{newRoot}
-use Rattle.cells.proofs.arrays.new_root.Statement.{statement}
-use Rattle.cells.proofs.arrays.new_root.Tie as tie
+use Rattle.cells.proofs.root.new_root.Statement.{statement}
+use Rattle.cells.proofs.root.new_root.Tie as tie
 
 returns : tie.Need-returns
 unfolding newRoot
