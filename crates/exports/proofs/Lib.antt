@@ -1,2 +1,3 @@
--- Laws that the proofs of the calls share.
+-- Laws that the proofs of the calls share, and closed facts.
 pub mod Calls
+pub mod Worked

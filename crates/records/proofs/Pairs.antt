@@ -7,7 +7,7 @@ use Rattle.records.specs.Bytes.{numberAt, numberBytes, bits16}
 use Rattle.records.specs.Root.{unknownsOf, rootOf}
 use Rattle.records.specs.Records.{junctionBytes}
 use Rattle.records.specs.Sections.{emptyPart, located}
-use Rattle.records.specs.Layout.{gapFor, startOf, offset, total, address, sizes, placesOf}
+use Rattle.records.specs.Layout.{gapFor, padded, lay, startOf, offset, total, address, sizes, placesOf}
 use Rattle.records.specs.declared.section.Section.the-variants.{Graphics}
 use Rattle.records.specs.declared.section.Located.the-variants.{At, Bad}
 
@@ -50,6 +50,12 @@ bare-length = refl
 bare-address : placesOf (sizes 0 0 0 0 1) .nodes ≡ 0x5000_0480
 unfolding placesOf offset startOf gapFor address
 bare-address = refl
+
+-- a heightmap of one value, 77, and one byte, 9, as the next block: fifteen zeros stand between them
+gap-zeros : lay 1152 ((77 ∷ []) ∷ (9 ∷ []) ∷ [])
+    ≡ 77 ∷ 0 ∷ 0 ∷ 0 ∷ 0 ∷ 0 ∷ 0 ∷ 0 ∷ 0 ∷ 0 ∷ 0 ∷ 0 ∷ 0 ∷ 0 ∷ 0 ∷ 0 ∷ 9 ∷ []
+unfolding lay padded gapFor
+gap-zeros = refl
 
 -- ---- section 2: the root's offsets, over the bytes 0, 1, .. 111
 
