@@ -15,7 +15,6 @@ use Rattle.numbers.specs.declared.answer.Answer.the-variants.{Done}
 use Rattle.records.specs.declared.junction_ref.NodeJunctionRef.{NodeJunctionRef}
 use Rattle.cells.specs.declared.node.PathNode.{PathNode}
 use Rattle.cells.specs.declared.junction.PathJunction.{PathJunction}
-use Rattle.cells.proofs.Forms.EntryFits.{NodeFits}
 use Rattle.cells.specs.NodeWords.{areaOf, numberOf, linkStart, linkCount, valueStart}
 use Rattle.cells.specs.NodeAccess.{changed, withPosition}
 use Rattle.cells.specs.Words.{toNode, nodeWords, junctionWords, refWords}
@@ -29,7 +28,7 @@ use Rattle.cells.proofs.Sequences.Tests.{by-test}
 use Rattle.cells.proofs.Sequences.Filled.{mapped-at}
 use Rattle.cells.proofs.Editing.EditLaws.{lent-false}
 use Rattle.cells.proofs.Editing.AddLaws.{not-done}
-use Rattle.cells.proofs.Forms.Entries.{node-back, node-fits}
+use Rattle.cells.proofs.Forms.Entries.{node-again, byte0, byte1, byte2, word}
 use Rattle.cells.proofs.Editing.CellAdded.{junction-words}
 
 -- ---- an entry stored
@@ -76,37 +75,38 @@ sized-done over n p values held f l e =
 
 -- ---- nodes
 
--- a node's words are the node, at any position
-node-words : (ls : List Link) (n : PathNode) (at : Vec3) → NodeFits n
+-- a node that comes back from its words, as every node whose fields fit their types does, is told by them at any position
+node-words : (ls : List Link) (n : PathNode) (at : Vec3) → toNode (nodeWords n) ≡ n
     → nodeWith ls (nodeWords (withPosition n at)) ≡ nodeFrom (take (n .«link_count») (drop (n .«link_id») ls)) (withPosition n at)
 unfolding areaOf numberOf bodyOf nodeWords toNode changed
-node-words ls n at h =
-    let b = node-back n h in
-    λ i. record {
-      area = b i .«area_id»;
-      number = b i .«node_id»;
-      links = take (b i .«link_count») (drop (n .«link_id») ls);
-      body = record { position = bitsOf at; marks = marksOf (b i) };
-    }
-
-kept-fits : (n : PathNode) (w : List ℕ) → NodeFits n → linkStart w < 4294967296 → NodeFits (rangeKept n w)
-unfolding rangeKept changed
-kept-fits n w h lt = record {
-  «area_id» = h .«area_id»;
-  «node_id» = h .«node_id»;
-  «street_name» = h .«street_name»;
-  x = h .x;
-  y = h .y;
-  z = h .z;
-  flags0 = h .flags0;
-  flags1 = h .flags1;
-  flags2 = h .flags2;
-  flags3 = h .flags3;
-  flags4 = h .flags4;
-  flags5 = h .flags5;
-  «link_id» = lt;
-  «link_count» = omega arith;
+node-words ls n at b = λ i. record {
+  area = b i .«area_id»;
+  number = b i .«node_id»;
+  links = take (b i .«link_count») (drop (n .«link_id») ls);
+  body = record { position = bitsOf at; marks = marksOf (b i) };
 }
+
+-- with another entry's range it comes back too
+kept-back : (n : PathNode) (w : List ℕ) → toNode (nodeWords n) ≡ n → linkStart w < 4294967296
+    → toNode (nodeWords (rangeKept n w)) ≡ rangeKept n w
+unfolding rangeKept changed toNode nodeWords
+kept-back n w b lt =
+    let f4 : n .flags4 < 256 = omega (arith, ap (λ (x : PathNode). x .flags4) b) in
+    let f5 : n .flags5 < 256 = omega (arith, ap (λ (x : PathNode). x .flags5) b) in
+    λ i. record {
+      «area_id» = b i .«area_id»;
+      «node_id» = b i .«node_id»;
+      «street_name» = b i .«street_name»;
+      position = b i .position;
+      flags0 = b i .flags0;
+      flags1 = b i .flags1;
+      flags2 = b i .flags2;
+      flags3 = b i .flags3;
+      flags4 = byte0 (n .flags4) (n .flags5) (linkCount w) 0 f4 i;
+      flags5 = byte1 (n .flags4) (n .flags5) (linkCount w) 0 f4 f5 i;
+      «link_id» = word (linkStart w) lt i;
+      «link_count» = byte2 (n .flags4) (n .flags5) (linkCount w) 0 f4 f5 (omega arith) i;
+    }
 
 -- the words of a node at p changed to those of another with its range
 module _ (m : Memory) (p : ℕ) (start : linkStart (getD (m .nodes) p []) < 4294967296) where
@@ -127,13 +127,13 @@ module _ (m : Memory) (p : ℕ) (start : linkStart (getD (m .nodes) p []) < 4294
   unfolding nodesOf
   nodes-stored x new lt e = set-held (nodeWith ls) n (m .nodes) p x lt ∙ ap (set (map (nodeWith ls) (take n (m .nodes))) p) e
 
-  pub node-put : (x : PathNode) → NodeFits x → putNode (m .ynd) (m .nodes) p x .answer ≡ Done
+  pub node-put : (x : PathNode) → toNode (nodeWords x) ≡ x → putNode (m .ynd) (m .nodes) p x .answer ≡ Done
       → cellOf (memory (m .ynd) (putNode (m .ynd) (m .nodes) p x .list) (m .links) (m .junctions) (m .heights) (m .refs))
       ≡ withNodes (set (cellOf m .nodes) p (nodeFrom (nodeAt (cellOf m .nodes) p .links) x)) (cellOf m)
   unfolding putNode nodeEntry cellOf nodesOf junctionsOf refsOf rangeKept changed
   node-put x h e =
       let d = entry-done (overLimit (m .ynd)) n 0 p (λ v. nodeWords (rangeKept x v)) [] (m .nodes) e in
-      let k = node-words ls (rangeKept x w) (x .position) (kept-fits x w h start) ∙ ap (λ (l : List Link). nodeFrom l x) (own-links (d .0) (d .1)) in
+      let k = node-words ls (rangeKept x w) (x .position) (kept-back x w h start) ∙ ap (λ (l : List Link). nodeFrom l x) (own-links (d .0) (d .1)) in
       let g = ap (λ (l : List (List ℕ)). map (nodeWith ls) (take n l)) (d .2) ∙ nodes-stored (nodeWords (rangeKept x w)) (nodeFrom (nodeAt (nodesOf m) p .links) x) (d .0) k in
       λ i. withNodes (g i) (cellOf m)
 
@@ -145,7 +145,7 @@ module _ (m : Memory) (p : ℕ) (start : linkStart (getD (m .nodes) p []) < 4294
       let to = dequantised (quantised at) in
       let d = entry-done (overLimit (m .ynd)) n 0 p (λ v. nodeWords (withPosition (toNode v) to)) [] (m .nodes) e in
       let s : getD w 7 0 % 4294967296 ≡ getD w 7 0 = omega (arith, start) in
-      let k = node-words ls (toNode w) to (node-fits w)
+      let k = node-words ls (toNode w) to (node-again w)
       ∙ ap (λ (x : ℕ). record { area = areaOf w; number = numberOf w; links = take (linkCount w) (drop x ls); body = nodeMoved to (nodeWith ls w) .body }) s
       ∙ ap (nodeMoved to) (sym (held-at (nodeWith ls) n (m .nodes) p [] noNode (d .0) (d .1))) in
       let g = ap (λ (l : List (List ℕ)). map (nodeWith ls) (take n l)) (d .2) ∙ nodes-stored (nodeWords (withPosition (toNode w) to)) (nodeMoved to (nodeAt (nodesOf m) p)) (d .0) k in

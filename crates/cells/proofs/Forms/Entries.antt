@@ -1,4 +1,4 @@
--- An entry comes back from its words: any words' entry, and any entry whose fields fit.
+-- An entry comes back from its words: any words' entry, and any link, junction or ref whose fields fit.
 -- Assumes nothing.
 use Prim.Native.Nat.{ℕ, suc, _+_, _*_, _/_, _%_, _<_, _^_}
 use native.Mathlib.Omega.{arith}
@@ -8,7 +8,7 @@ use lib.ListN.{length, getD}
 use mathlib.Core.Bool.{true, false}
 use lib.Dec.{T}
 use lib.IntN.{ℤ, pos, negsuc}
-use lib.Ieee.{binary32, fits}
+use lib.Ieee.{binary32, fits, ofBits}
 use lib.Ieee.Fits.{round-fits}
 use Rattle.numbers.specs.Steps.{unstep}
 use lib.Ieee.Bits.{ofBits-toBits, ofBits-fits}
@@ -17,38 +17,39 @@ use Rattle.cells.specs.declared.node.PathNode.{PathNode}
 use Rattle.cells.specs.declared.link.PathLink.{PathLink}
 use Rattle.cells.specs.declared.junction.PathJunction.{PathJunction}
 use Rattle.cells.specs.Words.{toNode, nodeWords, toLink, linkWords, toJunction, junctionWords, toRef, refWords}
-use Rattle.cells.proofs.Forms.EntryFits.{NodeFits, LinkFits, JunctionFits, RefFits}
+use Rattle.records.proofs.RecordBack.{RefFits}
+use Rattle.cells.proofs.Forms.EntryFits.{LinkFits, JunctionFits}
 
 -- ---- a word holds its bytes
 
-byte0 : (a b c d : ℕ) → a < 256 → (a + b * 256 + c * 65536 + d * 16777216) % 256 ≡ a
+pub byte0 : (a b c d : ℕ) → a < 256 → (a + b * 256 + c * 65536 + d * 16777216) % 256 ≡ a
 byte0 a b c d ha = omega arith
 
-byte1 : (a b c d : ℕ) → a < 256 → b < 256 → (a + b * 256 + c * 65536 + d * 16777216) / 256 % 256 ≡ b
+pub byte1 : (a b c d : ℕ) → a < 256 → b < 256 → (a + b * 256 + c * 65536 + d * 16777216) / 256 % 256 ≡ b
 byte1 a b c d ha hb = omega arith
 
-byte2 : (a b c d : ℕ) → a < 256 → b < 256 → c < 256 → (a + b * 256 + c * 65536 + d * 16777216) / 65536 % 256 ≡ c
+pub byte2 : (a b c d : ℕ) → a < 256 → b < 256 → c < 256 → (a + b * 256 + c * 65536 + d * 16777216) / 65536 % 256 ≡ c
 byte2 a b c d ha hb hc = omega arith
 
-byte3 : (a b c d : ℕ) → a < 256 → b < 256 → c < 256 → d < 256 → (a + b * 256 + c * 65536 + d * 16777216) / 16777216 % 256 ≡ d
+pub byte3 : (a b c d : ℕ) → a < 256 → b < 256 → c < 256 → d < 256 → (a + b * 256 + c * 65536 + d * 16777216) / 16777216 % 256 ≡ d
 byte3 a b c d ha hb hc hd = omega arith
 
-low8 : (a b : ℕ) → a < 256 → (a + b * 256) % 256 ≡ a
+pub low8 : (a b : ℕ) → a < 256 → (a + b * 256) % 256 ≡ a
 low8 a b ha = omega arith
 
-high8 : (a b : ℕ) → a < 256 → b < 256 → (a + b * 256) / 256 % 256 ≡ b
+pub high8 : (a b : ℕ) → a < 256 → b < 256 → (a + b * 256) / 256 % 256 ≡ b
 high8 a b ha hb = omega arith
 
-low16 : (a b : ℕ) → a < 65536 → (a + b * 65536) % 65536 ≡ a
+pub low16 : (a b : ℕ) → a < 65536 → (a + b * 65536) % 65536 ≡ a
 low16 a b ha = omega arith
 
-high16 : (a b : ℕ) → a < 65536 → b < 65536 → (a + b * 65536) / 65536 % 65536 ≡ b
+pub high16 : (a b : ℕ) → a < 65536 → b < 65536 → (a + b * 65536) / 65536 % 65536 ≡ b
 high16 a b ha hb = omega arith
 
 half : (a : ℕ) → a < 65536 → a % 65536 ≡ a
 half a h = omega arith
 
-word : (a : ℕ) → a < 4294967296 → a % 4294967296 ≡ a
+pub word : (a : ℕ) → a < 4294967296 → a % 4294967296 ≡ a
 word a h = omega arith
 
 -- ---- nodes
@@ -58,48 +59,29 @@ unfolding unstep
 unstep-fits k (pos n) = round-fits binary32 false n (2 ^ k)
 unstep-fits k (negsuc n) = round-fits binary32 true (suc n) (2 ^ k)
 
-pub node-back : (n : PathNode) → NodeFits n → toNode (nodeWords n) ≡ n
-unfolding toNode nodeWords
-node-back n h = λ i. record {
-  «area_id» = low16 (n .«area_id») (n .«node_id») (h .«area_id») i;
-  «node_id» = high16 (n .«area_id») (n .«node_id») (h .«area_id») (h .«node_id») i;
-  «street_name» = word (n .«street_name») (h .«street_name») i;
-  position = record {
-    x = ofBits-toBits binary32 (n .position .x) (h .x) i;
-    y = ofBits-toBits binary32 (n .position .y) (h .y) i;
-    z = ofBits-toBits binary32 (n .position .z) (h .z) i;
-  };
-  flags0 = byte0 (n .flags0) (n .flags1) (n .flags2) (n .flags3) (h .flags0) i;
-  flags1 = byte1 (n .flags0) (n .flags1) (n .flags2) (n .flags3) (h .flags0) (h .flags1) i;
-  flags2 = byte2 (n .flags0) (n .flags1) (n .flags2) (n .flags3) (h .flags0) (h .flags1) (h .flags2) i;
-  flags3 = byte3 (n .flags0) (n .flags1) (n .flags2) (n .flags3) (h .flags0) (h .flags1) (h .flags2) (h .flags3) i;
-  flags4 = byte0 (n .flags4) (n .flags5) (n .«link_count») 0 (h .flags4) i;
-  flags5 = byte1 (n .flags4) (n .flags5) (n .«link_count») 0 (h .flags4) (h .flags5) i;
-  «link_id» = word (n .«link_id») (h .«link_id») i;
-  «link_count» = byte2 (n .flags4) (n .flags5) (n .«link_count») 0 (h .flags4) (h .flags5) (h .«link_count») i;
-}
-
-pub node-fits : (w : List ℕ) → NodeFits (toNode w)
-unfolding toNode
-node-fits w = record {
-  «area_id» = omega arith;
-  «node_id» = omega arith;
-  «street_name» = omega arith;
-  x = ofBits-fits binary32 (getD w 2 0);
-  y = ofBits-fits binary32 (getD w 3 0);
-  z = ofBits-fits binary32 (getD w 4 0);
-  flags0 = omega arith;
-  flags1 = omega arith;
-  flags2 = omega arith;
-  flags3 = omega arith;
-  flags4 = omega arith;
-  flags5 = omega arith;
-  «link_id» = omega arith;
-  «link_count» = omega arith;
-}
-
 pub node-again : (w : List ℕ) → toNode (nodeWords (toNode w)) ≡ toNode w
-node-again w = node-back (toNode w) (node-fits w)
+unfolding toNode nodeWords
+node-again w =
+    let f : ℕ → ℕ = λ d. getD w 5 0 / d % 256 in
+    let g : ℕ → ℕ = λ d. getD w 6 0 / d % 256 in
+    λ i. record {
+      «area_id» = low16 (getD w 0 0 % 65536) (getD w 0 0 / 65536 % 65536) (omega arith) i;
+      «node_id» = high16 (getD w 0 0 % 65536) (getD w 0 0 / 65536 % 65536) (omega arith) (omega arith) i;
+      «street_name» = word (getD w 1 0 % 4294967296) (omega arith) i;
+      position = record {
+        x = ofBits-toBits binary32 (ofBits binary32 (getD w 2 0)) (ofBits-fits binary32 (getD w 2 0)) i;
+        y = ofBits-toBits binary32 (ofBits binary32 (getD w 3 0)) (ofBits-fits binary32 (getD w 3 0)) i;
+        z = ofBits-toBits binary32 (ofBits binary32 (getD w 4 0)) (ofBits-fits binary32 (getD w 4 0)) i;
+      };
+      flags0 = byte0 (getD w 5 0 % 256) (f 256) (f 65536) (f 16777216) (omega arith) i;
+      flags1 = byte1 (getD w 5 0 % 256) (f 256) (f 65536) (f 16777216) (omega arith) (omega arith) i;
+      flags2 = byte2 (getD w 5 0 % 256) (f 256) (f 65536) (f 16777216) (omega arith) (omega arith) (omega arith) i;
+      flags3 = byte3 (getD w 5 0 % 256) (f 256) (f 65536) (f 16777216) (omega arith) (omega arith) (omega arith) (omega arith) i;
+      flags4 = byte0 (getD w 6 0 % 256) (g 256) (g 65536) 0 (omega arith) i;
+      flags5 = byte1 (getD w 6 0 % 256) (g 256) (g 65536) 0 (omega arith) (omega arith) i;
+      «link_id» = word (getD w 7 0 % 4294967296) (omega arith) i;
+      «link_count» = byte2 (getD w 6 0 % 256) (g 256) (g 65536) 0 (omega arith) (omega arith) (omega arith) i;
+    }
 
 pub node-length : (n : PathNode) → length (nodeWords n) ≡ 8
 unfolding nodeWords

@@ -7,8 +7,9 @@ use mathlib.Core.List.{List, [], _∷_, _++_, map, append-nil}
 use lib.ListN.{length, take, drop}
 use lib.Seq.{take-at}
 use lib.Ieee.{binary32, toBits}
+use lib.Ieee.Bits.{ofBits-toBits}
 use Rattle.numbers.specs.Steps.{unstep}
-use Rattle.records.specs.Bytes.{byteAt, numberAt, le16, le32, signed16}
+use Rattle.records.specs.Bytes.{byteAt, le16}
 use Rattle.records.specs.Sections.{located, bytesOf, partBytes, arrayAt}
 use Rattle.records.specs.Records.{nodeAt, linkAt, junctionAt, refAt}
 use Rattle.cells.specs.Lists.{upTo, joinTo, sumTo}
@@ -21,8 +22,8 @@ use Rattle.cells.specs.Cell.{Link, Node}
 use Rattle.cells.specs.CellOf.{linkOf, refOf, bodyOf, nodeWith, junctionWith, nodesOf, junctionsOf, refsOf, cellOf}
 use Rattle.cells.specs.Words.{toNode}
 use Rattle.cells.specs.CellOf.{bitsOf, marksOf}
-use Rattle.cells.proofs.Forms.EntryFits.{NodeFits}
-use Rattle.cells.proofs.Forms.Entries.{node-back, unstep-fits}
+use Rattle.records.proofs.RecordBack.{NodeFits, node-fits}
+use Rattle.cells.proofs.Forms.Entries.{unstep-fits, byte0, byte1, byte2, byte3, low8, high8, low16, high16, word}
 use Rattle.cells.specs.FileCell.{fileLinkOf, fileRefOf, fileBody, fileNodeOf, fileJunctionOf, fileNodes, fileJunctions, fileRefs, cellFrom, cellBy, fileCell}
 use Rattle.records.specs.declared.root.Root.{Root}
 use Rattle.records.specs.declared.section.Part.{Part}
@@ -52,52 +53,46 @@ map-upTo {B = B} h f (suc n) = map-append h (upTo f n) (f n ∷ []) ∙ ap (λ (
 
 -- ---- the words of each record
 
-low : (a b : ℕ) → a < 256 → (a + b * 256) % 256 ≡ a
-low a b h = omega arith
-
-high : (a b : ℕ) → a < 256 → b < 256 → (a + b * 256) / 256 % 256 ≡ b
-high a b h k = omega arith
+-- a node of the file comes back from its words
+read-back : (n : raw-node.Node) → NodeFits n → toNode (nodeWords (pathNode n 0)) ≡ pathNode n 0
+unfolding toNode nodeWords pathNode
+read-back n h =
+    let count = n .«link_count_flags» / 8 in
+    let f5 = n .«link_count_flags» % 8 in
+    let x = n .«position_x» in
+    let y = n .«position_y» in
+    let z = n .«position_z» in
+    λ i. record {
+      «area_id» = low16 (n .«area_id») (n .«node_id») (h .«area_id») i;
+      «node_id» = high16 (n .«area_id») (n .«node_id») (h .«area_id») (h .«node_id») i;
+      «street_name» = word (n .«street_name») (h .«street_name») i;
+      position = record {
+        x = ofBits-toBits binary32 (unstep 2 x) (unstep-fits 2 x) i;
+        y = ofBits-toBits binary32 (unstep 2 y) (unstep-fits 2 y) i;
+        z = ofBits-toBits binary32 (unstep 5 z) (unstep-fits 5 z) i;
+      };
+      flags0 = byte0 (n .flags0) (n .flags1) (n .flags2) (n .flags3) (h .flags0) i;
+      flags1 = byte1 (n .flags0) (n .flags1) (n .flags2) (n .flags3) (h .flags0) (h .flags1) i;
+      flags2 = byte2 (n .flags0) (n .flags1) (n .flags2) (n .flags3) (h .flags0) (h .flags1) (h .flags2) i;
+      flags3 = byte3 (n .flags0) (n .flags1) (n .flags2) (n .flags3) (h .flags0) (h .flags1) (h .flags2) (h .flags3) i;
+      flags4 = byte0 (n .flags4) f5 count 0 (h .flags4) i;
+      flags5 = byte1 (n .flags4) f5 count 0 (h .flags4) (omega arith) i;
+      «link_id» = 0;
+      «link_count» = byte2 (n .flags4) f5 count 0 (h .flags4) (omega arith) (omega (arith, h .«link_count_flags»)) i;
+    }
 
 -- the node read, by its words
-body-words : (n : raw-node.Node) (first : ℕ) → NodeFits (pathNode n 0) → bodyOf (nodeWords (pathNode n first)) ≡ fileBody n
+body-words : (n : raw-node.Node) (first : ℕ) → NodeFits n → bodyOf (nodeWords (pathNode n first)) ≡ fileBody n
 unfolding bodyOf nodeWords pathNode toNode
-body-words n first h = λ i. record { position = bitsOf (pathNode n 0 .position); marks = marksOf (node-back (pathNode n 0) h i) }
+body-words n first h = λ i. record { position = bitsOf (pathNode n 0 .position); marks = marksOf (read-back n h i) }
 
 -- a node, with its links from `first` on
-pub node-words : (ls : List Link) (n : raw-node.Node) (first : ℕ) → NodeFits (pathNode n 0)
+pub node-words : (ls : List Link) (n : raw-node.Node) (first : ℕ) → NodeFits n
     → nodeWith ls (nodeWords (pathNode n first)) ≡ record { area = n .«area_id»; number = n .«node_id»; links = take (n .«link_count_flags» / 8) (drop first ls); body = fileBody n }
 unfolding areaOf numberOf nodeWords pathNode toNode
 node-words ls n first h =
-    let b = node-back (pathNode n 0) h in
+    let b = read-back n h in
     λ i. record { area = b i .«area_id»; number = b i .«node_id»; links = take (b i .«link_count») (drop first ls); body = body-words n first h i }
-
-pub le16-below : (s : List ℕ) (at : ℕ) → le16 s at < 65536
-unfolding numberAt
-le16-below s at = omega arith
-
-pub le32-below : (s : List ℕ) (at : ℕ) → le32 s at < 4294967296
-unfolding numberAt
-le32-below s at = omega arith
-
--- the node read fits its fields
-pub node-fits : (s : List ℕ) (at : ℕ) → NodeFits (pathNode (nodeAt s at) 0)
-unfolding nodeAt pathNode
-node-fits s at = record {
-  «area_id» = le16-below s (at + 16);
-  «node_id» = le16-below s (at + 18);
-  «street_name» = le32-below s (at + 20);
-  x = unstep-fits 2 (signed16 (le16 s (at + 28)));
-  y = unstep-fits 2 (signed16 (le16 s (at + 30)));
-  z = unstep-fits 5 (signed16 (le16 s (at + 34)));
-  flags0 = omega arith;
-  flags1 = omega arith;
-  flags2 = omega arith;
-  flags3 = omega arith;
-  flags4 = omega arith;
-  flags5 = omega arith;
-  «link_id» = omega arith;
-  «link_count» = omega arith;
-}
 
 pub link-words : (s : List ℕ) (at : ℕ) → linkOf (linkWords (pathLink (linkAt s at))) ≡ fileLinkOf (linkAt s at)
 unfolding linkWords pathLink linkAt
@@ -105,10 +100,10 @@ link-words s at = λ i. record {
   area = le16 s at;
   number = le16 s (at + 2);
   body = record {
-    flags0 = low (byteAt s (at + 4)) (byteAt s (at + 5)) (omega arith) i;
-    flags1 = high (byteAt s (at + 4)) (byteAt s (at + 5)) (omega arith) (omega arith) i;
-    flags2 = low (byteAt s (at + 6)) (byteAt s (at + 7)) (omega arith) i;
-    len = high (byteAt s (at + 6)) (byteAt s (at + 7)) (omega arith) (omega arith) i;
+    flags0 = low8 (byteAt s (at + 4)) (byteAt s (at + 5)) (omega arith) i;
+    flags1 = high8 (byteAt s (at + 4)) (byteAt s (at + 5)) (omega arith) (omega arith) i;
+    flags2 = low8 (byteAt s (at + 6)) (byteAt s (at + 7)) (omega arith) i;
+    len = high8 (byteAt s (at + 6)) (byteAt s (at + 7)) (omega arith) (omega arith) i;
   };
 }
 
@@ -156,8 +151,8 @@ junction-one : (j h : List ℕ) (count i : ℕ) → i < count → junctionWith (
 unfolding junctionIn junctionWords pathJunction
 junction-one j h count i lt =
     let r = junctionAt j (i * 12) in
-    let w : (r .«heightmap_dim_x» + r .«heightmap_dim_y» * 256) % 256 ≡ r .«heightmap_dim_x» = low (r .«heightmap_dim_x») (r .«heightmap_dim_y») (width-small j (i * 12)) in
-    let t : (r .«heightmap_dim_x» + r .«heightmap_dim_y» * 256) / 256 % 256 ≡ r .«heightmap_dim_y» = high (r .«heightmap_dim_x») (r .«heightmap_dim_y») (width-small j (i * 12)) (height-small j (i * 12)) in
+    let w : (r .«heightmap_dim_x» + r .«heightmap_dim_y» * 256) % 256 ≡ r .«heightmap_dim_x» = low8 (r .«heightmap_dim_x») (r .«heightmap_dim_y») (width-small j (i * 12)) in
+    let t : (r .«heightmap_dim_x» + r .«heightmap_dim_y» * 256) / 256 % 256 ≡ r .«heightmap_dim_y» = high8 (r .«heightmap_dim_x») (r .«heightmap_dim_y») (width-small j (i * 12)) (height-small j (i * 12)) in
     λ k. record {
       x = toBits binary32 (unstep 2 (r .«position_x»));
       y = toBits binary32 (unstep 2 (r .«position_y»));

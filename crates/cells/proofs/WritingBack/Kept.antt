@@ -19,6 +19,7 @@ use Rattle.numbers.proofs.StepLaws.{round-trip}
 use Rattle.records.specs.Bytes.{byteAt, le16, le32, signed16}
 use Rattle.records.specs.Root.{rootOf, unknownsOf}
 use Rattle.records.specs.Records.{nodeAt, linkAt, junctionAt, refAt}
+use Rattle.records.proofs.LittleEndian.{number-below}
 use Rattle.cells.specs.Lists.{upTo}
 use Rattle.cells.specs.NewYnd.{newYnd, newRoot}
 use Rattle.cells.specs.Checks.{rootRead}
@@ -33,7 +34,6 @@ use Rattle.cells.proofs.Sequences.Tests.{and-left, and-right, by-test, 
 use Rattle.cells.proofs.Renumbering.Named.{last-inside}
 use Rattle.cells.proofs.Renumbering.NewCell.{every-number, new-at}
 use Rattle.cells.proofs.Reading.ReadLaws.{length-upTo}
-use Rattle.cells.proofs.Reading.FileRead.{le16-below, le32-below}
 use Rattle.cells.proofs.Forms.Entries.{unstep-fits}
 
 pub both : (a b : Bool) → a ≡ true → b ≡ true → a && b ≡ true
@@ -45,6 +45,9 @@ every-upTo t f e zero = refl
 every-upTo t f e (suc n) = every-append t (upTo f n) (f n ∷ []) (every-upTo t f e n) (both (t (f n)) true (e n) refl)
 
 -- ---- what was read
+
+le16-below : (s : List ℕ) (at : ℕ) → le16 s at < 65536
+le16-below s at = number-below 2 s at
 
 -- steps within 16 bits
 step-kept : (k n : ℕ) → k ≤ 5 → n < 65536 → keptStep k (toBits binary32 (unstep k (signed16 n))) ≡ true
@@ -105,7 +108,7 @@ root-kept (b ∷ bs) n l j h r =
     cc (word 28, word 32, word 0, word 36, word 52, word 72, word 76, word 92, word 104, word 108)
   where
     word : (at : ℕ) → isWord (le32 (b ∷ bs) at) ≡ true
-    word at = below (le32 (b ∷ bs) at) 4294967296 (le32-below (b ∷ bs) at)
+    word at = below (le32 (b ∷ bs) at) 4294967296 (number-below 4 (b ∷ bs) at)
 
 from-kept : (s : List ℕ) (n l j h r : List ℕ) → kept (cellFrom (rootRead s) n l j h r) ≡ true
 unfolding kept cellFrom fileNodes fileJunctions fileRefs
