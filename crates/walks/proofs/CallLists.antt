@@ -114,6 +114,12 @@ unfolding run moved
 run-alike m [] h = alike-refl (cellOf m)
 run-alike m (k ∷ ks) h = let s = step m k h in alike-trans (s .alike) (run-alike (after m k) ks (s .fit))
 
+-- the cell stays sound, and storing keeps it
+pub run-fit : (m : Memory) (ks : List Call) → Fit (cellOf m) → Fit (cellOf (run m ks))
+unfolding run
+run-fit m [] h = h
+run-fit m (k ∷ ks) h = run-fit (after m k) ks (step m k h .fit)
+
 run-numbered : (m : Memory) (ks : List Call) → Fit (cellOf m) → Numbered (cellOf m) → Numbered (cellOf (run m ks))
 unfolding run
 run-numbered m [] h n = n
