@@ -4,23 +4,24 @@
 #   make bindings        the tests of the Rust wrapper (cargo)
 #   make asan            the C calls on samples, vectors and inputs, the caller under AddressSanitizer (gcc)
 #   make valgrind        the same under valgrind, which sees the archive's code too
-#   make fuzz            the libFuzzer target for FUZZ_SECONDS (clang)
+#   make fuzz            the libFuzzer target for FUZZ_SECONDS (clang); make fuzz-rounds: that of round files
 #   make stack           how much stack each call takes
 # What a target needs and does not find it names. YND_ARCHIVE names another archive.
 YND_ARCHIVE ?= target/staticlib/libexports.a
 FUZZ_SECONDS ?= 60
 CC_HANDHELD ?= gcc
 C_FLAGS = -std=c11 -g -Wall -Wextra -Wpedantic -Werror -Iinclude
-HARD = $(addprefix hard/,lent.c model.c calls.c reach.c edits.c stores.c input.c)
+HARD = $(addprefix hard/,lent.c model.c calls.c reach.c rounds.c edits.c stores.c input.c)
 DRIVE = $(HARD) hard/vectors.c hard/every.c hard/drive.c
 HARD_HEADS = $(wildcard hard/*.h) include/bofrashem.h
 CORPUS = target/hard/corpus
-INPUTS = -s samples/dock.section -s samples/hall.section -s samples/yard.section -v crates/vectors/stdin $(foreach f,$(wildcard $(CORPUS)/seed*),-i $(f))
-PROVED_CRATES = numbers records cells walks reach exports
+ROUNDS = target/hard/rounds
+INPUTS = -s samples/dock.section -s samples/hall.section -s samples/yard.section -v crates/vectors/stdin $(foreach f,$(wildcard $(CORPUS)/seed*),-i $(f)) $(foreach f,$(wildcard $(ROUNDS)/seed*),-r $(f))
+PROVED_CRATES = numbers records cells walks reach rounds exports
 PROVED = $(shell find $(addprefix crates/,$(PROVED_CRATES)) -name '*.rt' -o -name '*.antt')
 need = @command -v $(1) >/dev/null || { echo '$(1) is missing: apt-get install $(2)'; exit 1; }
 
-.PHONY: archive example test-header bindings asan valgrind fuzz stack seeds
+.PHONY: archive example test-header bindings asan valgrind fuzz fuzz-rounds stack seeds
 
 archive: $(YND_ARCHIVE)
 
@@ -47,7 +48,7 @@ bindings: $(YND_ARCHIVE)
 	cd bindings/rust && YND_ARCHIVE=$(abspath $(YND_ARCHIVE)) cargo test --offline
 
 seeds:
-	@python3 hard/seeds.py $(CORPUS)
+	@python3 hard/seeds.py $(CORPUS) $(ROUNDS)
 
 target/hard/asan: $(DRIVE) $(HARD_HEADS) $(YND_ARCHIVE)
 	$(call need,$(CC_HANDHELD),gcc)
@@ -81,6 +82,14 @@ target/hard/fuzz: $(HARD) hard/fuzz.c $(HARD_HEADS) $(YND_ARCHIVE)
 # An hour: make fuzz FUZZ_SECONDS=3600
 fuzz: target/hard/fuzz seeds
 	cd target/hard && ./fuzz -max_total_time=$(FUZZ_SECONDS) -max_len=6144 -print_final_stats=1 corpus
+
+target/hard/fuzz-rounds: $(HARD) hard/fuzz.c $(HARD_HEADS) $(YND_ARCHIVE)
+	$(call need,clang,clang libclang-rt-14-dev)
+	@mkdir -p $(@D)
+	clang $(C_FLAGS) -DFUZZ_ROUNDS -O1 -fsanitize=fuzzer,address $(HARD) hard/fuzz.c $(YND_ARCHIVE) -o $@
+
+fuzz-rounds: target/hard/fuzz-rounds seeds
+	cd target/hard && ./fuzz-rounds -max_total_time=$(FUZZ_SECONDS) -max_len=66000 -print_final_stats=1 rounds
 
 target/hard/stack: hard/stack.c include/bofrashem.h $(YND_ARCHIVE)
 	@mkdir -p $(@D)

@@ -1,5 +1,5 @@
-/* Reads a yard from a file, checks it, lists near nodes, walks, renumbers, walks again, writes it, and says so in
- * plain text.
+/* Reads a yard from a file, checks it, lists near nodes, walks, follows the same way as a round file, renumbers, walks
+ * again, writes it, and says so in plain text.
  *
  *     handheld FILE [START [CHOICE ..]]
  *
@@ -38,12 +38,14 @@ static const char *const REFUSALS[] = {
     "refs over 65,535 on writing",
     "heightmap values not width times height",
     "no such place",
-    "the cell is at a limit"
+    "the cell is at a limit",
+    "no round file of version 1",
+    "a round file of another length than its count says"
 };
 
 static int refused(const char *what, uint32_t number, size_t place)
 {
-    printf("%s: refused %u %zu, %s\n", what, (unsigned)number, place, number < 15 ? REFUSALS[number] : "?");
+    printf("%s: refused %u %zu, %s\n", what, (unsigned)number, place, number < 17 ? REFUSALS[number] : "?");
     return EXIT_FAILURE;
 }
 
@@ -167,6 +169,30 @@ static uint32_t near_nodes(const yard *y, size_t at, size_t *place)
     return number;
 }
 
+/* Writes the way as a round file, reads that, and follows it: it starts at the node's number, not at its place. */
+static uint32_t round_file(const yard *y, size_t start, const uint8_t *choices, size_t n, size_t *place)
+{
+    uint8_t file[YND_ROUND_BYTES + CHOICES_MOST], read[CHOICES_MOST];
+    uint32_t visited[CHOICES_MOST + 1];
+    size_t length, count, visits;
+    uint16_t number;
+    ynd_walk_end end;
+    uint32_t refusal = ynd_write_round(y->nodes[start].node_id, choices, n, file, sizeof file, &length, place);
+    if (!refusal)
+        refusal = ynd_read_round(file, length, read, CHOICES_MOST, &number, &count, place);
+    if (!refusal)
+        refusal = ynd_follow_round(&y->ynd, y->nodes, y->room.nodes, y->links, y->room.links, number, read, count,
+            visited, count + 1, &end, &visits, place);
+    if (!refusal) {
+        printf("the round file:");
+        for (size_t i = 0; i < length; i++)
+            printf(" %02x", file[i]);
+        printf("; followed from number %u it visits %zu nodes, the last at place %u\n", (unsigned)number, visits,
+            (unsigned)visited[visits - 1]);
+    }
+    return refusal;
+}
+
 /* Renumbers and walks again: the same way, wherever its nodes now stand. */
 static int renumber_and_walk(yard *y, size_t start, const uint8_t *choices, size_t n, uint32_t *visited)
 {
@@ -225,6 +251,9 @@ static int use(yard *y, size_t start, const uint8_t *given, size_t n)
     number = walk(y, start, choices, n, visited, &count, &place);
     if (number)
         return refused("walk", number, place);
+    number = round_file(y, start, choices, n, &place);
+    if (number)
+        return refused("round file", number, place);
     int status = renumber_and_walk(y, start, choices, n, visited);
     return status ? status : write_back(y);
 }

@@ -14,7 +14,7 @@ enum what {
     COUNT, READ, SOUND, WRITE, WRITE_READ, WALK, RENUMBER, NODE, JUNCTION_OF, AREA, SHOWN_NODE, SHOWN_JUNCTION, SHOWN_VALUES, SHOWN_LINK,
     ADD_NODE, ADD_LINK, ADD_REF, ADD_JUNCTION, PUT_NODE, SET_POSITION, PUT_LINK, PUT_REF, PUT_JUNCTION, PUT_HEIGHT, GET_NODE, GET_LINK, GET_REF,
     GET_JUNCTION, GET_HEIGHT, WITHIN, NEAREST, PUT_LINKS, PUT_HEIGHTMAP,
-    TRUNCATE, WHATS
+    TRUNCATE, READ_ROUND, WRITE_ROUND, FOLLOW, WHATS
 };
 
 uint8_t byte(script *s);
@@ -31,6 +31,7 @@ void check_walk(const lent *m, size_t start, const uint8_t *choices, size_t n);
 void check_shown(const lent *m, script *s);
 void check_lookups(const lent *m, script *s);
 void check_reach(const lent *m, script *s);
+void check_follow(const lent *m, script *s, const uint8_t *choices, size_t n);
 void check_renumber(lent *m, script *s);
 void check_write(const lent *m, script *s);
 /* as_read: the cell is as reading left it, so that an accepted call leaves it. */
@@ -41,5 +42,10 @@ void check_edit(lent *m, script *s, bool kept);
 bool links_replaced(lent *m, script *s, const lent *before, size_t *place, bool kept);
 bool map_replaced(lent *m, script *s, const lent *before, size_t *place);
 bool list_cut(lent *m, script *s, const lent *before, size_t *place);
+
+/* Any bytes as a round file; an accepted one is written back. */
+void check_round_file(const uint8_t *data, size_t size);
+/* Round files at their limit. */
+void most_choices(void);
 
 #endif

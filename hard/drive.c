@@ -1,8 +1,9 @@
 /* Runs the checks outside the fuzzer, for AddressSanitizer and valgrind:
  *
- *     drive [-s SECTION].. [-v VECTORS].. [-i INPUT]..
+ *     drive [-s SECTION].. [-v VECTORS].. [-i INPUT].. [-r ROUND]..
  *
- * -s a file that is a system section, with some scripts; -v a vectors file; -i an input of the fuzz target. */
+ * -s a file that is a system section, with some scripts; -v a vectors file; -i an input of the fuzz target; -r any
+ * bytes as a round file. */
 #include "drive.h"
 
 static unsigned long answers;
@@ -57,7 +58,7 @@ int main(int argc, char **argv)
             for (uint32_t seed = 0; seed < 8; seed++, inputs++)
                 with_script(bytes, n, (uint16_t)(seed * 60), seed);
         } else {
-            check_input(bytes, n);
+            (argv[i][1] == 'r' ? check_round_file : check_input)(bytes, n);
             inputs++;
         }
         free(bytes);

@@ -167,6 +167,7 @@ static void empty_lists(void)
     uint32_t *scratch = block(YND_SCRATCH * sizeof *scratch), *area = block(sizeof *area);
     bool *yes = block(sizeof *yes);
     uint64_t square = 7;
+    uint16_t start = 7;
     ynd_cell *ynd = block(sizeof *ynd);
     ynd_counts *counts = block(sizeof *counts);
     ynd_walk_end *end = block(sizeof *end);
@@ -187,6 +188,11 @@ static void empty_lists(void)
     CHECK(ynd_area_of_cell(ynd, NULL, 0, yes, area, place) == 0 && !*yes);
     CHECK(ynd_within(ynd, NULL, 0, 0, 0, 65535, NULL, 0, n, place) == 0 && *n == 0);
     CHECK(ynd_nearest(ynd, NULL, 0, 0, 0, yes, at, &square, place) == 0 && !*yes && *at == KEPT_SIZE && square == 7);
+    CHECK(ynd_follow_round(ynd, NULL, 0, NULL, 0, 0, NULL, 0, NULL, 0, end, n, place) == YND_NO_SUCH_PLACE);
+    CHECK(ynd_read_round(NULL, 0, NULL, 0, &start, n, place) == YND_NO_ROUND_FILE && start == 7);
+    CHECK(ynd_write_round(7, NULL, 0, section, YND_ROUND_BYTES, n, place) == 0 && *n == YND_ROUND_BYTES);
+    CHECK(ynd_read_round(section, YND_ROUND_BYTES, NULL, 0, &start, n, place) == 0 && *n == 0 && start == 7);
+    CHECK(ynd_write_round(7, NULL, 0, NULL, 0, n, place) == YND_LENT_TOO_SHORT && *place == YND_VISITED);
     CHECK(ynd_shown_values(ynd, NULL, 0, NULL, 0, 0, NULL, 0, n, place) == YND_NO_SUCH_PLACE);
     CHECK(ynd_add_node(ynd, NULL, 0, 1, 0, 0, 0, place) == YND_LENT_TOO_SHORT && *place == YND_NODES);
     CHECK(!ynd_area_id_from_file_name(NULL, 0, area));
@@ -217,4 +223,5 @@ void every_call(void)
     records();
     undrawn();
     empty_lists();
+    most_choices();
 }

@@ -1,7 +1,8 @@
 #!/usr/bin/env python3
-"""Makes the first inputs of the fuzz target, and of the runs under AddressSanitizer and valgrind: small yards with scripts.
+"""Makes the first inputs of the fuzz targets, and of the runs under AddressSanitizer and valgrind: small yards with scripts,
+and round files.
 
-    python3 hard/seeds.py FOLDER
+    python3 hard/seeds.py FOLDER ROUNDS
 
 An input is as hard/input.c says: a length of a script, a length of the graphics section, script, graphics, system section. The same
 files come out each time.
@@ -62,7 +63,15 @@ def main():
             script = bytes(r.randrange(256) if r.random() < 0.5 else r.randrange(8) for _ in range(length))
             (to / f'seed{count:03}').write_bytes(struct.pack('<HH', length, len(graphics)) + script + graphics + system)
             count += 1
-    print(count, 'inputs in', to)
+    rounds = pathlib.Path(sys.argv[2])
+    rounds.mkdir(parents=True, exist_ok=True)
+    files = [b'', b'RND', b'RND\x01\0', b'RND\x02\0' + bytes(6), bytes(9)]
+    for choices in (0, 1, 2, 255, 256, 600):
+        good = b'RND\x01\0' + struct.pack('<HH', r.randrange(65536), choices) + bytes(r.randrange(4) for _ in range(choices))
+        files += [good, good[:-1], good + b'\0']
+    for i, file in enumerate(files):
+        (rounds / f'seed{i:03}').write_bytes(file)
+    print(count, 'inputs in', to, 'and', len(files), 'round files in', rounds)
 
 
 if __name__ == '__main__':

@@ -45,6 +45,9 @@ static void do_write_then_read(void) { ynd_write_then_read(&ynd, LISTS, section,
 static void do_walk(void) { static uint8_t choices[64]; ynd_walk_end end; ynd_walk(&ynd, NODES, LINKS, 0, choices, 64, visited, 65, &end, &count, &place); }
 static void do_within(void) { ynd_within(&ynd, NODES, 0, 0, 400, places, counts.nodes + 1, &count, &place); }
 static void do_nearest(void) { static uint64_t square; ynd_nearest(&ynd, NODES, 0, 0, &yes, &at, &square, &place); }
+static void do_read_round(void) { static uint8_t to[64]; static uint16_t start; ynd_read_round(section, 73, to, 64, &start, &count, &place); }
+static void do_write_round(void) { static uint8_t choices[64]; ynd_write_round(7, choices, 64, section, section_len, &count, &place); }
+static void do_follow_round(void) { static uint8_t choices[64]; ynd_walk_end end; ynd_follow_round(&ynd, NODES, LINKS, 0, choices, 64, visited, 65, &end, &count, &place); }
 static void do_node(void) { ynd_node(&ynd, NODES, 3, &yes, &at, &place); }
 static void do_add_node(void) { ynd_add_node(&ynd, NODES, 489, 1, 2, 3, &place); }
 static void do_add_link(void) { ynd_add_link(&ynd, NODES, LINKS, 0, &link_to, &place); }
@@ -80,7 +83,8 @@ int main(int argc, char **argv)
     static const struct { const char *name; void (*call)(void); } CALLS[] = {
         { "ynd_count", do_count }, { "ynd_read", do_read }, { "ynd_sound", do_sound }, { "ynd_walk", do_walk }, { "ynd_renumber", do_renumber },
         { "ynd_write", do_write }, { "ynd_write_then_read", do_write_then_read }, { "ynd_node", do_node }, { "ynd_shown_node", do_shown_node },
-        { "ynd_within", do_within }, { "ynd_nearest", do_nearest },
+        { "ynd_within", do_within }, { "ynd_nearest", do_nearest }, { "ynd_follow_round", do_follow_round },
+        { "ynd_write_round", do_write_round }, { "ynd_read_round", do_read_round },
         { "ynd_add_node", do_add_node }, { "ynd_add_link", do_add_link }, { "ynd_add_ref", do_add_ref }, { "ynd_put_node", do_put_node },
         { "ynd_stored_position", do_stored }, { "ynd_length_between", do_length }, { "ynd_cell_file_name", do_file_name },
         { "ynd_area_id_from_file_name", do_area },

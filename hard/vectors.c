@@ -268,7 +268,8 @@ static lent cell_of(const uint8_t *section, size_t n)
     return m;
 }
 
-static void walk(record *r)
+/* A walk from a place, or a round from a number. */
+static void gone(record *r, bool round)
 {
     size_t n = number(r, 2), start = number(r, 2), nc = number(r, 2), room = number(r, 2), *place = block(sizeof *place), *got_count = block(sizeof *got_count);
     record answers = { bytes_of(r, 3), 3 };
@@ -279,7 +280,9 @@ static void walk(record *r)
     ynd_walk_end *end = block(sizeof *end);
     for (size_t i = 0; i < room; i++)
         visited[i] = 65535;
-    uint32_t got = ynd_walk(m.ynd, NODES(&m), LINKS(&m), start, choices, nc, visited, room, end, got_count, place);
+    uint32_t got = round
+        ? ynd_follow_round(m.ynd, NODES(&m), LINKS(&m), (uint16_t)start, choices, nc, visited, room, end, got_count, place)
+        : ynd_walk(m.ynd, NODES(&m), LINKS(&m), start, choices, nc, visited, room, end, got_count, place);
     told(&answers, got, *place);
     CHECK(got || (end->how == how && end->area_id == at && end->node_id == to && *got_count == visits));
     for (size_t i = 0; i < room; i++)
@@ -309,16 +312,68 @@ static void sound(record *r)
     unblock(place, sizeof *place);
 }
 
+static void walk(record *r)
+{
+    gone(r, false);
+}
+
+static void follow(record *r)
+{
+    gone(r, true);
+}
+
+static void round_file(record *r)
+{
+    size_t n = number(r, 2), room = number(r, 2), *place = block(sizeof *place), *count = block(sizeof *count);
+    record answers = { bytes_of(r, 3), 3 };
+    uint16_t first = (uint16_t)number(r, 2), *start = block(sizeof *start);
+    size_t held = number(r, 2);
+    uint8_t *file = block_of(bytes_of(r, n), n), *choices = block(room);
+    memset(choices, 165, room);
+    uint32_t got = ynd_read_round(file, n, choices, room, start, count, place);
+    told(&answers, got, *place);
+    CHECK(got || (*start == first && *count == held));
+    CHECK(memcmp(choices, bytes_of(r, room), room) == 0);
+    if (!got) {
+        uint8_t *to = block(n);
+        CHECK(ynd_write_round(*start, choices, *count, to, n, count, place) == 0 && *count == n && memcmp(to, file, n) == 0);
+        unblock(to, n);
+    }
+    unblock(choices, room);
+    unblock(file, n);
+    unblock(start, sizeof *start);
+    unblock(count, sizeof *count);
+    unblock(place, sizeof *place);
+}
+
+static void round_of(record *r)
+{
+    uint16_t start = (uint16_t)number(r, 2);
+    size_t n = number(r, 4), room = number(r, 4), *place = block(sizeof *place), *length = block(sizeof *length);
+    record answers = { bytes_of(r, 3), 3 };
+    uint8_t *choices = block(n), *file = block(room);
+    uint32_t got = ynd_write_round(start, choices, n, file, room, length, place);
+    told(&answers, got, *place);
+    CHECK(got || *length == number(r, 4));
+    unblock(file, room);
+    unblock(choices, n);
+    unblock(length, sizeof *length);
+    unblock(place, sizeof *place);
+}
+
 size_t replay(const uint8_t *bytes, size_t n)
 {
-    static void (*const KINDS[])(record *) = { NULL, steps, metres, grid, length, name, grid_cell, area, lane_offset, file, links, junction, large, walk, sound };
+    static void (*const KINDS[])(record *) = {
+        NULL, steps, metres, grid, length, name, grid_cell, area, lane_offset, file, links, junction, large, walk, sound,
+        NULL, NULL, NULL, round_file, follow, round_of
+    };
     record all = { bytes, n };
     size_t count = 0, other = 0;
     while (all.left) {
         uint32_t kind = number(&all, 1);
         size_t size = number(&all, 2);
         record one = { bytes_of(&all, size), size };
-        if (kind == 0 || kind >= sizeof KINDS / sizeof *KINDS) {
+        if (kind >= sizeof KINDS / sizeof *KINDS || !KINDS[kind]) {
             other++;
             continue;
         }

@@ -40,14 +40,16 @@ extern "C" {
  * | 4 | a node's link start, or start plus count, over the list's length | the node |
  * | 5 | a junction's heightmap start, or start plus width × height, over the bytes' length | the junction |
  * | 6 | more than 65,536 nodes or 4,096 junctions | 0 nodes, 1 junctions |
- * | 7 | lent memory too short | 0 to 4 as for 3, 5 section, 6 renumbering scratch, 7 new places, 8 visited or listed |
+ * | 7 | lent memory too short | 0 to 4 as for 3, 5 section, 6 scratch, 7 new places, 8 visited, listed, round |
  * | 8 | over 31 links on writing | the node |
  * | 9 | links before this node over 65,535 on writing | the node |
  * | 10 | heightmap bytes before a junction over 65,535 on writing | the junction |
  * | 11 | refs over 65,535 on writing | 0 |
  * | 12 | heightmap values not width × height | 0 |
- * | 13 | no such place, or a grid number over 31 | 0 |
+ * | 13 | no such place, a round's start that no node has, or a grid number over 31 | 0 |
  * | 14 | the cell is at or over a limit: 65,536 nodes, 4,096 junctions, 255 links of a node | 0 |
+ * | 15 | a round file's first five bytes aren't the mark and version 1 | 0 |
+ * | 16 | a round file under 9 bytes, or not 9 plus its count; over 65,535 choices on writing | 0 |
  */
 enum ynd_refusal {
     YND_ACCEPTED = 0,
@@ -64,10 +66,13 @@ enum ynd_refusal {
     YND_TOO_MANY_REFS = 11,
     YND_VALUES_NOT_SIZE = 12,
     YND_NO_SUCH_PLACE = 13,
-    YND_AT_LIMIT = 14
+    YND_AT_LIMIT = 14,
+    YND_NO_ROUND_FILE = 15,
+    YND_BAD_ROUND_LENGTH = 16
 };
 
-/* The places of the refusals 3 (0 to 4) and 7 (0 to 8). YND_VISITED is any list of places that a call fills. */
+/* The places of the refusals 3 (0 to 4) and 7 (0 to 8). YND_VISITED is any list of places that a call
+ * fills, and the memory of a round's choices or file. */
 enum ynd_list {
     YND_NODES = 0,
     YND_LINKS = 1,
@@ -92,6 +97,8 @@ enum {
     YND_NODES_MOST = 65536,         /* nodes of a cell */
     YND_JUNCTIONS_MOST = 4096,      /* junctions of a cell */
     YND_NODE_LINKS_MOST = 255,      /* links of a node in memory */
+    YND_CHOICES_MOST = 65535,       /* choices of a round that is written */
+    YND_ROUND_BYTES = 9,            /* bytes of a round file before its choices */
     YND_NODE_LINKS_WRITTEN = 31,    /* links of a node that is written */
     YND_SCRATCH = 65536,            /* entries of the scratch that ynd_renumber and ynd_sound are lent */
     YND_GRID = 32,                  /* grid cells along x and y */
@@ -349,6 +356,33 @@ uint32_t ynd_within(
 uint32_t ynd_nearest(
     const ynd_cell *ynd, const ynd_node_entry *nodes, size_t nodes_len, int16_t x, int16_t y, bool *found,
     size_t *at, uint64_t *square, size_t *place);
+
+/* ---- Round files, and rounds followed. A round is the number of its start node and a byte a choice. Its file has the
+ * mark RND, version 1 (two bytes), the number (two), the count of choices (two) and the choices; low bytes first ---- */
+
+/* Reads a round file: `start` gets the number, `count` how many choices there are, the first entries of `choices` the
+ * choices, later entries stay (YND_CHOICES_MOST entries always do). Refused, in this order: 15 the first five bytes
+ * aren't the mark and version 1; 16 under 9 bytes, or another length than 9 plus the count; 7 at 8 where `choices` has
+ * fewer entries than the count. */
+uint32_t ynd_read_round(
+    const uint8_t *file, size_t file_len, uint8_t *choices, size_t choices_len, uint16_t *start, size_t *count,
+    size_t *place);
+
+/* Writes a round file of 9 + choices_len bytes: `length` gets how many they are, later bytes of `file` stay. Refused,
+ * in this order: 16 over 65,535 choices; 7 at 8 where `file` is shorter. */
+uint32_t ynd_write_round(
+    uint16_t start, const uint8_t *choices, size_t choices_len, uint8_t *file, size_t file_len, size_t *length,
+    size_t *place);
+
+/* Follows a round: the walk from the place that ynd_node finds for the number `start`, with all that ynd_walk leaves.
+ * Renumbering gives nodes new numbers: a file from before it starts at whichever node then has its number, so write it
+ * again with the node's new number. Refused, in this order: 14 over a limit; 7 at 0 where the nodes are fewer than
+ * their count; 13 no node has the number; 7 at 1 where the links are fewer than their count; 7 at 8 where `visited` is
+ * too short (choices_len + 1 entries always do). */
+uint32_t ynd_follow_round(
+    const ynd_cell *ynd, const ynd_node_entry *nodes, size_t nodes_len,
+    const ynd_link_entry *links, size_t links_len, uint16_t start, const uint8_t *choices, size_t choices_len,
+    uint32_t *visited, size_t visited_len, ynd_walk_end *end, size_t *count, size_t *place);
 
 /* ---- Entries added ---- */
 

@@ -190,6 +190,19 @@ extern "C" {
         ynd: &Words, nodes: *const Node, nodes_len: usize, links: *const Link, links_len: usize, start: usize, choices: *const u8,
         choices_len: usize, visited: *mut u32, visited_len: usize, end: &mut [u32; 3], count: &mut usize, place: &mut usize,
     ) -> u32;
+    pub(crate) fn ynd_read_round(
+        file: *const u8, file_len: usize, choices: *mut u8, choices_len: usize, start: &mut u16, count: &mut usize,
+        place: &mut usize,
+    ) -> u32;
+    pub(crate) fn ynd_write_round(
+        start: u16, choices: *const u8, choices_len: usize, file: *mut u8, file_len: usize, length: &mut usize,
+        place: &mut usize,
+    ) -> u32;
+    pub(crate) fn ynd_follow_round(
+        ynd: &Words, nodes: *const Node, nodes_len: usize, links: *const Link, links_len: usize, start: u16,
+        choices: *const u8, choices_len: usize, visited: *mut u32, visited_len: usize, end: &mut [u32; 3],
+        count: &mut usize, place: &mut usize,
+    ) -> u32;
     pub(crate) fn ynd_sound(
         ynd: &Words, nodes: *const Node, nodes_len: usize, links: *const Link, links_len: usize, refs: *const Ref, refs_len: usize, scratch:
         *mut u32, scratch_len: usize, sound: &mut bool, place: &mut usize,

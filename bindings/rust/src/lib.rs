@@ -24,6 +24,7 @@ mod fields;
 pub mod numbers;
 mod reach;
 mod refusal;
+mod rounds;
 mod stores;
 mod walks;
 
@@ -32,4 +33,5 @@ pub use entries::{Junction, Link, Node, Ref};
 pub use fields::special_is_ped;
 pub use reach::NearNode;
 pub use refusal::Refusal;
+pub use rounds::Round;
 pub use walks::{End, SeenJunction, SeenLink, SeenNode, Walk};

@@ -17,8 +17,8 @@ pub enum Refusal {
     BadHeightmapRange(usize),
     /// 6: more than 65,536 nodes (0) or 4,096 junctions (1).
     TooMany(usize),
-    /// 7: lent memory too short (0 to 4 as for 3, 5 section, 6 renumbering scratch, 7 new places, 8 visited or
-    /// listed). A cell that lends its own memory does not meet it.
+    /// 7: lent memory too short (0 to 4 as for 3, 5 section, 6 scratch, 7 new places, 8 visited,
+    /// listed, round). A cell that lends its own memory does not meet it.
     LentTooShort(usize),
     /// 8: over 31 links on writing.
     OverThirtyOneLinks(usize),
@@ -30,10 +30,14 @@ pub enum Refusal {
     TooManyRefs,
     /// 12: heightmap values not width × height.
     ValuesNotSize,
-    /// 13: no such place, or a grid number over 31.
+    /// 13: no such place, a round's start that no node has, or a grid number over 31.
     NoSuchPlace,
     /// 14: the cell is at a limit: 65,536 nodes, 4,096 junctions, 255 links of a node.
     AtLimit,
+    /// 15: a round file's first five bytes aren't the mark and version 1.
+    NoRoundFile,
+    /// 16: a round file under 9 bytes, or not 9 plus its count; over 65,535 choices on writing.
+    BadRoundLength,
 }
 
 impl Refusal {
@@ -59,6 +63,8 @@ impl Refusal {
             Refusal::ValuesNotSize => (12, 0),
             Refusal::NoSuchPlace => (13, 0),
             Refusal::AtLimit => (14, 0),
+            Refusal::NoRoundFile => (15, 0),
+            Refusal::BadRoundLength => (16, 0),
         }
     }
 
@@ -76,8 +82,10 @@ impl Refusal {
             Refusal::HeightsBeforeJunction(_) => "heightmap bytes before a junction over 65,535 on writing",
             Refusal::TooManyRefs => "refs over 65,535 on writing",
             Refusal::ValuesNotSize => "heightmap values not width × height",
-            Refusal::NoSuchPlace => "no such place, or a grid number over 31",
+            Refusal::NoSuchPlace => "no such place, a round's start that no node has, or a grid number over 31",
             Refusal::AtLimit => "the cell is at a limit: 65,536 nodes, 4,096 junctions, 255 links of a node",
+            Refusal::NoRoundFile => "a round file's first five bytes aren't the mark and version 1",
+            Refusal::BadRoundLength => "a round file under 9 bytes, or not 9 plus its count; over 65,535 choices on writing",
         }
     }
 
@@ -97,7 +105,9 @@ impl Refusal {
             12 => Refusal::ValuesNotSize,
             13 => Refusal::NoSuchPlace,
             14 => Refusal::AtLimit,
-            _ => unreachable!("document 01 has the numbers 1 to 14, not {number}"),
+            15 => Refusal::NoRoundFile,
+            16 => Refusal::BadRoundLength,
+            _ => unreachable!("the documents have the numbers 1 to 16, not {number}"),
         }
     }
 }

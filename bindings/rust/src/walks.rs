@@ -56,6 +56,20 @@ pub struct SeenLink {
     pub length: u8,
 }
 
+impl Walk {
+    /// The end's words, and the places, as many as were visited.
+    pub(crate) fn of(end: [u32; 3], mut visited: Vec<u32>, count: usize) -> Walk {
+        visited.truncate(count);
+        let end = match end {
+            [0, ..] => End::Done,
+            [1, ..] => End::NoLink,
+            [2, area, number] => End::Left(area as u16, number as u16),
+            _ => End::NoNode,
+        };
+        Walk { end, visited }
+    }
+}
+
 impl Cell {
     /// Walks from the node at a place; each byte chooses a link by its place among the node's links. Refused: 13.
     pub fn walk(&self, start: usize, choices: &[u8]) -> Result<Walk, Refusal> {
@@ -66,14 +80,7 @@ impl Cell {
                 visited.as_mut_ptr(), visited.len(), &mut end, &mut n, place,
             )
         })?;
-        visited.truncate(n);
-        let end = match end {
-            [0, ..] => End::Done,
-            [1, ..] => End::NoLink,
-            [2, area, number] => End::Left(area as u16, number as u16),
-            _ => End::NoNode,
-        };
-        Ok(Walk { end, visited })
+        Ok(Walk::of(end, visited, n))
     }
 
     /// Whether all nodes have one area, numbers differ, and each own link and own ref names a node of the cell.

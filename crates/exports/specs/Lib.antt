@@ -4,3 +4,4 @@ pub mod Cells
 pub mod Found
 pub mod Near
 pub mod Parts
+pub mod RoundTold

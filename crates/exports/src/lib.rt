@@ -14,6 +14,7 @@ pub mod node_access;
 pub mod reaching;
 pub mod reading;
 pub mod renumbering;
+pub mod round_files;
 pub mod sections;
 pub mod showing;
 pub mod steps;

@@ -12,7 +12,7 @@ ghost use Rattle.walks.specs.SoundCall.{soundCall};
 ghost use Rattle.exports.specs.Cells.{lent};
 ghost use Rattle.exports.specs.Found.{told, endWords, trail, walkTold, soundTold};
 
-fn end_words(e: End) -> [u32; 3]
+pub(crate) fn end_words(e: End) -> [u32; 3]
     ensures { λ r. ⌜ r ≡ endWords e ⌝ }
 {
     match e {
