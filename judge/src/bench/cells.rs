@@ -61,17 +61,7 @@ fn of_size(size: usize, wanted: &Wanted) -> Vec<Row> {
 /// near, or in random order. Beside it a plain loop over the same memory, which is what the machine needs for it at
 /// the least.
 fn walking(cell: &Cell, call: &'static str, near: bool) -> [Row; 2] {
-    let (mut cell, size) = (cell.clone(), cell.nodes.len());
-    renumber::renumber(&mut cell, 65_536, size).expect("room for all");
-    let mut r = Rng::new(7);
-    let mut order: Vec<usize> = (0..size).collect();
-    let reach = if near { 16 } else { size };
-    for part in order.chunks_mut(reach) { for i in (1..part.len()).rev() { part.swap(i, r.below(i + 1)); } }
-    for i in 0..size {
-        let n = &mut cell.nodes[order[i]];
-        n.links[0] = Link { area_id: n.area_id, node_id: order[(i + 1) % size] as u16, ..Link::default() };
-    }
-    let memory = Memory::of(&mut r, &cell, cell.counts());
+    let (memory, size) = (circuit(cell, near), cell.nodes.len());
     let (choices, mut visited) = (vec![0; size], vec![0; size + 1]);
     let mut trodden = visited.clone();
     let (plain, port) = both(size, || timed(|| tread(&memory, &mut trodden)),
@@ -82,6 +72,21 @@ fn walking(cell: &Cell, call: &'static str, near: bool) -> [Row; 2] {
     let floor = if near { "a plain loop's link, to a near node" } else { "a plain loop's link, in random order" };
     [Row { call, size, rust: None, port: Some(port), goal },
         Row { call: floor, size, rust: Some(plain), port: None, goal: Goal::None }]
+}
+
+/// The cell renumbered, its first links leading through all nodes and back to the first.
+pub(super) fn circuit(cell: &Cell, near: bool) -> Memory {
+    let (mut cell, size) = (cell.clone(), cell.nodes.len());
+    renumber::renumber(&mut cell, 65_536, size).expect("room for all");
+    let mut r = Rng::new(7);
+    let mut order: Vec<usize> = (0..size).collect();
+    let reach = if near { 16 } else { size };
+    for part in order.chunks_mut(reach) { for i in (1..part.len()).rev() { part.swap(i, r.below(i + 1)); } }
+    for i in 0..size {
+        let n = &mut cell.nodes[order[i]];
+        n.links[0] = Link { area_id: n.area_id, node_id: order[(i + 1) % size] as u16, ..Link::default() };
+    }
+    Memory::of(&mut r, &cell, cell.counts())
 }
 
 /// From link to link, always the first, with no test but that of the index.
@@ -95,7 +100,7 @@ fn tread(memory: &Memory, visited: &mut [u32]) {
 
 /// A cell as drawn: up to three links a node, a ped node in five, a junction and a ref in every two hundred, numbers
 /// that differ.
-fn cell(size: usize) -> Cell {
+pub(super) fn cell(size: usize) -> Cell {
     let mut r = Rng::new(size as u64);
     let links = (65_535 / size).min(3);
     let nodes = (0..size).map(|i| Node {

@@ -2,6 +2,7 @@
 mod cells;
 mod numbers;
 mod reach;
+mod rounds;
 
 use std::hint::black_box;
 use std::time::{Duration, Instant};
@@ -48,12 +49,13 @@ pub fn bench(only: Option<String>) {
     let wanted = Wanted(only);
     println!("| Call | Nodes | Rust, ns | Port, ns | Ratio | Goal |");
     println!("|---|---|---|---|---|---|");
-    let rows = numbers::rows(&wanted).into_iter().chain(cells::rows(&wanted)).chain(reach::rows(&wanted));
+    let rows = numbers::rows(&wanted).into_iter().chain(cells::rows(&wanted)).chain(reach::rows(&wanted))
+        .chain(rounds::rows(&wanted));
     for row in rows { println!("{}", row.line()); }
     println!();
     print!("Nanoseconds a node, or a call for steps, grid and lengths; the fastest of {TURNS} turns, ");
     println!("each side in turn. Inputs are made once.\n{NOTES}");
-    println!("{}", reach::NOTE);
+    println!("{}\n{}", reach::NOTE, rounds::NOTE);
 }
 
 const TURNS: usize = 41;

@@ -2,7 +2,8 @@
 use super::numbers::{area, cell_for_position, file_name, grid_cell, lane_offset, length_between, metres};
 use super::numbers::{next_to_square, position, steps_of};
 use super::run::Run;
-use super::{access, cells, far, files, large, page, programs, reach, records, scripts, soak, stores, Mismatch, MODEL};
+use super::{access, cells, far, files, large, page, programs, reach, records, rounds, scripts, soak, stores};
+use super::{Mismatch, MODEL};
 use crate::inputs::{self, floats, limits, memories, names, rng::Rng, shrink, squares};
 use crate::model::length;
 
@@ -34,6 +35,7 @@ pub fn diff(seed: u64, seconds: f64, full: bool, only: Option<String>) {
     run.counted("edits of far ranges", of(FAR_SCRIPTS), inputs::far::script, far::edits, |_| Vec::new());
     run.counted("large cells", of(LARGE), inputs::large::cell, large::check, |_| Vec::new());
     reach::family(&run);
+    rounds::families(&run);
     lists(&run, of(LISTS));
     run.random("scripts", seconds * 0.25, inputs::scripts::script, scripts::check, inputs::scripts::smaller);
     run.random("stores", seconds * 0.1, inputs::stores::stores, stores::check, inputs::stores::smaller);

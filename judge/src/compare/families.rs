@@ -120,6 +120,23 @@ pub const FAMILIES: &[Family] = &[
         (Edge(Infinite), 5_000), (Edge(Third), 5_000), (Edge(Empty), 5_000), (Edge(JustLong), 50_000),
         (Edge(OneShort), 50_000), (Edge(MostNodes), 20),
     ]),
+    cells("round files of few bytes", "every file of up to 6 of 7 bytes, alone and behind the mark and version 1", &[
+        (No(Round, 15), 250_000), (No(Round, 16), 500_000), (At(Round, 7, 8), 5_000), (Yes(Round), 10_000),
+        (Edge(WrittenBack), 5_000),
+    ]),
+    cells("round files", "good files, each byte of them changed, and every length", &[
+        (No(Round, 15), 500_000), (No(Round, 16), 1_000_000), (At(Round, 7, 8), 300_000), (Yes(Round), 300_000),
+        (Edge(Damaged), 1_000_000), (Edge(WrittenBack), 300_000), (Edge(JustLong), 30_000), (Edge(OneShort), 25_000),
+    ]),
+    cells("round files at their limit", "65,534 to 65,537 choices, memory around what is needed", &[
+        (No(Round, 16), 10), (At(Round, 7, 8), 4), (Yes(Round), 12), (Edge(MostChoices), 4), (Edge(OverChoices), 4),
+    ]),
+    cells("rounds followed", "numbers that no node, one and two nodes have, in small cells, also made by hand", &[
+        (Yes(Follow), 200_000), (At(Follow, 13, 0), 50_000), (At(Follow, 7, 0), 1_000), (At(Follow, 7, 1), 1_000),
+        (At(Follow, 7, 8), 20_000), (At(Follow, 14, 0), 1_000), (Edge(Done), 15_000), (Edge(NoLink), 20_000),
+        (Edge(Left), 5_000), (Edge(NoNode), 2_000), (Edge(NotItsPlace), 20_000), (Edge(TwoNumbers), 10_000),
+        (Edge(JustLong), 20_000), (Edge(OneShort), 20_000), (Edge(Empty), 1_000),
+    ]),
     cells("stores", "words, links, heightmaps and list lengths stored as a whole, beside the Rust's fields", &[
         (Yes(Edit), 20_000), (No(Edit, 13), 500), (No(Edit, 14), 100), (No(Edit, 12), 200), (At(Edit, 7, 1), 100),
         (At(Edit, 7, 3), 50),

@@ -15,6 +15,7 @@ pub mod programs;
 pub mod reach;
 pub mod records;
 pub mod report;
+pub mod rounds;
 pub mod run;
 pub mod scratch;
 pub mod scripts;

@@ -9,11 +9,11 @@ use std::sync::Mutex;
 
 /// The calls whose answers are counted.
 #[derive(Clone, Copy, PartialEq, Eq, Debug)]
-pub enum Call { Read, Renumber, Write, WriteRead, Lookup, Entry, Edit, Walk, Soundness, Shown, Grid, Program, Near }
+pub enum Call { Read, Renumber, Write, WriteRead, Lookup, Entry, Edit, Walk, Soundness, Shown, Grid, Program, Near, Round, Follow }
 
-const CALLS: [&str; 13] = [
+const CALLS: [&str; 15] = [
     "reading", "renumbering", "writing", "write-then-read", "lookups", "entries", "edits", "walks", "soundness",
-    "shown", "grid", "cellsum", "near nodes",
+    "shown", "grid", "cellsum", "near nodes", "round files", "rounds",
 ];
 const NUMBERS: usize = 20;
 const PLACES: usize = 9;
@@ -25,10 +25,10 @@ pub enum Met {
     Sound, Unsound, Moved, Done, NoLink, Left, NoNode, Followed, Watched, Equal, Copies, Written, RustBytes,
     FarLinks, FarValues, UpperHalf, MostNodes, MostLinks, MostJunctions, MostRefs, Many, Found, NotFound,
     FarApart, Radius0, Radius1, RadiusMost, OnCircle, StepBeyond, EqualNear, Infinite, Third, Empty, JustLong,
-    OneShort, Undrawn,
+    OneShort, Undrawn, Damaged, WrittenBack, MostChoices, OverChoices, NotItsPlace, TwoNumbers,
 }
 
-const METS: [&str; 51] = [
+const METS: [&str; 57] = [
     "NaN", "below the lower limit", "over the upper limit", "cut towards zero", "before a threshold", "at a threshold",
     "after a threshold", "along an axis", "over several axes", "difference rounded", "square rounded",
     "first sum rounded", "last sum rounded", "a number", "none", "sound cells", "unsound cells",
@@ -38,7 +38,8 @@ const METS: [&str; 51] = [
     "4,096 junctions", "65,535 refs", "2,000 nodes and more", "found", "not found",
     "65,535 steps away on both axes", "radius 0", "radius 1", "radius 65,535", "on the circle", "one step beyond",
     "nearest of equal distances", "infinite", "-0.3", "an empty cell", "a list just long enough",
-    "a list one too short", "no system bytes",
+    "a list one too short", "no system bytes", "a good file damaged", "written back", "65,535 choices",
+    "65,536 choices", "a start that is not its place", "a start that two nodes have",
 ];
 
 /// What a family has to meet: accepted, refused with a number, refused with a number at a place, or an edge.

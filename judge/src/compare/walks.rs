@@ -92,6 +92,7 @@ fn shown(
 ) -> Result<Answer<Walk>, super::Mismatch> {
     let mut places = vec![0xA5A5_A5A5; visited];
     let (answer, _) = memory.walk(start, choices, &mut places);
+    followed(memory, start, choices, &(answer, &places))?;
     let all = walk(cell, start, choices).expect("a node");
     Ok(match answer {
         Ok((end, count)) => {
@@ -104,6 +105,13 @@ fn shown(
         }
         Err(e) => Err(e),
     })
+}
+
+/// T-03: in a sound cell the round from a node's number is the walk from its place.
+fn followed(memory: &Memory, start: usize, choices: &[u8], walk: &(Answer<(End, usize)>, &Vec<u32>)) -> Verdict {
+    let mut places = vec![0xA5A5_A5A5; walk.1.len()];
+    let (answer, _) = memory.follow((memory.nodes[start][0] >> 16) as u16, choices, &mut places);
+    same("a round from a node's number", PORT, &(answer, &places), "its walk", walk)
 }
 
 pub fn choices(r: &mut Rng) -> Vec<u8> {

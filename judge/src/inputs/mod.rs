@@ -9,6 +9,7 @@ pub mod memories;
 pub mod names;
 pub mod reach;
 pub mod rng;
+pub mod rounds;
 pub mod scripts;
 pub mod shrink;
 pub mod squares;

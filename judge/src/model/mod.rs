@@ -9,6 +9,7 @@ pub mod reach;
 pub mod read;
 pub mod records;
 pub mod renumber;
+pub mod rounds;
 pub mod sections;
 pub mod steps;
 pub mod walk;

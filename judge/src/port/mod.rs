@@ -9,6 +9,7 @@ pub mod lookups;
 pub mod memory;
 pub mod numbers;
 pub mod reach;
+pub mod rounds;
 pub mod sections;
 pub mod shown;
 pub mod stores;

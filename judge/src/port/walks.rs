@@ -22,6 +22,19 @@ extern "C" {
 /// How a walk ended, and how many places it visited; the second part says that a refusal left what was lent for them.
 pub type Walked = (Answer<(End, usize)>, bool);
 
+/// What a walk or a round answered, by the numbers that it left.
+pub fn ended(number: u32, place: usize, end: [u32; 3], count: usize) -> Walked {
+    let kept = number == 0 || (end == [KEPT; 3] && count == KEPT_PLACE);
+    let how = match end {
+        [0, 0, 0] => End::Done,
+        [1, 0, 0] => End::NoLink,
+        [2, area, number] if area < 65_536 && number < 65_536 => End::Left(area as u16, number as u16),
+        [3, 0, 0] => End::NoNode,
+        _ => return (answer(number, place, (End::Done, KEPT_PLACE)), kept),
+    };
+    (answer(number, place, (how, count)), kept)
+}
+
 impl Memory {
     pub fn walk(&self, start: usize, choices: &[u8], visited: &mut [u32]) -> Walked {
         if slips::any() { return slips::walks::walk(self, start, choices, visited); }
@@ -43,15 +56,7 @@ impl Memory {
         by.stays("ynd_walk", "choices");
         to.back("ynd_walk", "visited");
         self.stays("ynd_walk", NODES | LINKS, kept);
-        let kept = number == 0 || (end == [KEPT; 3] && count == KEPT_PLACE);
-        let how = match end {
-            [0, 0, 0] => End::Done,
-            [1, 0, 0] => End::NoLink,
-            [2, area, number] if area < 65_536 && number < 65_536 => End::Left(area as u16, number as u16),
-            [3, 0, 0] => End::NoNode,
-            _ => return (answer(number, place, (End::Done, KEPT_PLACE)), kept),
-        };
-        (answer(number, place, (how, count)), kept)
+        ended(number, place, end, count)
     }
 
     pub fn sound(&self, scratch: &mut [u32]) -> Answer<bool> {

@@ -9,6 +9,7 @@ pub mod ranges;
 pub mod reach;
 pub mod reading;
 pub mod renumbering;
+pub mod rounds;
 pub mod run;
 pub mod sections;
 pub mod table;

@@ -15,6 +15,8 @@ pub enum Slip {
     NoNodeAsNoLink, PlacePerChoice, HereArea, FullListRefused, FullListEnds, WalkTouches, PastTheEnd, WithoutRefs,
     AnyAreas, EmptyRefs, FirstNode, LookupTouches,
     CircleLeftOut, Sums32, LastOfEqual, LinksAppended, OldHeight,
+    LengthFirst, CountFromLength, HighByteFirst, AnyVersion, SevenFirst, WholeMemory, MostWritten, StartAsPlace,
+    FirstWithNumber, ThirteenLast,
     LinkFirst, RefusedEdit, PutTakesRange, PutInSteps, SevenBeforeTwelve, Limit254,
     KeptStreet, KeptLinkCount, KeptLength, KeptRef, KeptJunction, KeptValue, KeptPlace, KeptCount, KeptSection,
     VectorHeights, VectorCorner, VectorSize, FileLinks, TooLong, PairsGrid,
@@ -31,6 +33,8 @@ const SCRIPTS: &str = "scripts";
 const LISTS: &str = "lists of calls on sound cells";
 const VECTORS: &str = "vectors";
 const LIMITS: &str = "files around limits";
+const ROUND_FILES: &str = "round files";
+const ROUNDS: &str = "rounds followed";
 
 pub const SLIPS: &[(Slip, &str, &str, &str)] = &[
     (FlooredSteps, "floored-steps", "steps", "negative steps are floored, not cut"),
@@ -117,6 +121,16 @@ pub const SLIPS: &[(Slip, &str, &str, &str)] = &[
     (CircleLeftOut, "circle-left-out", "reach", "a node on the circle is not within reach"),
     (Sums32, "sums-32", "reach", "the sum of the squares is one of 32 bits"),
     (LastOfEqual, "last-of-equal", "reach", "of equal distances the last place is the nearest"),
+    (LengthFirst, "length-first", "round files of few bytes", "16 is asked before mark and version"),
+    (CountFromLength, "count-from-length", ROUND_FILES, "the count is taken from the file's length"),
+    (HighByteFirst, "high-byte-first", ROUND_FILES, "the start's high byte comes first"),
+    (AnyVersion, "any-version", "round files of few bytes", "of the version only the low byte counts"),
+    (SevenFirst, "seven-first", ROUND_FILES, "memory is asked before the length"),
+    (WholeMemory, "whole-memory", ROUND_FILES, "entries behind the choices are cleared"),
+    (MostWritten, "most-written", "round files at their limit", "65,536 choices are written with count 0"),
+    (StartAsPlace, "start-as-place", ROUNDS, "the start number is taken as a place"),
+    (FirstWithNumber, "first-with-number", ROUNDS, "a round starts at the first with the number, not at its place"),
+    (ThirteenLast, "thirteen-last", ROUNDS, "a number that no node has is asked after the visited list"),
     (LinksAppended, "links-appended", "stores", "put_links leaves the old count where fewer links are given"),
     (OldHeight, "old-height", "stores", "put_heightmap keeps the old height"),
     (LinkFirst, "link-first", SCRIPTS, "a new link comes first of its node's"),

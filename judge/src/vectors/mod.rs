@@ -7,6 +7,7 @@ mod junctions;
 mod large;
 mod numbers;
 mod reach;
+mod rounds;
 mod walks;
 
 use std::fs;
@@ -54,6 +55,7 @@ pub fn write(path: &str) {
     junctions::add(&mut records);
     edits::add(&mut records);
     reach::add(&mut records);
+    rounds::add(&mut records);
     cells::add(&mut records);
     assert!(records.bytes.len() <= MOST, "{} bytes of vectors", records.bytes.len());
     fs::write(path, &records.bytes).expect("the vectors file");

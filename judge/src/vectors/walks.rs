@@ -46,7 +46,7 @@ pub fn add(to: &mut Records) {
     let r = &mut Rng::new(3);
     walks(to);
     soundness(to);
-    for _ in 0..8 {
+    for _ in 0..4 {
         let section = small(r);
         let cell = read::read(&section, &[]).expect("a valid file");
         sound(to, &section, [64, 256, 64], true);
