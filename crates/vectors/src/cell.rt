@@ -88,9 +88,26 @@ fn same_places(visited: &[u32], expected: &[u8]) -> bool {
     true
 }
 
+// A walk from a place, or a round from a number.
+fn gone(
+    ynd: Ynd,
+    nodes: &[NodeWords],
+    links: &[[u16; 4]],
+    start: u16,
+    round: bool,
+    choices: &[u8],
+    visited: &mut [u32],
+) -> Walked {
+    if round {
+        return rounds::follow::follow_round(ynd, nodes, links, start, choices, visited);
+    }
+    walks::walk::walk(ynd, nodes, links, start as usize, choices, visited)
+}
+
 // The walk in a cell; `rest` is what stands behind the section.
 fn walked(
     b: &[u8],
+    round: bool,
     rest: &[u8],
     ynd: Ynd,
     nodes: &[NodeWords],
@@ -98,7 +115,7 @@ fn walked(
     visited: &mut [u32],
 ) -> bool {
     let choices = first(rest, length_at(b, 4));
-    let w = walks::walk::walk(ynd, nodes, links, length_at(b, 2), choices, visited);
+    let w = gone(ynd, nodes, links, u16_at(b, 2), round, choices, visited);
     if !walk_agrees(b, w) {
         return false;
     }
@@ -107,6 +124,7 @@ fn walked(
 
 fn read_and_walked(
     b: &[u8],
+    round: bool,
     nodes: &mut [NodeWords],
     links: &mut [[u16; 4]],
     junctions: &mut [[u32; 6]],
@@ -131,6 +149,7 @@ fn read_and_walked(
     let v = most(length_at(b, 6), visited.len());
     walked(
         b,
+        round,
         after(file, length_at(b, 0)),
         y,
         nodes,
@@ -145,6 +164,15 @@ fn read_and_walked(
 //   18 the system section, the choices, the list for the places as the walk leaves it, which first held 65535
 //   everywhere.
 pub fn walk(b: &[u8]) -> bool {
+    walk_or_round(b, false)
+}
+
+// A round in the cell of a file: as for a walk, but the start is a number.
+pub fn follow(b: &[u8]) -> bool {
+    walk_or_round(b, true)
+}
+
+fn walk_or_round(b: &[u8], round: bool) -> bool {
     let mut nodes = [[0u32; 8]; 64];
     let mut links = [[0u16; 4]; 256];
     let mut junctions = [[0u32; 6]; 16];
@@ -153,6 +181,7 @@ pub fn walk(b: &[u8]) -> bool {
     let mut visited = [65535u32; 64];
     read_and_walked(
         b,
+        round,
         &mut nodes,
         &mut links,
         &mut junctions,

@@ -10,6 +10,7 @@ mod names;
 mod near;
 mod parts;
 mod replay;
+mod round_files;
 mod steps;
 
 fn main() {

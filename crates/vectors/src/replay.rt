@@ -28,6 +28,9 @@ fn agrees(kind: u8, body: &[u8]) -> bool {
         15 => crate::junctions::junctions(body),
         16 => crate::near::within(body),
         17 => crate::near::nearest(body),
+        18 => crate::round_files::file(body),
+        19 => crate::cell::follow(body),
+        20 => crate::round_files::long(body),
         _ => false,
     }
 }
