@@ -40,7 +40,7 @@ pub fn damaged(file: &[u8], r: &mut Rng) -> Vec<Vec<u8>> {
         copy[i] ^= r.pick(&[1, 2, 32, 128, 255]);
         out.push(copy);
     }
-    for n in 0..file.len().min(60) { out.push(file[..n].to_vec()); }
+    for n in (0..file.len()).filter(|n| *n < 60 || n + 3 > file.len()) { out.push(file[..n].to_vec()); }
     for more in 1..4 { out.push([file, &r.bytes(more)].concat()); }
     out
 }
