@@ -3,6 +3,8 @@ pub mod Patterns
 pub mod Units
 pub mod Every
 pub mod StepLaws
+pub mod CaseLaws
+pub mod Worked
 pub mod AsCast
 pub mod PositionLaws
 pub mod Cuts

@@ -13,7 +13,8 @@ use lib.Ieee.Bits.{ofBits-toBits}
 use lib.Ieee.Exact.{HasValue}
 use lib.Ieee.Fits.{down-pos}
 use lib.Ieee.Order.{transfer, round-mono}
-use Rattle.numbers.proofs.Patterns.{sign, field, fraction, number, val, finite-value, unsigned, pattern-in}
+use Rattle.numbers.specs.Cases.{sign, field, fraction}
+use Rattle.numbers.proofs.Patterns.{number, val, finite-value, unsigned, pattern-in}
 use Rattle.numbers.proofs.Units.{lt-or-ge}
 use Rattle.numbers.proofs.Cuts.{lt-or-eq}
 

@@ -4,25 +4,16 @@ use Prim.Native.Nat.{ℕ, zero, suc, _+_, _-_, _*_, _/_, _%_, _^_, _≤_, _<_, c
 use native.Mathlib.Nat.{mul-one, mul-assoc, mul-le-mul-left, mul-le-mul-right, le-trans, le-of-eq, le-of-suc-le-suc, eq-or-lt-of-le, eq-zero-or-pos, pow-succ'}
 use native.Mathlib.Omega.{arith}
 use mathlib.Core.Bool.{Bool, true, false, not, cond}
-use lib.Dec.{T, leb, eqb, ltb, nleb→lt}
+use lib.Dec.{T, eqb, ltb, nleb→lt}
 use lib.Pow.{pow-mono}
 use mathlib.Core.Logic.{inl, inr}
-use lib.Ieee.{Float, nan, inf, fin, binary32, odd, size, nearest, units, round, ofFields, ofBits, toBits, nanBits, ne, isNan, fits}
+use lib.Ieee.{Float, nan, inf, fin, binary32, odd, size, nearest, units, round, ofFields, ofBits, nanBits, ne, isNan}
 use lib.Ieee.Fits.{round-is}
 use lib.Ieee.Compare.{differs-from-itself, nan-differs}
-use lib.Ieee.Bits.{is-false, ofBits-toBits, nanBits-is, nanBits-above}
+use lib.Ieee.Bits.{nanBits-is, nanBits-above}
 use lib.Ieee.Exact.{HasValue, odd-sign}
-use borrow.Author.Tests.{eq-eqb, ne-eqb, lt-ltb, le-ltb, ltb-false}
-
--- the sign, the exponent's field and the fraction of a pattern
-abbrev pub sign : ℕ → Bool
-sign b = leb 2147483648 b
-
-abbrev pub field : ℕ → ℕ
-field b = b % 2147483648 / 8388608
-
-abbrev pub fraction : ℕ → ℕ
-fraction b = b % 8388608
+use Rattle.numbers.specs.Cases.{sign, field, fraction}
+use borrow.Author.Tests.{eq-eqb, ne-eqb, lt-ltb, le-ltb}
 
 pub ofBits-is : (b : ℕ) → ofBits binary32 b ≡ ofFields binary32 (sign b) (field b) (fraction b)
 unfolding ofBits
@@ -97,11 +88,6 @@ nan-pattern n h = is-nan (ofBits binary32 n) (sym (nanBits-is binary32 n) ∙ na
 
 pub number-pattern : (n : ℕ) → n % 2147483648 ≤ 2139095040 → nanBits binary32 n ≡ false
 number-pattern n h = nanBits-above binary32 n ∙ le-ltb 2139095040 (n % 2147483648) h
-
-pub number-bits : (x : Float) → T (fits binary32 x) → T (not (isNan x)) → toBits binary32 x % 2147483648 ≤ 2139095040
-number-bits x h n =
-    ltb-false 2139095040 (toBits binary32 x % 2147483648)
-    (sym (nanBits-above binary32 (toBits binary32 x)) ∙ nanBits-is binary32 (toBits binary32 x) ∙ ap isNan (ofBits-toBits binary32 x h) ∙ is-false (isNan x) n)
 
 -- ---- the number in units of 2 ^ -149
 abbrev pub number : ℕ → ℕ → ℕ

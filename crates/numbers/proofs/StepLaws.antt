@@ -15,7 +15,8 @@ use lib.Ieee.Scale.{round-same}
 use lib.Signed.{mag, nonNeg}
 use lib.Ieee.Nearest.{div-same}
 use Rattle.numbers.specs.Steps.{limited, stepOf, unstep}
-use Rattle.numbers.proofs.Patterns.{sign, field, fraction, low-value, mid-value, infinite}
+use Rattle.numbers.specs.Cases.{sign, field, fraction}
+use Rattle.numbers.proofs.Patterns.{low-value, mid-value, infinite, no-number}
 
 -- the steps of ±a / c
 pub step-of-value : (k : ℕ) (x : Float) (s : Bool) (a c : ℕ) → 0 < c → HasValue x s a c → stepOf k x ≡ limited s (a * 2 ^ k / c)
@@ -127,6 +128,11 @@ beyond b k h l u =
 pub at-infinity : (b k : ℕ) → field b ≡ 255 → fraction b ≡ 0 → stepOf k (ofBits binary32 b) ≡ limited (sign b) 32768
 unfolding stepOf
 at-infinity b k e z = ap (stepOf k) (infinite b e z)
+
+-- ---- NaN
+pub at-nan : (b k : ℕ) → field b ≡ 255 → (fraction b ≡ 0 → ⊥) → stepOf k (ofBits binary32 b) ≡ pos 0
+unfolding stepOf
+at-nan b k e z = ap (stepOf k) (no-number b e z)
 
 -- ---- reading: ±n divided by 2 ^ k
 alike : (t s : Bool) (m n u d k : ℕ) → 0 < d → t ≡ s → m * u * 1 ≡ n * d → round binary32 t (m * u * 1) (1 * 2 ^ k * d) ≡ round binary32 s n (2 ^ k)

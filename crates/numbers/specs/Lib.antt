@@ -1,5 +1,6 @@
 pub mod Refusals
 pub mod Steps
+pub mod Cases
 pub mod Positions
 pub mod Grid
 pub mod Names
