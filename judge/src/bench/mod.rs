@@ -62,7 +62,8 @@ const TURNS: usize = 41;
 
 const NOTES: &str = "\
 Steps, grid and lengths are called on both sides through a function pointer, one call an input, so that neither is
-inlined.
+inlined. Behind a C call: the Rust's own expression in a function with the port's C signature, three floats in and an
+array to store them in; that is the least that the port's call could take.
 A walk's link: a walk through all nodes of a renumbered cell; near is within 16 places. The Rust has no walks; the
 plain loop is Rust that goes the same way over the same memory by `links[nodes[p][7]][1]`, with no test but that of
 the index, and stores the places.
