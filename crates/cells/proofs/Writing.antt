@@ -5,3 +5,4 @@ pub mod CheckTurns
 pub mod WriteTotals
 pub mod WriteSteps
 pub mod BlockLaws
+pub mod Nines

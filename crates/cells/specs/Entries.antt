@@ -1,6 +1,8 @@
 -- Section 4, writing: the file's records that the entries in memory become, and each node's links and each junction's heightmap.
 use Prim.Native.Nat.{ℕ, _+_, _*_, _%_}
+use mathlib.Core.Bool.{cond}
 use mathlib.Core.List.{List}
+use lib.Dec.{eqb}
 use lib.ListN.{take, drop}
 use Rattle.numbers.specs.Steps.{stepOf}
 use Rattle.records.specs.declared.node.Node as raw-node
@@ -19,9 +21,10 @@ linksIn links n = take (linkCount n) (drop (linkStart n) links)
 unfoldable pub valuesIn : List ℕ → List ℕ → List ℕ
 valuesIn heights j = take (valueCount j) (drop (valueStart j) heights)
 
--- Section 4: where the file says that a node's links start, with so many links before its own, and so many of its own.
+-- Where the file says that a node's links start, with so many links before its own, and so many of its own. T-05: a node
+-- without links stores 0.
 abbrev pub storedStart : ℕ → ℕ → ℕ
-storedStart before count = before
+storedStart before count = cond (eqb count 0) 0 before
 
 -- A node with `count` links, stored from `start` on. Section 4: unused words are written as zero, and of flags5 the low
 -- three bits are stored. Section 3: coordinates are stored as steps.

@@ -28,7 +28,7 @@ unfoldable pub mapsCut : ℕ → List (List ℕ) → Bool
 mapsCut pool [] = false
 mapsCut pool (j ∷ js) = ltb (valuesWithin pool j) (valueCount j) || mapsCut pool js
 
--- 9: the start that this node stores over 65,535, even if it has no links.
+-- 9: the start that this node stores over 65,535. T-05: so only for a node with links, whose start is what stands before it.
 abbrev pub startOver : ℕ → ℕ → Bool
 startOver before count = ltb 65535 (storedStart before count)
 

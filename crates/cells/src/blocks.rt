@@ -12,6 +12,7 @@ use crate::junction::JunctionWords;
 use crate::junction_ref::RefWords;
 use crate::link::LinkWords;
 use crate::node::NodeWords;
+use crate::range::stored_start;
 use crate::to_file::junction_record;
 use crate::to_file::link_record;
 use crate::to_file::node_record;
@@ -125,7 +126,8 @@ fn put_nodes(section: &mut [u8], at: usize, nodes: &[NodeWords], links: &[LinkWo
     let mut i = 0;
     while i < nodes.len() {
         let count = links_within(nodes[i], links.len());
-        let b = node_record(nodes[i], before as u16, count as u8);
+        let start = stored_start(before, count);
+        let b = node_record(nodes[i], start as u16, count as u8);
         put_bytes(section, at + 40 * i, &b);
         before += count;
         i += 1;

@@ -3,6 +3,7 @@ ghost use mathlib.Core.Path.{_≡_};
 ghost use Prim.Native.Nat.{_-_, _*_, _<_, min};
 ghost use Rattle.cells.specs.NodeWords.{linkStart, linkCount, valueStart, valueCount};
 ghost use Rattle.cells.specs.Edit.{startAt, linkRange, valueRange, heldIn};
+ghost use Rattle.cells.specs.Entries.{storedStart};
 use crate::junction::JunctionWords;
 use crate::junction::PathJunction;
 use crate::node::NodeWords;
@@ -95,6 +96,16 @@ pub fn cut(start: usize, count: usize, pool: usize) -> usize
         return pool - start;
     }
     count
+}
+
+// The start that a node with `count` links stores behind `before` links of other nodes (T-05: 0 if it has none).
+pub fn stored_start(before: usize, count: usize) -> usize
+    ensures { λ r. ⌜ r ≡ storedStart before count ⌝ }
+{
+    if count == 0 {
+        return 0;
+    }
+    before
 }
 
 // How many of a range are among the first l.

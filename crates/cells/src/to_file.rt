@@ -27,7 +27,7 @@ use records::link::link_bytes;
 use records::node::Node;
 use records::node::node_bytes;
 
-// `start` links stand before its own, `count` in number.
+// Its links, `count` in number, are stored from `start` on.
 fn file_node(n: PathNode, start: u16, count: u8) -> Node
     requires { ⌜ count ≤ 31 ⌝ }
     ensures { λ r. ⌜ r ≡ fileNode start count n ⌝ }

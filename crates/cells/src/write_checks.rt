@@ -14,6 +14,7 @@ use crate::node::NodeWords;
 use crate::range::cut;
 use crate::range::link_count;
 use crate::range::link_start;
+use crate::range::stored_start;
 use crate::range::value_count;
 use crate::range::value_start;
 use crate::room::over_limit;
@@ -67,7 +68,7 @@ pub(crate) fn check_nodes(nodes: &[NodeWords], pool: usize) -> Total
         if 31 < count {
             return Total::Refused(8, i);
         }
-        if 65535 < before {
+        if 65535 < stored_start(before, count) {
             return Total::Refused(9, i);
         }
         before += count;

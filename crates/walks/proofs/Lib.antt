@@ -19,4 +19,5 @@ pub mod WritesAlike
 pub mod Example
 pub mod ClaimFacts
 pub mod Undrawn
+pub mod Posts
 pub mod StarredPairs

@@ -4,9 +4,10 @@ use Prim.Native.Nat.{ℕ, _*_}
 use mathlib.Core.Path.{_≡_, refl, ap}
 use mathlib.Core.Bool.{true, false}
 use mathlib.Core.List.{List, [], _∷_, _++_, map}
-use lib.ListN.{replicate}
-use Rattle.records.specs.Bytes.{numberAt}
-use Rattle.records.specs.Records.{nodeAt, junctionAt}
+use lib.ListN.{length, replicate}
+use Rattle.numbers.specs.Steps.{stepOf}
+use Rattle.records.specs.Bytes.{numberAt, numberBytes, bits16}
+use Rattle.records.specs.Records.{nodeAt, nodeBytes, junctionAt}
 use Rattle.records.specs.Root.{rootOf, unknownsOf}
 use Rattle.records.specs.Sections.{located, extent, bytesOf}
 use Rattle.numbers.specs.declared.answer.Answer.the-variants as answer
@@ -17,7 +18,8 @@ use Rattle.cells.specs.Read.{roomCheck, cellRead, filled, readArrays, re
 use Rattle.cells.specs.WriteChecks.{checkNodes}
 use Rattle.cells.specs.NodeWords.{isPed}
 use Rattle.cells.specs.Words.{toNode, linkWords}
-use Rattle.cells.specs.Entries.{fileNode}
+use Rattle.cells.specs.Entries.{linksIn, storedStart, fileNode}
+use Rattle.cells.specs.Blocks.{laid, nodeRecord}
 use Rattle.cells.specs.Memory.{Memory, memory, refuse, overLimit}
 use Rattle.cells.specs.LinkAccess.{linkTo}
 use Rattle.cells.specs.Edit.{heldIn}
@@ -44,10 +46,37 @@ pub nodes-first : arraysCheck late-node [] late-junction [] [] ≡ counted.Refus
 unfolding arraysCheck scan nodeAt junctionAt numberAt
 nodes-first = refl
 
--- 9 counts for a node with no links
-pub nine-with-no-links : checkNodes (λ _. 0) 0 65536 ([] ∷ []) ≡ total.Refused 9 0
+-- ---- nodes without links (T-05)
+
+-- behind 65,536 links a node without links is written
+pub no-nine-without-links : checkNodes (λ n. length n) 0 65536 ([] ∷ []) ≡ total.Sum 65536
 unfolding checkNodes
-nine-with-no-links = refl
+no-nine-without-links = refl
+
+-- and a node with links behind it is 9; behind 65,535 it is written
+pub nine-behind-a-post : checkNodes (λ n. length n) 0 65536 ([] ∷ (1 ∷ []) ∷ []) ≡ total.Refused 9 1
+unfolding checkNodes
+nine-behind-a-post = refl
+
+pub none-behind-a-post : checkNodes (λ n. length n) 0 65535 ([] ∷ (1 ∷ []) ∷ []) ≡ total.Sum 65536
+unfolding checkNodes
+none-behind-a-post = refl
+
+-- a node with links stores what stands before it, also behind a post; a post stores 0
+pub start-behind-a-post : laid {B = ℕ} (λ n. n) (λ k n. storedStart k (length n) ∷ []) 0 ((7 ∷ 8 ∷ []) ∷ [] ∷ (9 ∷ []) ∷ [] ∷ []) ≡ 0 ∷ 0 ∷ 2 ∷ 0 ∷ []
+unfolding laid
+start-behind-a-post = refl
+
+-- a post alone, over an empty list of links, is read back: its start 0 is no 4
+pub post-alone : arraysCheck (nodeRecord [] 0 []) [] [] [] []
+    ≡ counted.Held (record { nodes = 1; links = 0; junctions = 0; heights = 0; refs = 0 })
+unfolding arraysCheck scan nodeAt numberAt nodeBytes numberBytes bits16 fileNode toNode linksIn stepOf sumTo
+post-alone = refl
+
+-- with the start that another node would have there, it would be
+pub post-late : arraysCheck (nodeBytes (fileNode 1 0 (toNode []))) [] [] [] [] ≡ counted.Refused 4 0
+unfolding arraysCheck scan nodeAt numberAt nodeBytes numberBytes bits16 fileNode toNode stepOf
+post-late = refl
 
 -- renumbering moves: each node's new place
 pub new-places : renumber three 65536 (50 ∷ 51 ∷ 52 ∷ 53 ∷ []) .places ≡ 0 ∷ 2 ∷ 1 ∷ 53 ∷ []

@@ -11,6 +11,7 @@ use Rattle.cells.specs.Words.{toNode}
 use Rattle.cells.specs.Entries.{linksIn, storedStart, fileNode}
 use Rattle.cells.specs.WriteChecks.{linksWithin, accepted, checkNodes}
 use Rattle.cells.specs.Blocks.{laid, nodeRecord, nodesBlock}
+use Rattle.cells.proofs.Writing.Starts.{start-sum}
 use Rattle.cells.proofs.Writing.CheckTurns.{nodes-inside}
 use Rattle.cells.proofs.Writing.Ranges.{link-count}
 use Rattle.cells.proofs.Sequences.Turns.{put-inside, laid-turn, laid-ended}
@@ -23,6 +24,7 @@ Inv-loop section₀ at nodes links before₀ i₀ section before i =
     (i ≤ length nodes) × (length section ≡ length section₀)
     × (accepted (checkNodes (linksWithin (length links)) i before (drop i nodes)) ≡ true)
     × (put section (at + 40 * i) (laid (linksIn links) (nodeRecord links) before (drop i nodes)) ≡ put section₀ at (nodesBlock links nodes))
+    × (before ≤ 65566)
 
 abbrev μ-loop : tie.MeasureT-loop
 μ-loop section₀ at nodes links before₀ i₀ section before i = length nodes - i
@@ -34,38 +36,42 @@ open-turn c =
     let begin = at-loop .before .before in
     nodes-inside (linksWithin (length (begin .args .links .now))) (begin .args .nodes .now) (at-loop .loop .i) (at-loop .loop .before) (at-loop .loop .i) (omega arith) (at-loop .loop .inv .2)
 
+-- what the code counted and stores of this node
+few : (c : tie.After-stored-start Inv-loop μ-loop) → c .before .links-within .result ≤ 31
+few c = omega (arith, c .before .links-within .ensures, (open-turn (c .before .before .before)) .0)
+
+low : (c : tie.After-stored-start Inv-loop μ-loop)
+    → storedStart (c .before .before .before .before .loop .before) (c .before .links-within .result) ≤ 65535
+low c =
+    let begun = c .before .before .before .before .loop .before in
+    omega (arith, (open-turn (c .before .before .before)) .1, ap (storedStart begun) (c .before .links-within .ensures))
+
 loop-holds : tie.Need-loop-holds Inv-loop μ-loop
 loop-holds c =
     let a = c .before .args in
     let start : a .at + 40 * 0 ≡ a .at = omega arith in
-    (omega arith, search needs, c .before .pre .1, ap (λ (k : ℕ). put (a .section .now) k (nodesBlock (a .links .now) (a .nodes .now))) start)
+    (omega arith, search needs, c .before .pre .1, ap (λ (k : ℕ). put (a .section .now) k (nodesBlock (a .links .now) (a .nodes .now))) start, omega arith)
 
 cast-node-record : tie.Need-cast-node-record Inv-loop μ-loop
-cast-node-record c = omega (arith, (open-turn (c .before .before .before)) .1)
+cast-node-record c = omega (arith, low (c .before), c .before .stored-start .ensures)
 
 cast-node-record-2 : tie.Need-cast-node-record-2 Inv-loop μ-loop
-cast-node-record-2 c =
-    let after-links-within = c .before in
-    let in-loop = after-links-within .before .before in
-    omega (arith, after-links-within .links-within .ensures, (open-turn in-loop) .0)
+cast-node-record-2 c = omega (arith, few (c .before))
 
 node-record-requires : tie.Need-node-record-requires Inv-loop μ-loop
-node-record-requires c κs =
-    let after-links-within = c .before in
-    let in-loop = after-links-within .before .before in
-    omega (arith, after-links-within .links-within .ensures, (open-turn in-loop) .0)
+node-record-requires c κs = omega (arith, few (c .before))
 
 add-before : tie.Need-add-before Inv-loop μ-loop
 add-before c =
-    let after-links-within = c .before .before .before .before .before .before .before in
-    let in-loop = after-links-within .before .before in
-    omega (arith, after-links-within .links-within .ensures, (open-turn in-loop) .0, (open-turn in-loop) .1)
+    let after-stored-start = c .before .before .before .before .before .before .before in
+    omega (arith, few after-stored-start, after-stored-start .before .before .before .before .loop .inv .4)
 
 loop-again : tie.Need-loop-again Inv-loop μ-loop
 loop-again c =
     let after-put-bytes = c .before .before in
     let after-node-record = after-put-bytes .before .before .before in
-    let after-links-within = after-node-record .before .before in
+    let after-stored-start = after-node-record .before .before in
+    let after-links-within = after-stored-start .before in
     let in-loop = after-links-within .before .before in
     let at-loop = in-loop .before in
     let begin = at-loop .before .before in
@@ -77,14 +83,16 @@ loop-again c =
     let e = after-links-within .links-within .ensures in
     let n = getD ns (l .i) [] in
     let longer = e ∙ sym (link-count ls n) in
+    let start = after-stored-start .stored-start .ensures ∙ ap (storedStart (l .before)) longer in
     let size = record-length ls (l .before) n in (
       omega arith,
       omega (arith, f .kept),
       ap (λ (k : ℕ). accepted (checkNodes (linksWithin (length ls)) (l .i + 1) (l .before + k) (drop (l .i + 1) ns))) e ∙ (open-turn in-loop) .2,
       ap (λ (k : ℕ). put (f .last .0) (a .at + 40 * (l .i + 1)) (laid (linksIn ls) (nodeRecord ls) (l .before + k) (drop (l .i + 1) ns))) longer
           ∙ laid-turn (linksIn ls) (nodeRecord ls) (a .section .now) (l .section) _ (nodesBlock ls ns) (a .at) (a .at + 40 * l .i) (a .at + 40 * (l .i + 1)) (l .before) ns (l .i) [] (omega arith) (l .inv .3)
-          (put-inside (l .section) _ (nodeRecord ls (l .before) n) _ (a .at + 40 * l .i) (f .ensures .0) (after-node-record .node-record .ensures ∙ ap (λ (k : ℕ). nodeBytes (fileNode (storedStart (l .before) k) k (toNode n))) longer) (omega (arith, size)))
+          (put-inside (l .section) _ (nodeRecord ls (l .before) n) _ (a .at + 40 * l .i) (f .ensures .0) (after-node-record .node-record .ensures ∙ (λ i. nodeBytes (fileNode (start i) (longer i) (toNode n)))) (omega (arith, size)))
           (omega (arith, size)) (omega arith),
+      start-sum (l .before) (after-links-within .links-within .result) (low after-stored-start) (few after-stored-start) (l .inv .4),
     )
 
 returns : tie.Need-returns Inv-loop μ-loop
@@ -106,6 +114,7 @@ put-nodes-spec =
     loop-holds
     (λ c. search needs)
     (λ c. search needs)
+    (λ c κs. search needs)
     (λ c κs. search needs)
     (λ c. search needs)
     (λ c. search needs)

@@ -4,6 +4,8 @@ use native.Mathlib.Omega.{arith}
 use mathlib.Core.Path.{_≡_, refl, sym, ap, _∙_}
 use lib.ListN.{length, drop}
 use Rattle.cells.specs.WriteChecks.{linksWithin, checkNodes}
+use Rattle.cells.specs.Entries.{storedStart}
+use Rattle.cells.proofs.Writing.Starts.{start-sum}
 use Rattle.cells.proofs.Writing.CheckTurns.{nodes-end, nodes-8, nodes-9, nodes-next}
 use borrow.Author.Needs.{needs}
 use Rattle.cells.proofs.write_checks.check_nodes.Statement.{statement}
@@ -30,25 +32,32 @@ returns c =
 
 returns-2 : tie.Need-returns-2 Inv-loop μ-loop
 returns-2 c =
-    let after-links-within = c .before .before in
+    let after-stored-start = c .before in
+    let after-links-within = after-stored-start .before .before in
     let at-loop = after-links-within .before .before .before in
     let begin = at-loop .before in
     let a = begin .args in
     let l = at-loop .loop in
-    sym (nodes-9 (linksWithin (a .pool)) (a .nodes .now) (l .i) (l .before) (l .i) (omega arith) (omega (arith, after-links-within .links-within .ensures)) (omega arith)) ∙ l .inv .2
+    let e = after-links-within .links-within .ensures in
+    sym (nodes-9 (linksWithin (a .pool)) (a .nodes .now) (l .i) (l .before) (l .i) (omega arith) (omega (arith, e))
+    (omega (arith, after-stored-start .stored-start .ensures, ap (storedStart (l .before)) e)))
+    ∙ l .inv .2
 
 loop-again : tie.Need-loop-again Inv-loop μ-loop
 loop-again c =
-    let after-links-within = c .before .before in
+    let after-stored-start = c .before in
+    let after-links-within = after-stored-start .before .before in
     let at-loop = after-links-within .before .before .before in
     let begin = at-loop .before in
     let a = begin .args in
     let l = at-loop .loop in
-    let e = after-links-within .links-within .ensures in (
+    let count = after-links-within .links-within .result in
+    let e = after-links-within .links-within .ensures in
+    let low : storedStart (l .before) count ≤ 65535 = omega (arith, after-stored-start .stored-start .ensures) in (
       omega arith,
-      omega arith,
+      start-sum (l .before) count low (omega arith) (l .inv .1),
       ap (λ (k : ℕ). checkNodes (linksWithin (a .pool)) (l .i + 1) (l .before + k) (drop (l .i + 1) (a .nodes .now))) e
-          ∙ sym (nodes-next (linksWithin (a .pool)) (a .nodes .now) (l .i) (l .before) (l .i) (omega arith) (omega (arith, e)) (omega arith)) ∙ l .inv .2,
+          ∙ sym (nodes-next (linksWithin (a .pool)) (a .nodes .now) (l .i) (l .before) (l .i) (omega arith) (omega (arith, e)) (omega (arith, low, ap (storedStart (l .before)) e))) ∙ l .inv .2,
     )
 
 returns-3 : tie.Need-returns-3 Inv-loop μ-loop
@@ -70,6 +79,7 @@ check-nodes-spec =
     (λ c. search needs)
     (λ c κs. search needs)
     returns
+    (λ c κs. search needs)
     returns-2
     (λ c. search needs)
     (λ c. search needs)
