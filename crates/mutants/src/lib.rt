@@ -17,6 +17,7 @@ use cells::ynd::Ynd;
 use numbers::answer::Answer;
 
 pub mod controls;
+pub mod starts;
 
 // Reading.
 pub fn reads<'a>(
