@@ -15,6 +15,7 @@ pub fn check(cell: &Cell, aux: u64) -> Verdict {
     let mut numbers: Vec<u16> = cell.nodes.iter().map(|n| n.node_id).collect();
     numbers.sort();
     seen::met_if(numbers.windows(2).any(|p| p[0] == p[1]), Met::Equal);
+    seen::met_if(!cell.nodes.is_empty() && cell.nodes.iter().all(|n| n.links.is_empty()), Met::AllPosts);
     renumbering(cell, &ynd)?;
     writing(cell, &ynd)?;
     found(cell, &ynd, &mut r)?;
@@ -73,6 +74,11 @@ fn renumbering(cell: &Cell, ynd: &Ynd) -> Verdict {
 fn writing(cell: &Cell, ynd: &Ynd) -> Verdict {
     let model = write::written(cell);
     let judged = rust::write(ynd);
+    // T-05: refused by the Rust for a node without links behind more than 65,535 only: left out, and counted.
+    if model.is_ok() && judged.is_err() && write::has_late_post(cell) {
+        seen::met(Met::LatePost);
+        return Ok(());
+    }
     same("whether writing is refused", MODEL, &model.is_err(), RUST, &judged.is_err())?;
     let (Ok(bytes), Ok(judged)) = (model, judged) else { return Ok(()) };
     seen::met_times(Met::RustBytes, judged.len() as u64);

@@ -2,17 +2,18 @@
 use super::numbers::{area, cell_for_position, file_name, grid_cell, lane_offset, length_between, metres};
 use super::numbers::{next_to_square, position, steps_of};
 use super::run::Run;
-use super::{access, cells, far, files, large, page, programs, reach, records, rounds, scripts, soak, stores};
+use super::{access, cells, far, files, large, page, posts, programs, reach, records, rounds, scripts, soak, stores};
 use super::{Mismatch, MODEL};
 use crate::inputs::{self, floats, limits, memories, names, rng::Rng, shrink, squares};
 use crate::model::length;
 
 /// The bits of 2^-24.
 const SMALL: u64 = 0x3380_0000;
-/// In a short run and in a full one: lists of calls, large cells, far memories and scripts, pairs for each target next
-/// to a square.
+/// In a short run and in a full one: lists of calls, large cells, yards with posts, far memories and scripts, pairs for
+/// each target next to a square.
 const LISTS: [u64; 2] = [20_000, 1_000_000];
 const LARGE: [u64; 2] = [60, 400];
+const POSTS: [u64; 2] = [60, 400];
 const FAR: [u64; 2] = [1_000, 5_000];
 const FAR_SCRIPTS: [u64; 2] = [100, 400];
 const PAIRS: [u64; 2] = [400, 10_000];
@@ -34,6 +35,7 @@ pub fn diff(seed: u64, seconds: f64, full: bool, only: Option<String>) {
     run.counted("far ranges", of(FAR), inputs::far::any, far::check, |_| Vec::new());
     run.counted("edits of far ranges", of(FAR_SCRIPTS), inputs::far::script, far::edits, |_| Vec::new());
     run.counted("large cells", of(LARGE), inputs::large::cell, large::check, |_| Vec::new());
+    run.counted("nodes without links", of(POSTS), inputs::posts::file, posts::check, |_| Vec::new());
     reach::family(&run);
     rounds::families(&run);
     lists(&run, of(LISTS));

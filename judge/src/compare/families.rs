@@ -75,7 +75,8 @@ pub const FAMILIES: &[Family] = &[
         (Yes(Read), 10), (Edge(Undrawn), 6),
     ]),
     cells("cells around limits", "each limit of writing, with its neighbours", &[
-        (No(Write, 8), 7), (No(Write, 9), 2), (No(Write, 10), 2), (No(Write, 11), 1), (Yes(Write), 2),
+        (No(Write, 8), 15), (No(Write, 9), 10), (No(Write, 10), 2), (No(Write, 11), 1), (Yes(Write), 10),
+        (Edge(LatePost), 8), (Edge(AllPosts), 2),
     ]),
     cells("scripts around limits", "edits up to 65,536 nodes, 4,096 junctions, 255 links", &[
         (No(Edit, 14), 5), (No(Edit, 7), 2), (No(Edit, 8), 1), (Yes(Edit), 200),
@@ -112,6 +113,10 @@ pub const FAMILIES: &[Family] = &[
     cells("large cells", "2,000 to 65,536 nodes: written, read, renumbered, written", &[
         (Yes(Write), 48), (Edge(Many), 24), (Edge(MostNodes), 6), (Edge(MostLinks), 6), (Edge(MostJunctions), 6),
         (Edge(MostRefs), 6), (Edge(RustBytes), 50_000_000), (Yes(WriteRead), 24), (Yes(Renumber), 24),
+    ]),
+    cells("nodes without links", "posts behind 65,534 to 65,565 links: every call, then lists of calls", &[
+        (Edge(LatePost), 5), (Edge(PostsFirst), 5), (Edge(PostsBetween), 5), (Edge(PostsLast), 5), (Yes(Write), 20),
+        (Yes(WriteRead), 20), (Edge(Moved), 20), (Edge(NoLink), 100), (Edge(Followed), 500),
     ]),
     cells("reach", "points and radii over nodes anywhere, also raw: T-01's two calls", &[
         (Yes(Near), 100_000), (At(Near, 7, 0), 1_000), (At(Near, 7, 8), 10_000), (At(Near, 14, 0), 1_000),

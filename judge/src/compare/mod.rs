@@ -11,6 +11,7 @@ pub mod lookups;
 pub mod memory;
 pub mod numbers;
 pub mod page;
+pub mod posts;
 pub mod programs;
 pub mod reach;
 pub mod records;

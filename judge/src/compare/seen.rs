@@ -26,9 +26,10 @@ pub enum Met {
     FarLinks, FarValues, UpperHalf, MostNodes, MostLinks, MostJunctions, MostRefs, Many, Found, NotFound,
     FarApart, Radius0, Radius1, RadiusMost, OnCircle, StepBeyond, EqualNear, Infinite, Third, Empty, JustLong,
     OneShort, Undrawn, Damaged, WrittenBack, MostChoices, OverChoices, NotItsPlace, TwoNumbers,
+    LatePost, PostsFirst, PostsBetween, PostsLast, AllPosts,
 }
 
-const METS: [&str; 57] = [
+const METS: [&str; 62] = [
     "NaN", "below the lower limit", "over the upper limit", "cut towards zero", "before a threshold", "at a threshold",
     "after a threshold", "along an axis", "over several axes", "difference rounded", "square rounded",
     "first sum rounded", "last sum rounded", "a number", "none", "sound cells", "unsound cells",
@@ -40,6 +41,7 @@ const METS: [&str; 57] = [
     "nearest of equal distances", "infinite", "-0.3", "an empty cell", "a list just long enough",
     "a list one too short", "no system bytes", "a good file damaged", "written back", "65,535 choices",
     "65,536 choices", "a start that is not its place", "a start that two nodes have",
+    "left out: refused by the Rust for a late post", "posts first", "posts in the middle", "posts last", "all nodes posts",
 ];
 
 /// What a family has to meet: accepted, refused with a number, refused with a number at a place, or an edge.

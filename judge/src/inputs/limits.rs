@@ -96,14 +96,7 @@ pub fn large(r: &mut Rng) -> File {
 pub fn cells(r: &mut Rng) -> Vec<(String, Cell)> {
     let mut out = Vec::new();
     for n in [30, 31, 32, 255] { out.push((format!("a node with {n} links"), with_links(&[3, n, n]))); }
-    // 65,535 links are 2,114 nodes with 31 and one with 1.
-    for (n, last) in [(2_114, 0), (2_114, 1), (2_114, 2), (2_115, 0)] {
-        let mut counts = vec![31; n];
-        counts.extend([last, 0, 0]);
-        out.push((format!("{} links before a node", n * 31 + last), with_links(&counts)));
-        counts.insert(n, 32);
-        out.push((format!("{} links before a node, then 32 links", n * 31), with_links(&counts)));
-    }
+    posts(&mut out);
     for sizes in [vec![(255, 255), (255, 2), (0, 0)], vec![(255, 255), (255, 2), (1, 1), (0, 9)],
         vec![(255, 255), (255, 3), (2, 2)], vec![(0, 255), (255, 0)]] {
         out.push((format!("heightmaps {sizes:?}"), with_values(r, &sizes)));
@@ -113,6 +106,24 @@ pub fn cells(r: &mut Rng) -> Vec<(String, Cell)> {
     both.refs = vec![Ref::default(); 65_536];
     out.push(("32 links and 65,536 refs".into(), both));
     out
+}
+
+/// T-05: 65,534 to 65,537 links before a node without links, and before one with a link; posts first, in the middle
+/// and last. 65,534 links are 2,114 nodes with 31.
+fn posts(out: &mut Vec<(String, Cell)>) {
+    for (more, own) in (0..4).flat_map(|more| [0, 1, 32].map(|own| (more, own))) {
+        let links = [vec![31; 2_114], vec![more]].concat();
+        let before = 2_114 * 31 + more;
+        for (where_, counts) in [
+            ("last", [links.clone(), vec![own, 0, 0]].concat()),
+            ("first", [vec![0, 0], links.clone(), vec![own]].concat()),
+            ("in the middle", [links.clone(), vec![0, own, 0]].concat()),
+            ("before another node with links", [links, vec![0, own, 0, 2]].concat()),
+        ] {
+            out.push((format!("{before} links before a node with {own}, posts {where_}"), with_links(&counts)));
+        }
+    }
+    for n in [1, 3] { out.push((format!("{n} nodes, all posts"), with_links(&vec![0; n]))); }
 }
 
 fn with_links(counts: &[usize]) -> Cell {

@@ -7,6 +7,7 @@ pub mod large;
 pub mod limits;
 pub mod memories;
 pub mod names;
+pub mod posts;
 pub mod reach;
 pub mod rng;
 pub mod rounds;

@@ -57,7 +57,8 @@ pub fn check(cell: &Cell) -> Answer<()> {
     let mut links = 0;
     for (place, n) in cell.nodes.iter().enumerate() {
         refuse_if(n.links.len() > 31, 8, place)?;
-        refuse_if(links > 65_535, 9, place)?;
+        // T-05: only a node with links.
+        refuse_if(links > 65_535 && !n.links.is_empty(), 9, place)?;
         links += n.links.len();
     }
     let mut values = 0;
@@ -85,11 +86,21 @@ fn put_root(out: &mut [u8], cell: &Cell, counts: [usize; 5], at: [usize; 5]) {
     for (i, u) in cell.unknowns.iter().enumerate() { put_le(out, records::UNKNOWN_AT[i], 4, *u as u64); }
 }
 
-/// Links run in node order, heightmaps in junction order.
+/// T-05: a node without links that has over 65,535 links before it. The Rust refuses such a cell.
+pub fn has_late_post(cell: &Cell) -> bool {
+    let mut links = 0;
+    cell.nodes.iter().any(|n| {
+        links += n.links.len();
+        n.links.is_empty() && links > 65_535
+    })
+}
+
+/// Links run in node order, heightmaps in junction order. T-05: a node without links stores start 0.
 fn put_arrays(out: &mut [u8], cell: &Cell, at: [usize; 5]) {
     let mut link = 0;
     for (i, n) in cell.nodes.iter().enumerate() {
-        records::put_node(&mut out[at[0] + i * 40..], n, link);
+        let start = if n.links.is_empty() { 0 } else { link };
+        records::put_node(&mut out[at[0] + i * 40..], n, start);
         for l in &n.links {
             records::put_link(&mut out[at[1] + link * 8..], l);
             link += 1;

@@ -1,6 +1,7 @@
 //! The Rust's answers in the model's words.
 use crate::math::{Vec2, Vec3};
 use crate::model::cell::{one_nan, Cell, Junction, Link, Node, Ref};
+use crate::model::sections::{le, SYSTEM};
 use crate::resource::lend_sections;
 use crate::ynd::{
     parse_node_dictionary, serialize_node_dictionary, Heightmap, NodeJunctionRef, PathJunction, PathLink, PathNode, Ynd
@@ -22,13 +23,19 @@ pub fn read(system: &[u8], graphics: &[u8]) -> Answer<Ynd> {
     Ynd::from_dictionary(&dictionary).map_err(|e| e.0)
 }
 
-/// `to_dictionary`, then the `Pod` writers through the block graph; the framing's system section.
+/// `to_dictionary`, then the `Pod` writers through the block graph; the framing's system section. T-05's field is set
+/// to 0 here: the Rust stores what stands before a node without links.
 pub fn write(ynd: &Ynd) -> Answer<Vec<u8>> {
     let dictionary = ynd.to_dictionary().map_err(|e| e.0)?;
     let file = serialize_node_dictionary(&dictionary).map_err(|e| e.0)?;
     let length = u32::from_le_bytes(file[..4].try_into().unwrap()) as usize;
     if file.len() != 4 + length { return Err(format!("{} bytes of graphics", file.len() - 4 - length)); }
-    Ok(file[4..].to_vec())
+    let mut section = file[4..].to_vec();
+    let nodes = le(&section, 16, 8).wrapping_sub(SYSTEM) as usize;
+    for (i, _) in ynd.nodes.iter().enumerate().filter(|(_, n)| n.links.is_empty()) {
+        section[nodes + 40 * i + 26..][..2].fill(0);
+    }
+    Ok(section)
 }
 
 pub fn cell_of(ynd: &Ynd) -> Cell {

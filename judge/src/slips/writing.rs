@@ -62,6 +62,11 @@ fn written(m: &Memory, old: &[u8], section: &mut [u8], length: usize) -> Answer<
             b[26..28].copy_from_slice(&start.to_le_bytes());
         }
     }
+    let posts = [Slip::NineForPosts, Slip::PostStart, Slip::PostsEndStarts].into_iter().find(|&s| on(s));
+    if let Some(place) = posts.and_then(|slip| starts(m, slip, &mut section[at[0]..])) {
+        section.copy_from_slice(old);
+        return Err(Refused(9, place));
+    }
     if on(Slip::TenAt65535) {
         let mut before = 0;
         for (place, w) in m.junctions[..counts[2]].iter().enumerate() {
@@ -72,15 +77,29 @@ fn written(m: &Memory, old: &[u8], section: &mut [u8], length: usize) -> Answer<
     Ok(length)
 }
 
+/// Wrong starts of the nodes written here; the place that is refused with 9.
+fn starts(m: &Memory, slip: Slip, nodes: &mut [u8]) -> Option<usize> {
+    let (mut before, mut from) = (0, 0);
+    for (place, n) in m.cell().nodes.iter().enumerate() {
+        let post = n.links.is_empty();
+        if post { from = before; }
+        let start = match slip {
+            Slip::NineForPosts if post && before > 65_535 => return Some(place),
+            Slip::PostStart => before,
+            Slip::PostsEndStarts if !post => before - from,
+            _ if post => 0,
+            _ => before,
+        };
+        nodes[40 * place + 26..][..2].copy_from_slice(&(start as u16).to_le_bytes());
+        before += n.links.len();
+    }
+    None
+}
+
 fn refusing(m: &Memory, refused: Refused) -> Answer<usize> {
     let length = write::layout(m.cell().counts()).1;
     match refused {
-        Refused(9, place) if on(Slip::NineWithLinks) => {
-            match (place..m.held()[0]).find(|&p| link_range(&m.nodes[p]).1 > 0) {
-                Some(p) => Err(Refused(9, p)),
-                None => Ok(length),
-            }
-        }
+        Refused(9, place) if on(Slip::NineBehindPosts) && link_range(&m.nodes[place - 1]).1 == 0 => Ok(length),
         Refused(11, _) if on(Slip::ElevenLate) => Ok(length),
         other => Err(other),
     }

@@ -76,6 +76,13 @@ pub fn add(to: &mut Records) {
     for (n, with) in [(3_856, 3_855), (3_856, 3_856), (3_857, 3_856), (3_857, 3_857)] {
         large(to, Made::new().nodes(n, with, 17), 0);
     }
+    // T-05: behind 65,535 links, and 17 more, two posts; the same with links behind the first of them.
+    for with in [3_855, 3_856] {
+        large(to, Made::new().nodes(with + 2, with, 17), 0);
+        let mut behind = Made::new().nodes(with + 2, with, 17);
+        behind.set(ROOT + (with + 1) * 40 + 37, 1, 1, 8);
+        large(to, behind, 0);
+    }
     for n in [2_115, 2_116] { large(to, Made::new().nodes(n, n, 31), 0); }
     for (n, with) in [(258, 257), (258, 258), (259, 258), (259, 259)] {
         large(to, Made::new().junctions(n, with, 255), 0);
@@ -108,7 +115,9 @@ fn large(to: &mut Records, made: Made, added: usize) {
         add_refs(&mut cell, added);
         ynd.junction_refs.extend((0..added).map(|_| rust::path_ref(&Ref::default())));
         writing = write::write(&cell, &mut vec![0; SECTION]);
-        assert_eq!(rust::write(&ynd).ok().map(|b| b.len()), writing.ok());
+        // T-05: what the Rust refuses for a late post only is document 02's.
+        let late = writing.is_ok() && write::has_late_post(&cell);
+        assert_eq!(rust::write(&ynd).ok().map(|b| b.len()), writing.ok().filter(|_| !late));
     }
     let mut fields = vec![U32(section.len() as u32), U32(added as u32)];
     fields.extend(told(&counting));
