@@ -33,7 +33,7 @@ static const char *const REFUSALS[] = {
     "more than 65,536 nodes or 4,096 junctions",
     "lent memory too short",
     "over 31 links on writing",
-    "links before this node over 65,535 on writing",
+    "links before this node, which has links, over 65,535 on writing",
     "heightmap bytes before a junction over 65,535 on writing",
     "refs over 65,535 on writing",
     "heightmap values not width times height",

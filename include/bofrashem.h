@@ -42,7 +42,7 @@ extern "C" {
  * | 6 | more than 65,536 nodes or 4,096 junctions | 0 nodes, 1 junctions |
  * | 7 | lent memory too short | 0 to 4 as for 3, 5 section, 6 scratch, 7 new places, 8 visited, listed, round |
  * | 8 | over 31 links on writing | the node |
- * | 9 | links before this node over 65,535 on writing | the node |
+ * | 9 | links before this node, which has links, over 65,535 on writing | the node |
  * | 10 | heightmap bytes before a junction over 65,535 on writing | the junction |
  * | 11 | refs over 65,535 on writing | 0 |
  * | 12 | heightmap values not width × height | 0 |

@@ -22,7 +22,7 @@ pub enum Refusal {
     LentTooShort(usize),
     /// 8: over 31 links on writing.
     OverThirtyOneLinks(usize),
-    /// 9: links before this node over 65,535 on writing.
+    /// 9: links before this node, which has links, over 65,535 on writing.
     LinksBeforeNode(usize),
     /// 10: heightmap bytes before a junction over 65,535 on writing.
     HeightsBeforeJunction(usize),
@@ -78,7 +78,7 @@ impl Refusal {
             Refusal::TooMany(_) => "more than 65,536 nodes or 4,096 junctions",
             Refusal::LentTooShort(_) => "lent memory too short",
             Refusal::OverThirtyOneLinks(_) => "over 31 links on writing",
-            Refusal::LinksBeforeNode(_) => "links before this node over 65,535 on writing",
+            Refusal::LinksBeforeNode(_) => "links before this node, which has links, over 65,535 on writing",
             Refusal::HeightsBeforeJunction(_) => "heightmap bytes before a junction over 65,535 on writing",
             Refusal::TooManyRefs => "refs over 65,535 on writing",
             Refusal::ValuesNotSize => "heightmap values not width × height",
