@@ -1,0 +1,16 @@
+pub mod Counts
+pub mod Relabel
+pub mod Least
+pub mod OrderLaws
+pub mod ScratchLaws
+pub mod QueueLaws
+pub mod SearchLaws
+pub mod EdgeLaws
+pub mod IndexLaws
+pub mod RelaxLaws
+pub mod FillLaws
+pub mod PathLaws
+pub mod WiringBack
+pub mod WiringLaws
+pub mod DistanceLaws
+pub mod AnswerLaws
