@@ -39,7 +39,7 @@ pub record Accepted (y : Ynd) (nodes links p q room : ℕ) : Type 0 where
   pub limits : overLimit y ≡ false
   pub nodes-fit : y .«node_count» ≤ nodes
   pub links-fit : y .«link_count» ≤ links
-  pub scratch-fits : 8 * y .«node_count» ≤ room
+  pub scratch-fits : 4 * y .«node_count» ≤ room
 
 pub accepted : (y : Ynd) (nodes links p q room : ℕ) → decided (pathCauses y nodes links p q room) ≡ answer.Done → Accepted y nodes links p q room
 unfolding pathCauses
@@ -51,7 +51,7 @@ accepted y nodes links p q room e =
       limits = passed cs 2 e;
       nodes-fit = ltb-false nodes (y .«node_count») (passed cs 3 e);
       links-fit = ltb-false links (y .«link_count») (passed cs 4 e);
-      scratch-fits = ltb-false room (8 * y .«node_count») (passed cs 5 e);
+      scratch-fits = ltb-false room (4 * y .«node_count») (passed cs 5 e);
     }
 
 -- ---- after the search
@@ -79,21 +79,21 @@ module _ (y : Ynd) (nodes links : List (List ℕ)) (l : Lent y nodes links) (p q
   ns = nodesOf (lent y nodes links)
 
   abbrev d : ℕ → ℕ
-  d = labelAt N s
+  d = labelAt s
 
   abbrev steps : ℕ
   steps = d q % 4294967296
 
   abbrev bs : List ℕ
-  bs = choicesTo (fromAt N s) (byAt N s) steps q
+  bs = choicesTo (fromAt s) (byAt s) steps q
 
-  pub found-back : Back N (labelAt N s) (fromAt N s) (byAt N s)
+  pub found-back : Back N (labelAt s) (fromAt s) (byAt s)
   found-back =
-      least.back ns p N d (fromAt N s) (byAt N s) (all-links y nodes links l p) (h .labels) (finished ns p N (all-links y nodes links l p) s h)
+      least.back ns p N d (fromAt s) (byAt s) (all-links y nodes links l p) (h .labels) (finished ns p N (all-links y nodes links l p) s h)
       (λ u b v lu x. omega (arith, link-within (lent y nodes links) (l .nodes-fit) u b v lu x))
 
   pub found-few : d q < unlabelled → steps < N
-  found-few k = label-steps ns p N d (fromAt N s) (byAt N s) (all-links y nodes links l p) (h .labels) q lq k
+  found-few k = label-steps ns p N d (fromAt s) (byAt s) (all-links y nodes links l p) (h .labels) q lq k
 
   pub found-ready : (label : ℕ) → label ≡ d q → label < unlabelled → (choices places : ℕ) → N ≤ choices → N ≤ places
       → (d q < unlabelled) × (d q % 4294967296 ≡ label % 4294967296) × (label % 4294967296 ≤ choices) × (label % 4294967296 < places)
@@ -103,19 +103,19 @@ module _ (y : Ynd) (nodes links : List (List ℕ)) (l : Lent y nodes links) (p q
       (f, sym s, omega (arith, found-few f), omega (arith, found-few f))
 
   found-unreachable : unlabelled ≤ d q → Unreachable ns p q
-  found-unreachable k = least.unreachable ns p N d (fromAt N s) (byAt N s) (all-links y nodes links l p) (h .labels) (finished ns p N (all-links y nodes links l p) s h) q k
+  found-unreachable k = least.unreachable ns p N d (fromAt s) (byAt s) (all-links y nodes links l p) (h .labels) (finished ns p N (all-links y nodes links l p) s h) q k
 
   found-path : d q < unlabelled → ShortestPath ns p q bs
-  found-path k = least.shortest-path ns p N d (fromAt N s) (byAt N s) (all-links y nodes links l p) (h .labels) (finished ns p N (all-links y nodes links l p) s h) q lq k
+  found-path k = least.shortest-path ns p N d (fromAt s) (byAt s) (all-links y nodes links l p) (h .labels) (finished ns p N (all-links y nodes links l p) s h) q lq k
 
   found-sum : d q < unlabelled → distance ns bs p ≡ d q / 4294967296
-  found-sum k = least.remembered-path ns p N d (fromAt N s) (byAt N s) (all-links y nodes links l p) (h .labels) (finished ns p N (all-links y nodes links l p) s h) steps q lq k refl .sum
+  found-sum k = least.remembered-path ns p N d (fromAt s) (byAt s) (all-links y nodes links l p) (h .labels) (finished ns p N (all-links y nodes links l p) s h) steps q lq k refl .sum
 
-  found-places : d q < unlabelled → route ns bs p .places ≡ placesTo (fromAt N s) steps q
-  found-places k = least.remembered-path ns p N d (fromAt N s) (byAt N s) (all-links y nodes links l p) (h .labels) (finished ns p N (all-links y nodes links l p) s h) steps q lq k refl .places
+  found-places : d q < unlabelled → route ns bs p .places ≡ placesTo (fromAt s) steps q
+  found-places k = least.remembered-path ns p N d (fromAt s) (byAt s) (all-links y nodes links l p) (h .labels) (finished ns p N (all-links y nodes links l p) s h) steps q lq k refl .places
 
   found-long : length bs ≡ steps
-  found-long = least.choices-long (fromAt N s) (byAt N s) steps q
+  found-long = least.choices-long (fromAt s) (byAt s) steps q
 
   module _ (choices places : List ℕ) (label : ℕ) (e : label ≡ d q) where
     pub answer-unreachable : unlabelled ≤ label → Searched ns N p q choices places (Refused 17 0) choices places
@@ -125,15 +125,15 @@ module _ (y : Ynd) (nodes links : List (List ℕ)) (l : Lent y nodes links) (p q
     answer-short k o = short bs (found-path (omega arith) .leads) o
 
     pub answer-path : label < unlabelled → N ≤ length choices → N ≤ length places → (c t : List ℕ)
-        → c ≡ over (choicesTo (fromAt N s) (byAt N s) (label % 4294967296) q) choices → t ≡ over (placesTo (fromAt N s) (label % 4294967296) q) places
+        → c ≡ over (choicesTo (fromAt s) (byAt s) (label % 4294967296) q) choices → t ≡ over (placesTo (fromAt s) (label % 4294967296) q) places
         → Searched ns N p q choices places (Path (label / 4294967296) (label % 4294967296)) c t
     answer-path k lc lp c t ec et =
         let f : d q < unlabelled = omega arith in
         let sum : label / 4294967296 ≡ distance ns bs p = ap (λ (x : ℕ). x / 4294967296) e ∙ sym (found-sum f) in
         let count : label % 4294967296 ≡ length bs = ap (λ (x : ℕ). x % 4294967296) e ∙ sym found-long in
-        let c-is : c ≡ over bs choices = ec ∙ ap (λ (x : ℕ). over (choicesTo (fromAt N s) (byAt N s) (x % 4294967296) q) choices) e in
+        let c-is : c ≡ over bs choices = ec ∙ ap (λ (x : ℕ). over (choicesTo (fromAt s) (byAt s) (x % 4294967296) q) choices) e in
         let t-is : t ≡ over (route ns bs p .places) places =
-        et ∙ ap (λ (x : ℕ). over (placesTo (fromAt N s) (x % 4294967296) q) places) e ∙ ap (λ (x : List ℕ). over x places) (sym (found-places f)) in
+        et ∙ ap (λ (x : ℕ). over (placesTo (fromAt s) (x % 4294967296) q) places) e ∙ ap (λ (x : List ℕ). over x places) (sym (found-places f)) in
         put-in (label / 4294967296) (label % 4294967296) c t sum count c-is t-is (path lc lp bs (omega (arith, found-few f, found-long)) (found-path f))
       where
         put-in : (a b : ℕ) (c t : List ℕ) → a ≡ distance ns bs p → b ≡ length bs → c ≡ over bs choices → t ≡ over (route ns bs p .places) places

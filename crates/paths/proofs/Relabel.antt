@@ -2,8 +2,11 @@
 use Prim.Native.Nat.{ℕ, _+_, _*_, _/_, _%_, _<_, _≤_}
 use native.Mathlib.Omega.{arith}
 use mathlib.Core.Path.{_≡_, refl, ap, sym, _∙_}
+use mathlib.Core.Bool.{cond}
 use mathlib.Core.List.{List}
 use mathlib.Core.Logic.{_⊎_, ⊎-elim}
+use lib.Dec.{eqb}
+use borrow.Author.Tests.{eq-eqb, ne-eqb}
 use Rattle.cells.specs.Cell.{Node}
 use Rattle.walks.specs.Walk.{to, next}
 use Rattle.paths.specs.ShortestPath.{lengthAt}
@@ -79,3 +82,30 @@ module _ (ns : List Node) (start n : ℕ) (d from by : ℕ → ℕ) (links : Lin
 
     pub total-fell : total e n < total d n
     total-fell = total-falls d e n fell v lv (omega (arith, new))
+
+-- ---- a label that falls fits its entries
+
+abbrev upd : (ℕ → ℕ) → ℕ → ℕ → ℕ → ℕ
+upd d v k x = cond (eqb x v) k (d x)
+
+upd-same : (d : ℕ → ℕ) (v k : ℕ) → upd d v k v ≡ k
+upd-same d v k = rw (eq-eqb v v refl)
+
+upd-other : (d : ℕ → ℕ) (v k x : ℕ) → (x ≡ v → ⊥) → upd d v k x ≡ d x
+upd-other d v k x ne = rw (ne-eqb x v ne)
+
+pub new-fits : (ns : List Node) (start n : ℕ) (d from by : ℕ → ℕ) → Links ns n → Labelled ns start n d from by
+    → (u b v : ℕ) → u < n → v < n → d u < unlabelled → next ns u b ≡ to v → d u + weight ns u b < d v
+    → ((d u + weight ns u b) / 4294967296 ≤ 16711425) × ((d u + weight ns u b) % 4294967296 < n)
+new-fits ns start n d from by links h u b v lu lv k link less =
+    let w = d u + weight ns u b in
+    let e = upd d v w in
+    let l : Labelled ns start n e (upd from v u) (upd by v b) =
+    relabelled ns start n d from by links h u b v lu lv k link less e (upd from v u) (upd by v b)
+    (upd-same d v w) (upd-same from v u) (upd-same by v b)
+    (λ x lt ne. upd-other d v w x ne) (λ x lt ne. upd-other from v u x ne) (λ x lt ne. upd-other by v b x ne) in
+    let small : e v < unlabelled = omega (arith, upd-same d v w, h .most v lv) in
+    (
+      omega (arith, ap (λ (x : ℕ). x / 4294967296) (upd-same d v w), label-sum ns start n e (upd from v u) (upd by v b) links l v lv small),
+      omega (arith, ap (λ (x : ℕ). x % 4294967296) (upd-same d v w), label-steps ns start n e (upd from v u) (upd by v b) links l v lv small),
+    )

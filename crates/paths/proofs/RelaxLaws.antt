@@ -1,9 +1,9 @@
 -- One link, and all links of a place, by what the code finds in memory.
-use Prim.Native.Nat.{ℕ, _+_, _*_, _-_, _<_, _≤_}
+use Prim.Native.Nat.{ℕ, _+_, _*_, _-_, _/_, _%_, _<_, _≤_}
 use native.Mathlib.Omega.{arith}
 use mathlib.Core.Path.{_≡_, refl, ap, sym, _∙_}
 use mathlib.Core.List.{List, []}
-use lib.ListN.{length, getD, drop}
+use lib.ListN.{length, getD}
 use Rattle.cells.specs.Cell.{Node}
 use Rattle.cells.specs.CellOf.{nodesOf}
 use Rattle.cells.specs.NodeWords.{linkCount}
@@ -13,12 +13,12 @@ use Rattle.walks.specs.WalkParts.{lent}
 use Rattle.walks.specs.declared.walk.End.{End}
 use Rattle.paths.specs.ShortestPath.{lengthAt}
 use Rattle.paths.specs.Labels.{unlabelled, weight, Links}
-use Rattle.paths.specs.Scratch.{labelAt, fromAt, byAt, Popped, Cleared}
+use Rattle.paths.specs.Scratch.{labelAt, fromAt, byAt, chainAt, Fits, Popped, Cleared}
 use Rattle.paths.specs.Search.{Lent, edgeBy, edgeOf, Offered, passed, taken, Searching, work}
 use Rattle.paths.specs.declared.search.Edge.the-variants.{To, Stop}
 use Rattle.paths.specs.Index.{numberAt, AllEntered}
 use Rattle.paths.proofs.IndexLaws.{index-same}
-use Rattle.paths.proofs.Relabel.{label-on}
+use Rattle.paths.proofs.Relabel.{label-on, new-fits}
 use Rattle.paths.proofs.SearchLaws.{passed-over, relaxed, offered, taken-up, up-label, up-work, begun}
 use Rattle.paths.proofs.EdgeLaws.{links-of, link-within}
 
@@ -49,20 +49,20 @@ module _ (y : Ynd) (nodes links : List (List ℕ)) (l : Lent y nodes links) (sta
   pub all-links : Links ns n
   all-links = links-of (lent y nodes links) (l .nodes-fit) (l .links-fit) (l .few)
 
-  module _ (s : List ℕ) (size u b key : ℕ) (h : Searching ns start n s size u b) (lu : u < n) (label : labelAt n s u ≡ key) (k : key < unlabelled) where
+  module _ (s : List ℕ) (size u b key : ℕ) (h : Searching ns start n s size u b) (lu : u < n) (label : labelAt s u ≡ key) (k : key < unlabelled) where
     -- what a link adds
     pub record Linked (v len : ℕ) : Type 0 where
       pub link : next ns u b ≡ to v
       pub inside : v < n
       pub short : len ≤ 255
-      pub cost : key + len * 4294967296 + 1 ≡ labelAt n s u + weight ns u b
+      pub cost : key + len * 4294967296 + 1 ≡ labelAt s u + weight ns u b
       pub small : key + len * 4294967296 + 1 < unlabelled
 
     pub linked : (v len : ℕ) → To v len ≡ edgeOf ns u b → Linked v len
     unfolding weight
     linked v len e =
         let x = edge-next ns u b v len e in
-        let on = label-on ns start n (labelAt n s) (fromAt n s) (byAt n s) all-links (h .labels) u b lu (omega arith) in
+        let on = label-on ns start n (labelAt s) (fromAt s) (byAt s) all-links (h .labels) u b lu (omega arith) in
         record {
           link = x .0;
           inside = all-links .lead-in u b v (x .0);
@@ -71,14 +71,24 @@ module _ (y : Ynd) (nodes links : List (List ℕ)) (l : Lent y nodes links) (sta
           small = omega (arith, x .1, on);
         }
 
+    -- a label that is taken fits
+    pub link-fits : (v len : ℕ) → To v len ≡ edgeOf ns u b → key + len * 4294967296 + 1 < labelAt s v → Fits (key + len * 4294967296 + 1)
+    link-fits v len e less =
+        let x = linked v len e in
+        let f = new-fits ns start n (labelAt s) (fromAt s) (byAt s) all-links (h .labels) u b v lu (x .inside) (omega arith) (x .link) (omega (arith, x .cost)) in
+        record {
+          sum = omega (arith, f .0, ap (λ (y : ℕ). y / 4294967296) (x .cost));
+          steps = omega (arith, f .1, ap (λ (y : ℕ). y % 4294967296) (x .cost), l .few);
+        }
+
     pub one-taken : (v len new : ℕ) (t : List ℕ) → To v len ≡ edgeOf ns u b → Offered n size v (key + len * 4294967296 + 1) u b new s t
-        → Searching ns start n t new u (b + 1) × (labelAt n t u ≡ key) × (work n t new ≤ work n s size) × (drop (6 * n) t ≡ drop (6 * n) s)
+        → Searching ns start n t new u (b + 1) × (labelAt t u ≡ key) × (work n t new ≤ work n s size) × (chainAt t ≡ chainAt s)
     one-taken v len new t e o =
         let x = linked v len e in
         let r = offered ns start n all-links s size u b h lu (omega arith) v (key + len * 4294967296 + 1) new (x .inside) (x .link) (x .cost) t o in
         (r .0, r .1 ∙ label, r .2, r .3)
 
-    pub one-stopped : Stop ≡ edgeOf ns u b → Searching ns start n s size u (b + 1) × (labelAt n s u ≡ key) × (work n s size ≤ work n s size) × (drop (6 * n) s ≡ drop (6 * n) s)
+    pub one-stopped : Stop ≡ edgeOf ns u b → Searching ns start n s size u (b + 1) × (labelAt s u ≡ key) × (work n s size ≤ work n s size) × (chainAt s ≡ chainAt s)
     one-stopped e = let x = edge-stop ns u b e in (passed-over ns start n all-links s size u b h (x .0) (x .1), label, omega arith, refl)
 
   -- no link is left
@@ -93,7 +103,7 @@ module _ (y : Ynd) (nodes links : List (List ℕ)) (l : Lent y nodes links) (sta
     pub search-up : Searching ns start n t (size - 1) u 0
     search-up = taken-up ns start n all-links s t size u h some p
 
-    pub search-label : labelAt n t u < unlabelled
+    pub search-label : labelAt t u < unlabelled
     search-label = up-label ns start n all-links s t size u h some p
 
     pub search-less : (w : List ℕ) (new : ℕ) → work n w new ≤ work n t (size - 1) → work n w new < work n s size
@@ -103,9 +113,9 @@ module _ (y : Ynd) (nodes links : List (List ℕ)) (l : Lent y nodes links) (sta
   search-end s size h le = let e : size ≡ 0 = omega arith in rw e at h
 
 -- the chains stay as they are
-pub still-entered : (nodes : List (List ℕ)) (k : ℕ) (s t : List ℕ) → drop (6 * k) t ≡ drop (6 * k) s → AllEntered nodes k s → AllEntered nodes k t
+pub still-entered : (nodes : List (List ℕ)) (k : ℕ) (s t : List ℕ) → chainAt t ≡ chainAt s → AllEntered nodes k s → AllEntered nodes k t
 still-entered nodes k s t e x = index-same k k (numberAt nodes) s t e x
 
-pub begun-entered : (nodes : List (List ℕ)) (k v j u b new : ℕ) (r s t : List ℕ) → AllEntered nodes k r → drop (6 * k) s ≡ drop (6 * k) r → Offered k 0 v j u b new s t → AllEntered nodes k t
-begun-entered nodes k v j u b new r s t x e (passed le p q) = still-entered nodes k r t (ap (drop (6 * k)) q ∙ e) x
-begun-entered nodes k v j u b new r s t x e (taken less tk) = still-entered nodes k r t (tk .same-upper ∙ e) x
+pub begun-entered : (nodes : List (List ℕ)) (k v j u b new : ℕ) (r s t : List ℕ) → AllEntered nodes k r → chainAt s ≡ chainAt r → Offered k 0 v j u b new s t → AllEntered nodes k t
+begun-entered nodes k v j u b new r s t x e (passed le p q) = still-entered nodes k r t (ap chainAt q ∙ e) x
+begun-entered nodes k v j u b new r s t x e (taken less tk) = still-entered nodes k r t (tk .same-chains ∙ e) x

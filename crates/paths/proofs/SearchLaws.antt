@@ -6,13 +6,12 @@ use mathlib.Core.Bool.{Bool, true, false}
 use mathlib.Core.List.{List}
 use mathlib.Core.Logic.{_⊎_, inl, inr, ⊎-elim}
 use lib.Dec.{ltb}
-use lib.ListN.{drop}
 use borrow.Author.Tests.{ltb-true, ltb-false}
 use Rattle.cells.specs.Cell.{Node}
 use Rattle.walks.specs.Walk.{Next, to, stop, next}
 use Rattle.walks.specs.declared.walk.End.{End}
 use Rattle.paths.specs.Labels.{unlabelled, weight, lower, total, Remembered, Labelled, Closed, Links}
-use Rattle.paths.specs.Scratch.{labelAt, fromAt, byAt, placeAt, indexAt, Kept, SameLabels, Put, Pushed, Popped, Cleared}
+use Rattle.paths.specs.Scratch.{labelAt, fromAt, byAt, placeAt, indexAt, chainAt, Kept, SameLabels, Put, Pushed, Popped, Cleared}
 use Rattle.paths.specs.Search.{Taken, Offered, passed, taken, Searching, work}
 use Rattle.paths.proofs.Counts.{same?, lower-grows, total-le}
 use Rattle.paths.proofs.Relabel.{relabelled, fell, total-fell, label-on}
@@ -65,7 +64,7 @@ taken-by n size v k u b new s m t lv p q = record {
   other-label = λ x lx ne. q .same .same-label x lx ∙ p .other-label x lx ne;
   other-from = λ x lx ne. q .same .same-from x lx ∙ p .other-from x lx ne;
   other-by = λ x lx ne. q .same .same-by x lx ∙ p .other-by x lx ne;
-  same-upper = q .same .same-upper ∙ p .same-upper;
+  same-chains = q .same .same-chains ∙ p .same-chains;
   fits = q .fits;
   waits = q .waits;
   still = λ x lx h. q .still x lx (rw (p .same-index x lx) h);
@@ -97,9 +96,9 @@ module _ (ns : List Node) (start n : ℕ) (links : Links ns n) where
       settled = λ x b v lx w f l. h .settled x b v lx w (λ g. all b v (rw g at l)) l;
     }
 
-    module _ (lu : u < n) (lab : labelAt n s u < unlabelled) (v k new : ℕ) (lv : v < n) (link : next ns u i ≡ to v) (cost : k ≡ labelAt n s u + weight ns u i) where
+    module _ (lu : u < n) (lab : labelAt s u < unlabelled) (v k new : ℕ) (lv : v < n) (link : next ns u i ≡ to v) (cost : k ≡ labelAt s u + weight ns u i) where
       -- the label was no smaller
-      offered-passed : labelAt n s v ≤ k → Searching ns start n s size u (i + 1)
+      offered-passed : labelAt s v ≤ k → Searching ns start n s size u (i + 1)
       offered-passed le = record {
         kept = h .kept;
         fits = h .fits;
@@ -108,35 +107,35 @@ module _ (ns : List Node) (start n : ℕ) (links : Links ns n) where
         settled = λ x b w lx wt f l. ⊎-elim (λ g. at-u x b w lx wt g (f g) l) (λ ng. h .settled x b w lx wt (λ g. absurd (ng g)) l) (same? x u);
       }
         where
-          at-u : (x b w : ℕ) → x < n → size ≤ indexAt n s x → x ≡ u → b < i + 1 → next ns x b ≡ to w → labelAt n s w ≤ labelAt n s x + weight ns x b
+          at-u : (x b w : ℕ) → x < n → size ≤ indexAt s x → x ≡ u → b < i + 1 → next ns x b ≡ to w → labelAt s w ≤ labelAt s x + weight ns x b
           at-u x b w lx wt g lt l = ⊎-elim
-              (λ c. move-bound ns (labelAt n s) (same-place link (move-link ns g c l)) g c (omega arith))
+              (λ c. move-bound ns (labelAt s) (same-place link (move-link ns g c l)) g c (omega arith))
               (λ nc. h .settled x b w lx wt (λ g. omega arith) l)
               (same? b i)
 
-      module _ (t : List ℕ) (less : k < labelAt n s v) (tk : Taken n size v k u i new s t) where
-        small : labelAt n s u + weight ns u i < labelAt n s v
+      module _ (t : List ℕ) (less : k < labelAt s v) (tk : Taken n size v k u i new s t) where
+        small : labelAt s u + weight ns u i < labelAt s v
         small = omega arith
 
-        new-labels : Labelled ns start n (labelAt n t) (fromAt n t) (byAt n t)
+        new-labels : Labelled ns start n (labelAt t) (fromAt t) (byAt t)
         new-labels =
-            relabelled ns start n (labelAt n s) (fromAt n s) (byAt n s) links (h .labels) u i v lu lv lab link small
-            (labelAt n t) (fromAt n t) (byAt n t) (tk .label ∙ cost) (tk .from) (tk .by) (tk .other-label) (tk .other-from) (tk .other-by)
+            relabelled ns start n (labelAt s) (fromAt s) (byAt s) links (h .labels) u i v lu lv lab link small
+            (labelAt t) (fromAt t) (byAt t) (tk .label ∙ cost) (tk .from) (tk .by) (tk .other-label) (tk .other-from) (tk .other-by)
 
-        fallen : (x : ℕ) → x < n → labelAt n t x ≤ labelAt n s x
+        fallen : (x : ℕ) → x < n → labelAt t x ≤ labelAt s x
         fallen =
-            fell ns start n (labelAt n s) (fromAt n s) (byAt n s) links (h .labels) u i v lu lv lab link small
-            (labelAt n t) (fromAt n t) (byAt n t) (tk .label ∙ cost) (tk .from) (tk .by) (tk .other-label) (tk .other-from) (tk .other-by)
+            fell ns start n (labelAt s) (fromAt s) (byAt s) links (h .labels) u i v lu lv lab link small
+            (labelAt t) (fromAt t) (byAt t) (tk .label ∙ cost) (tk .from) (tk .by) (tk .other-label) (tk .other-from) (tk .other-by)
 
-        not-v : (x : ℕ) → new ≤ indexAt n t x → x ≡ v → ⊥
-        not-v x w e = let z : new ≤ indexAt n t v = rw e at w in omega (arith, tk .waits)
+        not-v : (x : ℕ) → new ≤ indexAt t x → x ≡ v → ⊥
+        not-v x w e = let z : new ≤ indexAt t v = rw e at w in omega (arith, tk .waits)
 
         -- u is no other than it was
         u-not-v : u ≡ v → ⊥
-        u-not-v e = let z : labelAt n s u + weight ns u i < labelAt n s u = rw (← e) at small in omega arith
+        u-not-v e = let z : labelAt s u + weight ns u i < labelAt s u = rw (← e) at small in omega arith
 
-        old-wait : (x : ℕ) → x < n → new ≤ indexAt n t x → size ≤ indexAt n s x
-        old-wait x lx w = ⊎-elim (λ a. absurd (omega (arith, tk .still x lx a))) (λ b. b) (lt-or (indexAt n s x) size)
+        old-wait : (x : ℕ) → x < n → new ≤ indexAt t x → size ≤ indexAt s x
+        old-wait x lx w = ⊎-elim (λ a. absurd (omega (arith, tk .still x lx a))) (λ b. b) (lt-or (indexAt s x) size)
 
         offered-taken : Searching ns start n t new u (i + 1)
         offered-taken = record {
@@ -150,13 +149,13 @@ module _ (ns : List Node) (start n : ℕ) (links : Links ns n) where
           settled = λ x b w lx wt f l. ⊎-elim (λ g. at-u x b w lx wt g (f g) l) (λ ng. other x b w lx wt (λ g. absurd (ng g)) l) (same? x u);
         }
           where
-            other : (x b w : ℕ) → x < n → new ≤ indexAt n t x → (x ≡ u → b < i) → next ns x b ≡ to w → labelAt n t w ≤ labelAt n t x + weight ns x b
+            other : (x b w : ℕ) → x < n → new ≤ indexAt t x → (x ≡ u → b < i) → next ns x b ≡ to w → labelAt t w ≤ labelAt t x + weight ns x b
             other x b w lx wt f l =
                 omega (arith, tk .other-label x lx (not-v x wt), fallen w (links .lead-in x b w l), h .settled x b w lx (old-wait x lx wt) f l)
 
-            at-u : (x b w : ℕ) → x < n → new ≤ indexAt n t x → x ≡ u → b < i + 1 → next ns x b ≡ to w → labelAt n t w ≤ labelAt n t x + weight ns x b
+            at-u : (x b w : ℕ) → x < n → new ≤ indexAt t x → x ≡ u → b < i + 1 → next ns x b ≡ to w → labelAt t w ≤ labelAt t x + weight ns x b
             at-u x b w lx wt g lt l = ⊎-elim
-                (λ c. move-bound ns (labelAt n t) (same-place link (move-link ns g c l)) g c (omega (arith, tk .label, tk .other-label u lu u-not-v)))
+                (λ c. move-bound ns (labelAt t) (same-place link (move-link ns g c l)) g c (omega (arith, tk .label, tk .other-label u lu u-not-v)))
                 (λ nc. other x b w lx wt (λ g. omega arith) l)
                 (same? b i)
 
@@ -167,14 +166,14 @@ module _ (ns : List Node) (start n : ℕ) (links : Links ns n) where
               arith,
               tk .fits,
               h .kept .few,
-              total-fell ns start n (labelAt n s) (fromAt n s) (byAt n s) links (h .labels) u i v lu lv lab link small
-                  (labelAt n t) (fromAt n t) (byAt n t) (tk .label ∙ cost) (tk .from) (tk .by) (tk .other-label) (tk .other-from) (tk .other-by),
+              total-fell ns start n (labelAt s) (fromAt s) (byAt s) links (h .labels) u i v lu lv lab link small
+                  (labelAt t) (fromAt t) (byAt t) (tk .label ∙ cost) (tk .from) (tk .by) (tk .other-label) (tk .other-from) (tk .other-by),
             )
 
       -- one link looked at
-      pub offered : (t : List ℕ) → Offered n size v k u i new s t → Searching ns start n t new u (i + 1) × (labelAt n t u ≡ labelAt n s u) × (work n t new ≤ work n s size) × (drop (6 * n) t ≡ drop (6 * n) s)
+      pub offered : (t : List ℕ) → Offered n size v k u i new s t → Searching ns start n t new u (i + 1) × (labelAt t u ≡ labelAt s u) × (work n t new ≤ work n s size) × (chainAt t ≡ chainAt s)
       offered t (passed le e f) = rw (e, f) (offered-passed le, refl, omega arith, refl)
-      offered t (taken less tk) = (offered-taken t less tk, tk .other-label u lu (u-not-v t less tk), work-taken t less tk, tk .same-upper)
+      offered t (taken less tk) = (offered-taken t less tk, tk .other-label u lu (u-not-v t less tk), work-taken t less tk, tk .same-chains)
 
   -- a place is taken up
   module _ (s t : List ℕ) (size u : ℕ) (h : Searching ns start n s size n 0) (some : 0 < size) (p : Popped n size u s t) where
@@ -182,7 +181,7 @@ module _ (ns : List Node) (start n : ℕ) (links : Links ns n) where
     taken-up = record {
       kept = p .kept;
       fits = omega (arith, h .fits);
-      labels = labelled-same ns start n (labelAt n s) (fromAt n s) (byAt n s) (labelAt n t) (fromAt n t) (byAt n t) (h .labels) (p .same .same-label) (p .same .same-from) (p .same .same-by);
+      labels = labelled-same ns start n (labelAt s) (fromAt s) (byAt s) (labelAt t) (fromAt t) (byAt t) (h .labels) (p .same .same-label) (p .same .same-from) (p .same .same-by);
       waiting = λ x lx w. omega (arith, p .same .same-label x lx, h .waiting x lx (p .only x lx w));
       settled = λ x b v lx w f l. omega (
         arith,
@@ -192,15 +191,15 @@ module _ (ns : List Node) (start n : ℕ) (links : Links ns n) where
       );
     }
       where
-        old-wait : (x : ℕ) → x < n → (x ≡ u → ⊥) → size - 1 ≤ indexAt n t x → size ≤ indexAt n s x
-        old-wait x lx ne w = ⊎-elim (λ a. absurd (omega (arith, p .still x lx ne a))) (λ b. b) (lt-or (indexAt n s x) size)
+        old-wait : (x : ℕ) → x < n → (x ≡ u → ⊥) → size - 1 ≤ indexAt t x → size ≤ indexAt s x
+        old-wait x lx ne w = ⊎-elim (λ a. absurd (omega (arith, p .still x lx ne a))) (λ b. b) (lt-or (indexAt s x) size)
 
-    pub up-label : labelAt n t u < unlabelled
+    pub up-label : labelAt t u < unlabelled
     up-label = omega (arith, p .same .same-label u (p .inside), h .waiting u (p .inside) (p .waited))
 
     pub up-work : work n t (size - 1) < work n s size
     unfolding work
-    up-work = omega (arith, total-le (labelAt n s) (labelAt n t) n (λ x lx. omega (arith, p .same .same-label x lx)))
+    up-work = omega (arith, total-le (labelAt s) (labelAt t) n (λ x lx. omega (arith, p .same .same-label x lx)))
 
   -- before the first place is taken up
   pub begun : (s t : List ℕ) (new : ℕ) → start < n → Cleared n s → Offered n 0 start 0 start 0 new s t → Searching ns start n t new n 0
@@ -220,18 +219,18 @@ module _ (ns : List Node) (start n : ℕ) (links : Links ns n) where
     settled = λ x b v lx w f l. omega (arith, most v (links .lead-in x b v l), rest x lx (λ e. not-first x w e));
   }
     where
-      rest : (v : ℕ) → v < n → (v ≡ start → ⊥) → labelAt n t v ≡ unlabelled
+      rest : (v : ℕ) → v < n → (v ≡ start → ⊥) → labelAt t v ≡ unlabelled
       rest v lv ne = tk .other-label v lv ne ∙ c .none v lv
 
-      most : (v : ℕ) → v < n → labelAt n t v ≤ unlabelled
+      most : (v : ℕ) → v < n → labelAt t v ≤ unlabelled
       most v lv = ⊎-elim (λ e. rw e (omega (arith, tk .label))) (λ ne. omega (arith, rest v lv ne)) (same? v start)
 
-      zero-at : (v : ℕ) → v < n → labelAt n t v < unlabelled → labelAt n t v ≡ 0
+      zero-at : (v : ℕ) → v < n → labelAt t v < unlabelled → labelAt t v ≡ 0
       zero-at v lv l = ⊎-elim (λ e. rw e (tk .label)) (λ ne. absurd (omega (arith, rest v lv ne))) (same? v start)
 
-      not-first : (x : ℕ) → new ≤ indexAt n t x → x ≡ start → ⊥
-      not-first x w e = let z : new ≤ indexAt n t start = rw e at w in omega (arith, tk .waits)
+      not-first : (x : ℕ) → new ≤ indexAt t x → x ≡ start → ⊥
+      not-first x w e = let z : new ≤ indexAt t start = rw e at w in omega (arith, tk .waits)
 
   -- nothing waits: no link improves a label
-  pub finished : (s : List ℕ) → Searching ns start n s 0 n 0 → Closed ns n (labelAt n s)
+  pub finished : (s : List ℕ) → Searching ns start n s 0 n 0 → Closed ns n (labelAt s)
   finished s h u b v lu l = h .settled u b v lu (omega arith) (λ g. absurd (omega arith)) l

@@ -11,7 +11,7 @@ use Rattle.paths.specs.ShortestPath.{lengthAt}
 
 -- the label of no walk: greater than every other
 abbrev pub unlabelled : ℕ
-unlabelled = 18446744069414584320
+unlabelled = 72057589742960640
 
 -- what a link adds to a label
 unfoldable pub weight : List Node → ℕ → ℕ → ℕ

@@ -20,7 +20,7 @@ use Rattle.paths.specs.declared.path.Shortest.the-variants.{Path, Refuse
 
 -- T-06: the scratch's entries for each node
 abbrev pub perNode : ℕ
-perNode = 8
+perNode = 4
 
 -- What is asked before the search, of a cell in lists of so many nodes and links, in this order: 13 for either place; 14 a
 -- struct over a limit; 7 at 0 and 1 a list shorter than its count; 7 at 9 a scratch of fewer entries than stated.

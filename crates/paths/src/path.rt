@@ -36,11 +36,11 @@ fn fill(
     choices: &mut [u8],
     places: &mut [u32],
 )
-    requires { ⌜ (n ≤ 65536) × (6 * n ≤ length (now scratch)) × Back n (labelAt n (now scratch)) (fromAt n (now scratch)) (byAt n (now scratch))
-        × (goal < n) × (labelAt n (now scratch) goal < unlabelled) × (labelAt n (now scratch) goal % 4294967296 ≡ count)
+    requires { ⌜ (n ≤ 65536) × (4 * n ≤ length (now scratch)) × Back n (labelAt (now scratch)) (fromAt (now scratch)) (byAt (now scratch))
+        × (goal < n) × (labelAt (now scratch) goal < unlabelled) × (labelAt (now scratch) goal % 4294967296 ≡ count)
         × (count ≤ length (now choices)) × (count < length (now places)) ⌝ }
-    ensures { λ _. ⌜ (now (choices .exit) ≡ over (choicesTo (fromAt n (now (scratch .entry))) (byAt n (now (scratch .entry))) count goal) (now (choices .entry)))
-        × (now (places .exit) ≡ over (placesTo (fromAt n (now (scratch .entry))) count goal) (now (places .entry))) ⌝ }
+    ensures { λ _. ⌜ (now (choices .exit) ≡ over (choicesTo (fromAt (now (scratch .entry))) (byAt (now (scratch .entry))) count goal) (now (choices .entry)))
+        × (now (places .exit) ≡ over (placesTo (fromAt (now (scratch .entry))) count goal) (now (places .entry))) ⌝ }
 {
     let mut v = goal;
     let mut i = count;
@@ -73,7 +73,7 @@ fn refusal(ynd: Ynd, nodes: usize, links: usize, from: usize, to: usize, room: u
     if links < ynd.link_count as usize {
         return Answer::Refused(7, 1);
     }
-    if room < 8 * n {
+    if room < 4 * n {
         return Answer::Refused(7, 9);
     }
     Answer::Done
@@ -91,14 +91,14 @@ fn find_path(
     places: &mut [u32],
 ) -> Shortest
     requires { ⌜ Lent ynd (now nodes) (now links) × (from < ynd .«node_count») × (to < ynd .«node_count»)
-        × (8 * ynd .«node_count» ≤ length (now scratch)) ⌝ }
+        × (4 * ynd .«node_count» ≤ length (now scratch)) ⌝ }
     ensures { λ r. ⌜ Searched (nodesOf (lent ynd (now (nodes .entry)) (now (links .entry)))) (ynd .«node_count») from to
         (now (choices .entry)) (now (places .entry)) r (now (choices .exit)) (now (places .exit)) ⌝ }
 {
     let n = ynd.node_count as usize;
     search(ynd, nodes, links, scratch, from);
     let label = label_of(scratch, n, to);
-    if 18446744069414584320 <= label {
+    if 72057589742960640 <= label {
         return Shortest::Refused(17, 0);
     }
     if choices.len() < n {
@@ -113,7 +113,7 @@ fn find_path(
 }
 
 // A walk from one place to another by the cell's own links whose lengths add up to least, whatever the lists that are
-// not lent. `choices` and `places` get it. The scratch has eight entries for each node: once that is asked it may hold
+// not lent. `choices` and `places` get it. The scratch has four entries for each node: once that is asked it may hold
 // anything; before, a refusal changes nothing.
 pub fn shortest_path(
     ynd: Ynd,

@@ -1,12 +1,12 @@
 // The search for the least sums from a place.
 ghost use mathlib.Core.Path.{_≡_};
 ghost use Prim.Native.Nat.{ℕ, _+_, _*_, _/_, _%_, _<_, _≤_};
-ghost use lib.ListN.{length, getD, drop};
+ghost use lib.ListN.{length, getD};
 ghost use Rattle.cells.specs.CellOf.{nodesOf};
 ghost use Rattle.walks.specs.WalkParts.{lent};
 ghost use Rattle.paths.specs.Index.{AllEntered};
 ghost use Rattle.paths.specs.Labels.{unlabelled};
-ghost use Rattle.paths.specs.Scratch.{labelAt, Kept};
+ghost use Rattle.paths.specs.Scratch.{labelAt, chainAt, Fits, Kept};
 ghost use Rattle.paths.specs.Search.{Lent, edgeTo, edgeOf, Offered, Searching, work};
 use crate::index::enter_all;
 use crate::index::node_in;
@@ -68,7 +68,7 @@ fn follow(
     p: usize,
     b: usize,
 ) -> Edge
-    requires { ⌜ Lent ynd (now nodes) (now links) × (n ≡ ynd .«node_count») × (8 * n ≤ length (now scratch)) × AllEntered (now nodes) n (now scratch)
+    requires { ⌜ Lent ynd (now nodes) (now links) × (n ≡ ynd .«node_count») × (4 * n ≤ length (now scratch)) × AllEntered (now nodes) n (now scratch)
         × (p < n) × (b < 256) ⌝ }
     ensures { λ r. ⌜ r ≡ edgeOf (nodesOf (lent ynd (now (nodes .entry)) (now (links .entry)))) p b ⌝ }
 {
@@ -93,7 +93,7 @@ fn follow(
 
 // The label k, by the choice b from the place u, for the place v: it takes it if it is smaller. How many wait then.
 fn offer(scratch: &mut [u32], n: usize, size: usize, v: usize, k: u64, u: usize, b: usize) -> usize
-    requires { ⌜ Kept n (now scratch) × (size ≤ n) × (v < n) × (u < n) × (b < 256) ⌝ }
+    requires { ⌜ Kept n (now scratch) × (size ≤ n) × (v < n) × (u < n) × (b < 256) × (k < labelAt (now scratch) v → Fits k) ⌝ }
     ensures { λ r. ⌜ Offered n size v k u b r (now (scratch .entry)) (now (scratch .exit)) ⌝ }
 {
     if label_of(scratch, n, v) <= k {
@@ -116,12 +116,12 @@ fn relax_one(
     b: usize,
 ) -> usize
     requires { ⌜ Lent ynd (now nodes) (now links) × Searching (nodesOf (lent ynd (now nodes) (now links))) start (ynd .«node_count») (now scratch) size u b
-        × (u < ynd .«node_count») × (labelAt (ynd .«node_count») (now scratch) u ≡ key) × (key < unlabelled) × (b < 256)
-        × (8 * ynd .«node_count» ≤ length (now scratch)) × AllEntered (now nodes) (ynd .«node_count») (now scratch) ⌝ }
+        × (u < ynd .«node_count») × (labelAt (now scratch) u ≡ key) × (key < unlabelled) × (b < 256)
+        × (4 * ynd .«node_count» ≤ length (now scratch)) × AllEntered (now nodes) (ynd .«node_count») (now scratch) ⌝ }
     ensures { λ r. ⌜ Searching (nodesOf (lent ynd (now (nodes .entry)) (now (links .entry)))) start (ynd .«node_count») (now (scratch .exit)) r u (b + 1)
-        × (labelAt (ynd .«node_count») (now (scratch .exit)) u ≡ key)
+        × (labelAt (now (scratch .exit)) u ≡ key)
         × (work (ynd .«node_count») (now (scratch .exit)) r ≤ work (ynd .«node_count») (now (scratch .entry)) size)
-        × (drop (6 * ynd .«node_count») (now (scratch .exit)) ≡ drop (6 * ynd .«node_count») (now (scratch .entry))) ⌝ }
+        × (chainAt (now (scratch .exit)) ≡ chainAt (now (scratch .entry))) ⌝ }
 {
     let n = ynd.node_count as usize;
     let x = follow(ynd, nodes, links, scratch, n, u, b);
@@ -145,11 +145,11 @@ fn relax(
     u: usize,
 ) -> usize
     requires { ⌜ Lent ynd (now nodes) (now links) × Searching (nodesOf (lent ynd (now nodes) (now links))) start (ynd .«node_count») (now scratch) size u 0
-        × (u < ynd .«node_count») × (labelAt (ynd .«node_count») (now scratch) u < unlabelled)
-        × (8 * ynd .«node_count» ≤ length (now scratch)) × AllEntered (now nodes) (ynd .«node_count») (now scratch) ⌝ }
+        × (u < ynd .«node_count») × (labelAt (now scratch) u < unlabelled)
+        × (4 * ynd .«node_count» ≤ length (now scratch)) × AllEntered (now nodes) (ynd .«node_count») (now scratch) ⌝ }
     ensures { λ r. ⌜ Searching (nodesOf (lent ynd (now (nodes .entry)) (now (links .entry)))) start (ynd .«node_count») (now (scratch .exit)) r (ynd .«node_count») 0
         × (work (ynd .«node_count») (now (scratch .exit)) r ≤ work (ynd .«node_count») (now (scratch .entry)) size)
-        × (drop (6 * ynd .«node_count») (now (scratch .exit)) ≡ drop (6 * ynd .«node_count») (now (scratch .entry))) ⌝ }
+        × (chainAt (now (scratch .exit)) ≡ chainAt (now (scratch .entry))) ⌝ }
 {
     let n = ynd.node_count as usize;
     let key = label_of(scratch, n, u);
@@ -171,7 +171,7 @@ pub(crate) fn search(
     scratch: &mut [u32],
     start: usize,
 )
-    requires { ⌜ Lent ynd (now nodes) (now links) × (start < ynd .«node_count») × (8 * ynd .«node_count» ≤ length (now scratch)) ⌝ }
+    requires { ⌜ Lent ynd (now nodes) (now links) × (start < ynd .«node_count») × (4 * ynd .«node_count» ≤ length (now scratch)) ⌝ }
     ensures { λ _. ⌜ Searching (nodesOf (lent ynd (now (nodes .entry)) (now (links .entry)))) start (ynd .«node_count») (now (scratch .exit)) 0 (ynd .«node_count») 0 ⌝ }
 {
     let n = ynd.node_count as usize;

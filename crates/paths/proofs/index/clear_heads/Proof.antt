@@ -9,7 +9,7 @@ use Rattle.paths.proofs.index.clear_heads.Statement.{statement}
 use Rattle.paths.proofs.index.clear_heads.Tie as tie
 
 abbrev Inv-loop : tie.InvT-loop
-Inv-loop scratch₀ n h₀ scratch h = (h ≤ n) × (length scratch ≡ length scratch₀) × ((k : ℕ) → k < h → headAt n scratch k ≡ 0)
+Inv-loop scratch₀ n h₀ scratch h = (h ≤ n) × (length scratch ≡ length scratch₀) × ((k : ℕ) → k < h → headAt scratch k ≡ 0)
 
 abbrev μ-loop : tie.MeasureT-loop
 μ-loop scratch₀ n h₀ scratch h = n - h
@@ -36,7 +36,7 @@ loop-less : tie.Need-loop-less Inv-loop μ-loop
 loop-less c = search needs
 
 loop-again : tie.Need-loop-again Inv-loop μ-loop
-loop-again c = (omega arith, simp length-set (omega arith), head-cleared _ _ _ (omega arith) (omega arith) (c .before .loop .inv .2))
+loop-again c = (omega arith, simp length-set (omega arith), head-cleared _ _ (omega arith) (c .before .loop .inv .2))
 
 same-length : tie.Need-same-length Inv-loop μ-loop
 same-length c = search needs

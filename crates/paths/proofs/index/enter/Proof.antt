@@ -38,7 +38,7 @@ returns : tie.Need-returns
 returns c =
     let a = c .before .before .before .before .before .before .before .before .before .before .args in
     let p = c .before .before .before .before .before .before .before .before .before .before .pre in
-    entered-new (a .n) (a .i) (numberAt (a .nodes .now)) _ _ _ _ _ (p .1) (p .3) (p .4) (c .before .before .before .before .before .before .before .number-of .ensures) (c .before .before .before .before .before .entry-of .ensures) (c .before .before .before .before .if1 .taken) refl (c .before .before .link .ensures)
+    entered-new (a .n) (a .i) (numberAt (a .nodes .now)) _ _ _ _ _ (p .0) (p .1) (p .3) (p .4) (c .before .before .before .before .before .before .before .number-of .ensures) (c .before .before .before .before .before .entry-of .ensures) (c .before .before .before .before .if1 .taken) refl (c .before .before .link .ensures)
 
 same-length-2 : tie.Need-same-length-2
 same-length-2 c = search needs
@@ -47,7 +47,7 @@ returns-2 : tie.Need-returns-2
 returns-2 c =
     let a = c .before .before .before .before .before .before .args in
     let p = c .before .before .before .before .before .before .pre in
-    entered-known (a .n) (a .i) (numberAt (a .nodes .now)) _ _ _ (p .3) (p .4) (c .before .before .before .number-of .ensures) (c .before .entry-of .ensures) (c .if1 .left)
+    entered-known (a .n) (a .i) (numberAt (a .nodes .now)) _ _ _ (p .3) (p .4) (c .before .before .before .number-of .ensures) (c .before .entry-of .ensures) (omega (arith, c .if1 .left))
 
 pub enter-spec : {M : Type 1} → statement M
 enter-spec =

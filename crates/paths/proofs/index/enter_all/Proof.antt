@@ -9,7 +9,7 @@ use Rattle.paths.proofs.index.enter_all.Statement.{statement}
 use Rattle.paths.proofs.index.enter_all.Tie as tie
 
 abbrev Inv-loop : tie.InvT-loop
-Inv-loop nodes scratch₀ n i₀ scratch i = Index n i (numberAt nodes) (headAt n scratch) (nextAt n scratch) × (i ≤ n) × (length scratch ≡ length scratch₀)
+Inv-loop nodes scratch₀ n i₀ scratch i = Index n i (numberAt nodes) (headAt scratch) (nextAt scratch) × (i ≤ n) × (length scratch ≡ length scratch₀)
 
 abbrev μ-loop : tie.MeasureT-loop
 μ-loop nodes scratch₀ n i₀ scratch i = n - i
@@ -21,7 +21,7 @@ loop-holds : tie.Need-loop-holds Inv-loop μ-loop
 loop-holds c =
     let a = c .before .before .before .before .before .args in
     let p = c .before .before .before .before .before .pre in
-    (no-heads (a .n) (numberAt (a .nodes .now)) _ (c .before .before .clear-heads .ensures), omega arith, search needs)
+    (no-heads (a .n) (numberAt (a .nodes .now)) _ (p .3) (c .before .before .clear-heads .ensures), omega (arith, p .3), search needs)
 
 enter-requires : tie.Need-enter-requires Inv-loop μ-loop
 enter-requires c κs =

@@ -1,144 +1,116 @@
-use borrow.Author.Needs.{needs}
 use native.Mathlib.Omega.{arith}
-use Prim.Native.Nat.{ℕ, suc, _+_, _*_, _-_, _%_}
-use mathlib.Core.Path.{_≡_, refl, sym, _∙_}
 use native.Mathlib.Nat.{mod-lt}
+use Prim.Native.Nat.{ℕ, _+_, _*_, _%_}
+use mathlib.Core.Path.{_≡_, refl, sym, _∙_}
+use Rattle.paths.specs.Scratch.{chainAt}
 use Rattle.paths.specs.Index.{numberAt, headAt, nextAt, Index}
-use Rattle.paths.proofs.IndexLaws.{Seeking, seek-start, seek-inside, seek-found, seek-on, seek-end}
+use Rattle.paths.proofs.IndexLaws.{Seeking, seek-start, seek-inside, seek-found, seek-on, seek-first, seek-none}
+use borrow.Author.Needs.{needs}
 use Rattle.paths.proofs.index.entry_of.Statement.{statement}
 use Rattle.paths.proofs.index.entry_of.Tie as tie
 
 abbrev Inv-loop : tie.InvT-loop
-Inv-loop nodes scratch n upto k h e₀ e = Seeking upto (numberAt nodes) (nextAt n scratch) k e
+Inv-loop nodes scratch n upto k h v₀ v = Seeking upto (numberAt nodes) (nextAt scratch) k v
 
 abbrev μ-loop : tie.MeasureT-loop
-μ-loop nodes scratch n upto k h e₀ e = e
+μ-loop nodes scratch n upto k h v₀ v = v
 
-rem-h : tie.Need-rem-h Inv-loop μ-loop
-rem-h c = search needs
+mul-v : tie.Need-mul-v Inv-loop μ-loop
+mul-v c = let s = c .before in omega (arith, mod-lt (s .args .k) {m = s .args .n} (s .pre .3))
 
-mul-e : tie.Need-mul-e Inv-loop μ-loop
-mul-e c = search needs
+add-v : tie.Need-add-v Inv-loop μ-loop
+add-v c = let s = c .before in omega (arith, mod-lt (s .args .k) {m = s .args .n} (s .pre .3))
 
-add-e : tie.Need-add-e Inv-loop μ-loop
-add-e c =
-    let a = c .before .args in
-    let p = c .before .pre in
-    let r = mod-lt (a .k) {m = a .n} (p .3) in
-    omega (arith, r)
+mul-v-2 : tie.Need-mul-v-2 Inv-loop μ-loop
+mul-v-2 c = let s = c .before in omega (arith, mod-lt (s .args .k) {m = s .args .n} (s .pre .3))
 
-mul-e-2 : tie.Need-mul-e-2 Inv-loop μ-loop
-mul-e-2 c =
-    let a = c .before .args in
-    let p = c .before .pre in
-    let r = mod-lt (a .k) {m = a .n} (p .3) in
-    omega (arith, r)
-
-shared-slice-read-e : tie.Need-shared-slice-read-e Inv-loop μ-loop
-shared-slice-read-e c =
-    let a = c .before .before .args in
-    let p = c .before .before .pre in
-    let r = mod-lt (a .k) {m = a .n} (p .3) in
-    omega (arith, r)
-
-cast-e : tie.Need-cast-e Inv-loop μ-loop
-cast-e c =
-    let a = c .before .before .args in
-    let p = c .before .before .pre in
-    omega (arith, c .shared-slice-known2 .given (6 * a .n + a .k % a .n))
+shared-slice-read-v : tie.Need-shared-slice-read-v Inv-loop μ-loop
+shared-slice-read-v c = let s = c .before .before in omega (arith, mod-lt (s .args .k) {m = s .args .n} (s .pre .3))
 
 loop-holds : tie.Need-loop-holds Inv-loop μ-loop
-unfolding headAt
+unfolding headAt chainAt
 loop-holds c =
-    let a = c .before .before .args in
-    let p = c .before .before .pre in
-    seek-start (a .n) (a .upto) (numberAt (a .nodes .now)) (headAt (a .n) (a .scratch .now)) (nextAt (a .n) (a .scratch .now)) (p .4) (a .k) (p .3) _ refl
-
-sub-v : tie.Need-sub-v Inv-loop μ-loop
-sub-v c = search needs
-
-mul-number-of : tie.Need-mul-number-of Inv-loop μ-loop
-mul-number-of c = search needs
+    let s = c .before .before in
+    let a = s .args in
+    let p = s .pre in
+    seek-start (a .n) (a .upto) (numberAt (a .nodes .now)) (headAt (a .scratch .now)) (nextAt (a .scratch .now)) (p .4) (a .k) (p .3) _ refl
 
 shared-slice-copy-out-number-of : tie.Need-shared-slice-copy-out-number-of Inv-loop μ-loop
 shared-slice-copy-out-number-of c =
-    let a = c .before .before .before .before .args in
-    let p = c .before .before .before .before .pre in
-    let e = c .before .loop .e in
-    let is : e ≡ suc (e - 1) = omega arith in
-    let i = c .before .loop .inv in
-    omega (arith, seek-inside (a .n) (a .upto) (numberAt (a .nodes .now)) (headAt (a .n) (a .scratch .now)) (nextAt (a .n) (a .scratch .now)) (p .4) (a .k) e (e - 1) i is, p .4 .within)
-
-number-of-requires : tie.Need-number-of-requires Inv-loop μ-loop
-number-of-requires c κs = search needs
+    let s = c .before .before .before .before in
+    let a = s .args in
+    let p = s .pre in
+    let l = c .before .loop in
+    omega (arith, seek-inside (a .n) (a .upto) (numberAt (a .nodes .now)) (headAt (a .scratch .now)) (nextAt (a .scratch .now)) (p .4) (a .k) (l .v) (l .inv))
 
 returns : tie.Need-returns Inv-loop μ-loop
 returns c =
-    let a = c .before .before .before .before .before .before .before .args in
-    let p = c .before .before .before .before .before .before .before .pre in
-    let e = c .before .before .before .before .loop .e in
-    let is : e ≡ suc (e - 1) = omega arith in
-    let i = c .before .before .before .before .loop .inv in
-    seek-found (a .n) (a .upto) (numberAt (a .nodes .now)) (headAt (a .n) (a .scratch .now)) (nextAt (a .n) (a .scratch .now)) (p .4) (a .k) e (e - 1) i is (sym (c .before .number-of .ensures) ∙ c .if1 .taken)
+    let s = c .before .before .before .before .before .before .before in
+    let a = s .args in
+    let p = s .pre in
+    let l = c .before .before .before .before .loop in
+    seek-found (a .n) (a .upto) (numberAt (a .nodes .now)) (headAt (a .scratch .now)) (nextAt (a .scratch .now)) (p .4) (a .k) (l .v) (l .inv) (sym (c .before .number-of .ensures) ∙ c .if1 .taken)
 
-mul-e-3 : tie.Need-mul-e-3 Inv-loop μ-loop
-mul-e-3 c = search needs
+mul-v-3 : tie.Need-mul-v-3 Inv-loop μ-loop
+mul-v-3 c =
+    let s = c .before .before .before .before .before .before .before in
+    let a = s .args in
+    let p = s .pre in
+    let l = c .before .before .before .before .loop in
+    omega (arith, seek-inside (a .n) (a .upto) (numberAt (a .nodes .now)) (headAt (a .scratch .now)) (nextAt (a .scratch .now)) (p .4) (a .k) (l .v) (l .inv))
 
-add-e-2 : tie.Need-add-e-2 Inv-loop μ-loop
-add-e-2 c =
-    let a = c .before .before .before .before .before .before .before .args in
-    let p = c .before .before .before .before .before .before .before .pre in
-    let e = c .before .before .before .before .loop .e in
-    let is : e ≡ suc (e - 1) = omega arith in
-    let i = c .before .before .before .before .loop .inv in
-    omega (arith, seek-inside (a .n) (a .upto) (numberAt (a .nodes .now)) (headAt (a .n) (a .scratch .now)) (nextAt (a .n) (a .scratch .now)) (p .4) (a .k) e (e - 1) i is, p .4 .within)
+add-v-2 : tie.Need-add-v-2 Inv-loop μ-loop
+add-v-2 c =
+    let s = c .before .before .before .before .before .before .before in
+    let a = s .args in
+    let p = s .pre in
+    let l = c .before .before .before .before .loop in
+    omega (arith, seek-inside (a .n) (a .upto) (numberAt (a .nodes .now)) (headAt (a .scratch .now)) (nextAt (a .scratch .now)) (p .4) (a .k) (l .v) (l .inv))
 
-mul-e-4 : tie.Need-mul-e-4 Inv-loop μ-loop
-mul-e-4 c = search needs
+shared-slice-read-v-2 : tie.Need-shared-slice-read-v-2 Inv-loop μ-loop
+shared-slice-read-v-2 c =
+    let s = c .before .before .before .before .before .before .before .before in
+    let a = s .args in
+    let p = s .pre in
+    let l = c .before .before .before .before .before .loop in
+    omega (arith, seek-inside (a .n) (a .upto) (numberAt (a .nodes .now)) (headAt (a .scratch .now)) (nextAt (a .scratch .now)) (p .4) (a .k) (l .v) (l .inv))
 
-shared-slice-read-e-2 : tie.Need-shared-slice-read-e-2 Inv-loop μ-loop
-shared-slice-read-e-2 c =
-    let a = c .before .before .before .before .before .before .before .before .args in
-    let p = c .before .before .before .before .before .before .before .before .pre in
-    let e = c .before .before .before .before .before .loop .e in
-    let is : e ≡ suc (e - 1) = omega arith in
-    let i = c .before .before .before .before .before .loop .inv in
-    omega (arith, seek-inside (a .n) (a .upto) (numberAt (a .nodes .now)) (headAt (a .n) (a .scratch .now)) (nextAt (a .n) (a .scratch .now)) (p .4) (a .k) e (e - 1) i is, p .4 .within)
-
-cast-e-2 : tie.Need-cast-e-2 Inv-loop μ-loop
-cast-e-2 c =
-    let a = c .before .before .before .before .before .before .before .before .args in
-    let p = c .before .before .before .before .before .before .before .before .pre in
-    let e = c .before .before .before .before .before .loop .e in
-    let is : e ≡ suc (e - 1) = omega arith in
-    let i = c .before .before .before .before .before .loop .inv in
-    omega (arith, c .shared-slice-known3 .given (7 * a .n + (e - 1)))
+cast-v-2 : tie.Need-cast-v-2 Inv-loop μ-loop
+cast-v-2 c = omega (arith, c .shared-slice-known3 .given (4 * c .before .before .before .before .before .loop .v + 3))
 
 loop-less : tie.Need-loop-less Inv-loop μ-loop
-unfolding nextAt
+unfolding nextAt chainAt
 loop-less c =
-    let a = c .before .before .before .before .before .before .before .before .args in
-    let p = c .before .before .before .before .before .before .before .before .pre in
-    let e = c .before .before .before .before .before .loop .e in
-    let is : e ≡ suc (e - 1) = omega arith in
-    let i = c .before .before .before .before .before .loop .inv in
-    seek-on (a .n) (a .upto) (numberAt (a .nodes .now)) (headAt (a .n) (a .scratch .now)) (nextAt (a .n) (a .scratch .now)) (p .4) (a .k) e (e - 1) i is (λ q. c .before .if1 .left (c .before .before .number-of .ensures ∙ q)) _ refl .1
+    let s = c .before .before .before .before .before .before .before .before in
+    let a = s .args in
+    let p = s .pre in
+    let l = c .before .before .before .before .before .loop in
+    seek-on (a .n) (a .upto) (numberAt (a .nodes .now)) (headAt (a .scratch .now)) (nextAt (a .scratch .now)) (p .4) (a .k) (l .v) (l .inv) (omega arith) (λ q. c .before .if1 .left (c .before .before .number-of .ensures ∙ q)) _ refl .1
 
 loop-again : tie.Need-loop-again Inv-loop μ-loop
-unfolding nextAt
+unfolding nextAt chainAt
 loop-again c =
-    let a = c .before .before .before .before .before .before .before .before .args in
-    let p = c .before .before .before .before .before .before .before .before .pre in
-    let e = c .before .before .before .before .before .loop .e in
-    let is : e ≡ suc (e - 1) = omega arith in
-    let i = c .before .before .before .before .before .loop .inv in
-    seek-on (a .n) (a .upto) (numberAt (a .nodes .now)) (headAt (a .n) (a .scratch .now)) (nextAt (a .n) (a .scratch .now)) (p .4) (a .k) e (e - 1) i is (λ q. c .before .if1 .left (c .before .before .number-of .ensures ∙ q)) _ refl .0
+    let s = c .before .before .before .before .before .before .before .before in
+    let a = s .args in
+    let p = s .pre in
+    let l = c .before .before .before .before .before .loop in
+    seek-on (a .n) (a .upto) (numberAt (a .nodes .now)) (headAt (a .scratch .now)) (nextAt (a .scratch .now)) (p .4) (a .k) (l .v) (l .inv) (omega arith) (λ q. c .before .if1 .left (c .before .before .number-of .ensures ∙ q)) _ refl .0
 
 returns-2 : tie.Need-returns-2 Inv-loop μ-loop
 returns-2 c =
-    let a = c .before .before .before .before .args in
-    let p = c .before .before .before .before .pre in
-    seek-end (a .n) (a .upto) (numberAt (a .nodes .now)) (headAt (a .n) (a .scratch .now)) (nextAt (a .n) (a .scratch .now)) (p .4) (a .k) _ (c .before .loop .inv) (omega arith)
+    let s = c .before .before .before .before .before .before .before in
+    let a = s .args in
+    let p = s .pre in
+    let l = c .before .before .before .before .loop in
+    seek-first (a .n) (a .upto) (numberAt (a .nodes .now)) (headAt (a .scratch .now)) (nextAt (a .scratch .now)) (p .4) (a .k) (l .v) (l .inv) (omega arith) (sym (c .before .number-of2 .ensures) ∙ c .if2 .taken)
+
+returns-3 : tie.Need-returns-3 Inv-loop μ-loop
+returns-3 c =
+    let s = c .before .before .before .before .before .before .before in
+    let a = s .args in
+    let p = s .pre in
+    let l = c .before .before .before .before .loop in
+    seek-none (a .n) (a .upto) (numberAt (a .nodes .now)) (headAt (a .scratch .now)) (nextAt (a .scratch .now)) (p .4) (a .k) (l .v) (l .inv) (omega arith) (λ q. c .if2 .left (c .before .number-of2 .ensures ∙ q))
 
 pub entry-of-spec : {M : Type 1} → statement M
 entry-of-spec =
@@ -146,23 +118,25 @@ entry-of-spec =
     (tie.spec
     Inv-loop
     μ-loop
-    rem-h
-    mul-e
-    add-e
-    mul-e-2
-    shared-slice-read-e
-    cast-e
+    (λ c. search needs)
+    mul-v
+    add-v
+    mul-v-2
+    shared-slice-read-v
+    (λ c. search needs)
     loop-holds
-    sub-v
-    mul-number-of
+    (λ c. search needs)
     shared-slice-copy-out-number-of
-    number-of-requires
+    (λ c κs. search needs)
     returns
-    mul-e-3
-    add-e-2
-    mul-e-4
-    shared-slice-read-e-2
-    cast-e-2
+    mul-v-3
+    add-v-2
+    (λ c. search needs)
+    shared-slice-read-v-2
+    cast-v-2
     loop-less
     loop-again
-    returns-2)
+    (λ c. search needs)
+    (λ c κs. search needs)
+    returns-2
+    returns-3)

@@ -10,7 +10,7 @@ use Rattle.paths.proofs.path.fill.Tie as tie
 
 abbrev Inv-loop : tie.InvT-loop
 Inv-loop scratch n goal count choices₀ places₀ v₀ i₀ choices places v i =
-    Filling n (labelAt n scratch) (fromAt n scratch) (byAt n scratch) goal count choices₀ places₀ choices places v i
+    Filling n (labelAt scratch) (fromAt scratch) (byAt scratch) goal count choices₀ places₀ choices places v i
     × (length choices ≡ length choices₀) × (length places ≡ length places₀)
 
 abbrev μ-loop : tie.MeasureT-loop
@@ -20,7 +20,7 @@ loop-holds : tie.Need-loop-holds Inv-loop μ-loop
 loop-holds c =
     let a = c .before .before .before .args in
     let p = c .before .before .before .pre in
-    (fill-start (a .n) (labelAt (a .n) (a .scratch .now)) (fromAt (a .n) (a .scratch .now)) (byAt (a .n) (a .scratch .now)) (p .2) (a .goal) (a .count) (a .choices .now) (a .places .now) (p .3) (p .4) (p .5) (p .6) (p .7), search needs, search needs)
+    (fill-start (a .n) (labelAt (a .scratch .now)) (fromAt (a .scratch .now)) (byAt (a .scratch .now)) (p .2) (a .goal) (a .count) (a .choices .now) (a .places .now) (p .3) (p .4) (p .5) (p .6) (p .7), search needs, search needs)
 
 cast-places : tie.Need-cast-places Inv-loop μ-loop
 cast-places c = search needs
@@ -41,7 +41,7 @@ cast-choices : tie.Need-cast-choices Inv-loop μ-loop
 cast-choices c =
     let a = c .before .before .before .before .before .before .args in
     let p = c .before .before .before .before .before .before .pre in
-    omega (arith, c .by-of .ensures, fill-byte (a .n) (labelAt (a .n) (a .scratch .now)) (fromAt (a .n) (a .scratch .now)) (byAt (a .n) (a .scratch .now)) (p .2) (a .goal) (a .count) (a .choices .now) (a .places .now) _ _ _ _ (c .before .before .loop .inv .0) (omega arith))
+    omega (arith, c .by-of .ensures, fill-byte (a .n) (labelAt (a .scratch .now)) (fromAt (a .scratch .now)) (byAt (a .scratch .now)) (p .2) (a .goal) (a .count) (a .choices .now) (a .places .now) _ _ _ _ (c .before .before .loop .inv .0) (omega arith))
 
 slice-write-choices : tie.Need-slice-write-choices Inv-loop μ-loop
 slice-write-choices c = search needs
@@ -56,7 +56,7 @@ loop-again : tie.Need-loop-again Inv-loop μ-loop
 loop-again c =
     let a = c .before .before .before .before .before .before .before .args in
     let p = c .before .before .before .before .before .before .before .pre in
-    (fill-turn (a .n) (labelAt (a .n) (a .scratch .now)) (fromAt (a .n) (a .scratch .now)) (byAt (a .n) (a .scratch .now)) (p .2) (a .goal) (a .count) (a .choices .now) (a .places .now) _ _ _ _ (c .before .before .before .loop .inv .0) (omega arith) _ _ (c .before .by-of .ensures) (c .from-of .ensures), simp length-set (omega arith), simp length-set (omega arith))
+    (fill-turn (a .n) (labelAt (a .scratch .now)) (fromAt (a .scratch .now)) (byAt (a .scratch .now)) (p .2) (a .goal) (a .count) (a .choices .now) (a .places .now) _ _ _ _ (c .before .before .before .loop .inv .0) (omega arith) _ _ (c .before .by-of .ensures) (c .from-of .ensures), simp length-set (omega arith), simp length-set (omega arith))
 
 cast-places-2 : tie.Need-cast-places-2 Inv-loop μ-loop
 cast-places-2 c = search needs
@@ -74,7 +74,7 @@ returns : tie.Need-returns Inv-loop μ-loop
 returns c =
     let a = c .before .before .before .before .before .args in
     let p = c .before .before .before .before .before .pre in
-    (fill-choices (a .n) (labelAt (a .n) (a .scratch .now)) (fromAt (a .n) (a .scratch .now)) (byAt (a .n) (a .scratch .now)) (p .2) (a .goal) (a .count) (a .choices .now) (a .places .now) _ _ _ _ (c .before .loop .inv .0) (omega arith), fill-places (a .n) (labelAt (a .n) (a .scratch .now)) (fromAt (a .n) (a .scratch .now)) (byAt (a .n) (a .scratch .now)) (p .2) (a .goal) (a .count) (a .choices .now) (a .places .now) _ _ _ _ (c .before .loop .inv .0) (omega arith))
+    (fill-choices (a .n) (labelAt (a .scratch .now)) (fromAt (a .scratch .now)) (byAt (a .scratch .now)) (p .2) (a .goal) (a .count) (a .choices .now) (a .places .now) _ _ _ _ (c .before .loop .inv .0) (omega arith), fill-places (a .n) (labelAt (a .scratch .now)) (fromAt (a .scratch .now)) (byAt (a .scratch .now)) (p .2) (a .goal) (a .count) (a .choices .now) (a .places .now) _ _ _ _ (c .before .loop .inv .0) (omega arith))
 
 pub fill-spec : {M : Type 1} → statement M
 fill-spec =

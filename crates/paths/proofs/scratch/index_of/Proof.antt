@@ -7,7 +7,7 @@ use Rattle.paths.proofs.scratch.index_of.Statement.{statement}
 use Rattle.paths.proofs.scratch.index_of.Tie as tie
 
 cast-result : tie.Need-cast-result
-cast-result c = omega (arith, c .shared-slice-known .given (5 * c .before .args .n + c .before .args .v))
+cast-result c = omega (arith, c .shared-slice-known .given (4 * c .before .args .v + 2))
 
 returns : tie.Need-returns
 unfolding indexAt
@@ -15,5 +15,4 @@ returns c = refl
 
 pub index-of-spec : {M : Type 1} → statement M
 index-of-spec =
-    tie.close
-    (tie.spec (λ c. search needs) (λ c. search needs) (λ c. search needs) (λ c. search needs) cast-result returns)
+    tie.close (tie.spec (λ c. search needs) (λ c. search needs) (λ c. search needs) (λ c. search needs) cast-result returns)

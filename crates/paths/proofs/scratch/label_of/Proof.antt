@@ -1,4 +1,4 @@
-use Prim.Native.Nat.{_+_}
+use Prim.Native.Nat.{_+_, _*_}
 use mathlib.Core.Path.{refl}
 use native.Mathlib.Omega.{arith}
 use Rattle.paths.specs.Scratch.{labelAt}
@@ -7,16 +7,18 @@ use Rattle.paths.proofs.scratch.label_of.Statement.{statement}
 use Rattle.paths.proofs.scratch.label_of.Tie as tie
 
 cast-sum : tie.Need-cast-sum
-cast-sum c = omega (arith, c .shared-slice-known .given (c .before .args .v))
+cast-sum c = omega (arith, c .shared-slice-known .given (4 * c .before .args .v))
 
 cast-steps : tie.Need-cast-steps
-cast-steps c = let a = c .before .before .args in omega (arith, c .shared-slice-known2 .given (a .n + a .v))
+cast-steps c = omega (arith, c .shared-slice-known2 .given (4 * c .before .before .args .v + 1))
 
 mul-result : tie.Need-mul-result
-mul-result c = let a = c .before .before .args in omega (arith, c .before .shared-slice-known .given (a .v))
+mul-result c = omega (arith, c .before .shared-slice-known .given (4 * c .before .before .args .v))
 
 add-result : tie.Need-add-result
-add-result c = let a = c .before .before .args in omega (arith, c .before .shared-slice-known .given (a .v), c .shared-slice-known2 .given (a .n + a .v))
+add-result c =
+    let v = c .before .before .args .v in
+    omega (arith, c .before .shared-slice-known .given (4 * v), c .shared-slice-known2 .given (4 * v + 1))
 
 returns : tie.Need-returns
 unfolding labelAt
@@ -28,7 +30,9 @@ label-of-spec =
     (tie.spec
     (λ c. search needs)
     (λ c. search needs)
+    (λ c. search needs)
     cast-sum
+    (λ c. search needs)
     (λ c. search needs)
     (λ c. search needs)
     (λ c. search needs)

@@ -1,61 +1,47 @@
-use native.Mathlib.Omega.{arith}
+use Prim.Native.Nat.{_+_, _*_}
 use mathlib.Core.Path.{refl}
+use native.Mathlib.Omega.{arith}
 use lib.ListN.{length-set}
-use Rattle.paths.specs.Scratch.{stood}
+use Rattle.paths.specs.Scratch.{placed, indexed, stood}
 use borrow.Author.Needs.{needs}
 use Rattle.paths.proofs.scratch.stand.Statement.{statement}
 use Rattle.paths.proofs.scratch.stand.Tie as tie
 
-cast-scratch : tie.Need-cast-scratch
-cast-scratch c = search needs
-
 mul-scratch : tie.Need-mul-scratch
-mul-scratch c = search needs
+mul-scratch c = omega (arith, c .slice-known .given (4 * c .before .args .i + 2))
 
 add-scratch : tie.Need-add-scratch
-add-scratch c = search needs
-
-mul-scratch-2 : tie.Need-mul-scratch-2
-mul-scratch-2 c = search needs
-
-slice-write-scratch : tie.Need-slice-write-scratch
-slice-write-scratch c = search needs
-
-cast-scratch-2 : tie.Need-cast-scratch-2
-cast-scratch-2 c = search needs
-
-mul-scratch-3 : tie.Need-mul-scratch-3
-mul-scratch-3 c = search needs
-
-add-scratch-2 : tie.Need-add-scratch-2
-add-scratch-2 c = search needs
-
-mul-scratch-4 : tie.Need-mul-scratch-4
-mul-scratch-4 c = search needs
-
-slice-write-scratch-2 : tie.Need-slice-write-scratch-2
-slice-write-scratch-2 c = simp length-set (omega arith)
-
-same-length : tie.Need-same-length
-same-length c = search needs
+add-scratch c = omega (arith, c .slice-known .given (4 * c .before .args .i + 2))
 
 returns : tie.Need-returns
-unfolding stood
+unfolding stood placed indexed
 returns c = refl
 
 pub stand-spec : {M : Type 1} → statement M
 stand-spec =
     tie.close
     (tie.spec
-    cast-scratch
+    (λ c. search needs)
+    (λ c. search needs)
+    (λ c. search needs)
+    (λ c. search needs)
     mul-scratch
+    (λ c. search needs)
     add-scratch
-    mul-scratch-2
-    slice-write-scratch
-    cast-scratch-2
-    mul-scratch-3
-    add-scratch-2
-    mul-scratch-4
-    slice-write-scratch-2
-    same-length
+    (λ c. search needs)
+    (λ c. search needs)
+    (λ c. search needs)
+    (λ c. search needs)
+    (λ c. search needs)
+    (λ c. search needs)
+    (λ c. search needs)
+    (λ c. simp length-set (omega arith))
+    (λ c. search needs)
+    (λ c. search needs)
+    (λ c. search needs)
+    (λ c. search needs)
+    (λ c. search needs)
+    (λ c. search needs)
+    (λ c. simp length-set (omega arith))
+    (λ c. search needs)
     returns)

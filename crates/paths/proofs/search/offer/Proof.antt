@@ -16,7 +16,9 @@ returns : tie.Need-returns
 returns c = passed (omega (arith, c .before .label-of .ensures, c .if1 .taken)) refl refl
 
 put-label-requires : tie.Need-put-label-requires
-put-label-requires c κs = search needs
+put-label-requires c κs =
+    let p = c .before .before .before .before .before .pre in
+    (p .0, p .2, p .3, p .4, p .5 (omega (arith, c .before .before .label-of .ensures, c .before .if1 .left)))
 
 push-requires : tie.Need-push-requires
 push-requires c κs = search needs

@@ -1,5 +1,3 @@
-use Prim.Native.Nat.{_*_}
-use lib.ListN.{drop}
 use mathlib.Core.Path.{refl}
 use Rattle.paths.proofs.RelaxLaws.{still-entered}
 use borrow.Author.Needs.{needs}
@@ -9,7 +7,7 @@ use mathlib.Core.Path.{_≡_, sym, _∙_}
 use lib.ListN.{length}
 use Rattle.cells.specs.CellOf.{nodesOf}
 use Rattle.walks.specs.WalkParts.{lent}
-use Rattle.paths.specs.Scratch.{labelAt}
+use Rattle.paths.specs.Scratch.{labelAt, chainAt}
 use Rattle.paths.specs.Search.{Searching, work}
 use Rattle.paths.proofs.RelaxLaws.{all-relaxed}
 use Rattle.paths.proofs.search.relax.Statement.{statement}
@@ -17,9 +15,9 @@ use Rattle.paths.proofs.search.relax.Tie as tie
 
 abbrev Inv-loop : tie.InvT-loop
 Inv-loop ynd nodes links scratch₀ start size u n key count waiting₀ b₀ scratch waiting b =
-    Searching (nodesOf (lent ynd nodes links)) start (ynd .«node_count») scratch waiting u b × (labelAt (ynd .«node_count») scratch u ≡ key)
+    Searching (nodesOf (lent ynd nodes links)) start (ynd .«node_count») scratch waiting u b × (labelAt scratch u ≡ key)
     × (work (ynd .«node_count») scratch waiting ≤ work (ynd .«node_count») scratch₀ size) × (b ≤ count) × (length scratch ≡ length scratch₀)
-    × (drop (6 * ynd .«node_count») scratch ≡ drop (6 * ynd .«node_count») scratch₀)
+    × (chainAt scratch ≡ chainAt scratch₀)
 
 abbrev μ-loop : tie.MeasureT-loop
 μ-loop ynd nodes links scratch₀ start size u n key count waiting₀ b₀ scratch waiting b = count - b

@@ -1,6 +1,6 @@
 use native.Mathlib.Omega.{arith}
 use mathlib.Core.Path.{sym, _∙_}
-use Rattle.paths.proofs.RelaxLaws.{linked, one-taken, one-stopped}
+use Rattle.paths.proofs.RelaxLaws.{linked, link-fits, one-taken, one-stopped}
 use borrow.Author.Needs.{needs}
 use Rattle.paths.proofs.search.relax_one.Statement.{statement}
 use Rattle.paths.proofs.search.relax_one.Tie as tie
@@ -40,7 +40,7 @@ offer-requires c κs =
     let a = c .before .before .before .before .before .before .before .before .args in
     let p = c .before .before .before .before .before .before .before .before .pre in
     let x = linked (a .ynd) (a .nodes .now) (a .links .now) (p .0) (a .start) (a .scratch .now) (a .size) (a .u) (a .b) (a .key) (p .1) (p .2) (p .3) (p .4) _ _ (sym (c .before .before .x .given .1) ∙ c .before .before .before .before .follow .ensures) in
-    (p .1 .kept, p .1 .fits, x .inside, p .2, p .5)
+    (p .1 .kept, p .1 .fits, x .inside, p .2, p .5, link-fits (a .ynd) (a .nodes .now) (a .links .now) (p .0) (a .start) (a .scratch .now) (a .size) (a .u) (a .b) (a .key) (p .1) (p .2) (p .3) (p .4) _ _ (sym (c .before .before .x .given .1) ∙ c .before .before .before .before .follow .ensures))
 
 enum-told : tie.Need-enum-told
 enum-told c = search needs

@@ -14,19 +14,19 @@ use Rattle.paths.proofs.search.search.Tie as tie
 abbrev Inv-loop : tie.InvT-loop
 Inv-loop ynd nodes links scratch₀ start n size₀ scratch size =
     Searching (nodesOf (lent ynd nodes links)) start (ynd .«node_count») scratch size (ynd .«node_count») 0 × (length scratch ≡ length scratch₀)
-    × AllEntered nodes (ynd .«node_count») scratch × (8 * ynd .«node_count» ≤ length scratch)
+    × AllEntered nodes (ynd .«node_count») scratch × (4 * ynd .«node_count» ≤ length scratch)
 
 abbrev μ-loop : tie.MeasureT-loop
 μ-loop ynd nodes links scratch₀ start n size₀ scratch size = work (ynd .«node_count») scratch size
 
 enter-all-requires : tie.Need-enter-all-requires Inv-loop μ-loop
-enter-all-requires c κs = let p = c .before .before .before .pre in (p .0 .few, p .2, p .0 .nodes-fit)
+enter-all-requires c κs = let p = c .before .before .before .pre in (p .0 .few, p .2, p .0 .nodes-fit, omega (arith, p .1))
 
 clear-requires : tie.Need-clear-requires Inv-loop μ-loop
 clear-requires c κs = let p = c .before .before .before .before .before .before .before .pre in (p .0 .few, omega (arith, p .2, c .before .before .before .enter-all .kept))
 
 offer-requires : tie.Need-offer-requires Inv-loop μ-loop
-offer-requires c κs = let p = c .before .before .before .before .before .before .before .before .before .before .before .pre in (c .before .before .before .clear .ensures .0 .kept, omega arith, p .1, p .1, omega arith)
+offer-requires c κs = let p = c .before .before .before .before .before .before .before .before .before .before .before .pre in (c .before .before .before .clear .ensures .0 .kept, omega arith, p .1, p .1, omega arith, λ l. record { sum = omega arith; steps = omega arith })
 
 loop-holds : tie.Need-loop-holds Inv-loop μ-loop
 loop-holds c =
@@ -52,7 +52,7 @@ relax-requires c κs =
       q .inside,
       search-label (a .ynd) (a .nodes .now) (a .links .now) (p .0) (a .start) _ _ _ _ (i .0) (omega arith) q,
       omega (arith, i .3, c .before .before .before .pop .kept),
-      still-entered (a .nodes .now) (a .ynd .«node_count») (c .before .before .before .before .before .before .loop .scratch) _ (q .same .same-upper) (i .2),
+      still-entered (a .nodes .now) (a .ynd .«node_count») (c .before .before .before .before .before .before .loop .scratch) _ (q .same .same-chains) (i .2),
     )
 
 loop-less : tie.Need-loop-less Inv-loop μ-loop
@@ -68,7 +68,7 @@ loop-again c =
     let i = c .before .before .before .before .before .before .before .before .before .loop .inv in
     let q = c .before .before .before .before .before .before .pop .ensures in
     let r = c .before .before .relax .ensures in
-    (r .0, search needs, still-entered (a .nodes .now) (a .ynd .«node_count») (c .before .before .before .before .before .before .before .before .before .loop .scratch) _ (r .2 ∙ q .same .same-upper) (i .2), omega (arith, i .3, c .before .before .before .before .before .before .pop .kept, c .before .before .relax .kept))
+    (r .0, search needs, still-entered (a .nodes .now) (a .ynd .«node_count») (c .before .before .before .before .before .before .before .before .before .loop .scratch) _ (r .2 ∙ q .same .same-chains) (i .2), omega (arith, i .3, c .before .before .before .before .before .before .pop .kept, c .before .before .relax .kept))
 
 returns : tie.Need-returns Inv-loop μ-loop
 returns c =
