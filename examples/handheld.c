@@ -1,5 +1,5 @@
-/* Reads a yard from a file, checks it, lists near nodes, walks, follows the same way as a round file, renumbers, walks
- * again, writes it, and says so in plain text.
+/* Reads a yard from a file, checks it, lists near nodes, finds a shortest path, walks, follows the same way as a round
+ * file, renumbers, walks again, writes it, and says so in plain text.
  *
  *     handheld FILE [START [CHOICE ..]]
  *
@@ -10,7 +10,7 @@
 
 #include "bofrashem.h"
 
-enum { CHOICES_MOST = 256, STEPS = 8, REACH = 80 };
+enum { CHOICES_MOST = 256, STEPS = 8, REACH = 80, SHOWN = 12 };
 
 /* A cell with the memory that is lent for it. All of it is ours: the library keeps nothing. */
 typedef struct {
@@ -40,12 +40,13 @@ static const char *const REFUSALS[] = {
     "no such place",
     "the cell is at a limit",
     "no round file of version 1",
-    "a round file of another length than its count says"
+    "a round file of another length than its count says",
+    "no walk joins the two places"
 };
 
 static int refused(const char *what, uint32_t number, size_t place)
 {
-    printf("%s: refused %u %zu, %s\n", what, (unsigned)number, place, number < 17 ? REFUSALS[number] : "?");
+    printf("%s: refused %u %zu, %s\n", what, (unsigned)number, place, number < 18 ? REFUSALS[number] : "?");
     return EXIT_FAILURE;
 }
 
@@ -193,6 +194,32 @@ static uint32_t round_file(const yard *y, size_t start, const uint8_t *choices, 
     return refusal;
 }
 
+/* The shortest path from the node at a place to the last node. */
+static uint32_t shortest_path(const yard *y, size_t from, size_t *place)
+{
+    size_t n = y->ynd.node_count, count = 0;
+    uint32_t distance = 0;
+    if (from >= n)
+        return 0;
+    uint32_t *scratch = list(YND_PATH_SCRATCH * n, sizeof *scratch), *places = list(n, sizeof *places);
+    uint8_t *choices = list(n, 1);
+    uint32_t number = ynd_shortest_path(&y->ynd, y->nodes, y->room.nodes, y->links, y->room.links, from, n - 1, scratch,
+        YND_PATH_SCRATCH * n, choices, n, places, n, &distance, &count, place);
+    if (number == YND_UNREACHABLE) {
+        printf("no path from place %zu to place %zu\n", from, n - 1);
+        number = 0;
+    } else if (!number) {
+        printf("shortest path from place %zu to place %zu: %u m, %zu links by", from, n - 1, (unsigned)distance, count);
+        for (size_t i = 0; i <= count && i < SHOWN; i++)
+            printf(" %u", (unsigned)places[i]);
+        printf(count < SHOWN ? "\n" : " ..\n");
+    }
+    free(scratch);
+    free(places);
+    free(choices);
+    return number;
+}
+
 /* Renumbers and walks again: the same way, wherever its nodes now stand. */
 static int renumber_and_walk(yard *y, size_t start, const uint8_t *choices, size_t n, uint32_t *visited)
 {
@@ -243,6 +270,9 @@ static int use(yard *y, size_t start, const uint8_t *given, size_t n)
     number = near_nodes(y, start, &place);
     if (number)
         return refused("near nodes", number, place);
+    number = shortest_path(y, start, &place);
+    if (number)
+        return refused("shortest path", number, place);
     for (size_t i = 0; i < n; i++)
         choices[i] = given[i];
     if (n == 0)

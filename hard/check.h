@@ -14,7 +14,7 @@ enum what {
     COUNT, READ, SOUND, WRITE, WRITE_READ, WALK, RENUMBER, NODE, JUNCTION_OF, AREA, SHOWN_NODE, SHOWN_JUNCTION, SHOWN_VALUES, SHOWN_LINK,
     ADD_NODE, ADD_LINK, ADD_REF, ADD_JUNCTION, PUT_NODE, SET_POSITION, PUT_LINK, PUT_REF, PUT_JUNCTION, PUT_HEIGHT, GET_NODE, GET_LINK, GET_REF,
     GET_JUNCTION, GET_HEIGHT, WITHIN, NEAREST, PUT_LINKS, PUT_HEIGHTMAP,
-    TRUNCATE, READ_ROUND, WRITE_ROUND, FOLLOW, WHATS
+    TRUNCATE, READ_ROUND, WRITE_ROUND, FOLLOW, SHORTEST_PATH, WHATS
 };
 
 uint8_t byte(script *s);
@@ -32,6 +32,7 @@ void check_shown(const lent *m, script *s);
 void check_lookups(const lent *m, script *s);
 void check_reach(const lent *m, script *s);
 void check_follow(const lent *m, script *s, const uint8_t *choices, size_t n);
+void check_path(const lent *m, script *s);
 void check_renumber(lent *m, script *s);
 void check_write(const lent *m, script *s);
 /* as_read: the cell is as reading left it, so that an accepted call leaves it. */

@@ -137,6 +137,7 @@ static void use_all(lent *m, script *s, bool as_read)
     check_lookups(m, s);
     check_reach(m, s);
     check_follow(m, s, choices, n);
+    check_path(m, s);
     check_sound(m);
     if (as_read)
         check_demand_3(m, s, start, choices, n);

@@ -40,7 +40,7 @@ extern "C" {
  * | 4 | a node's link start, or start plus count, over the list's length | the node |
  * | 5 | a junction's heightmap start, or start plus width × height, over the bytes' length | the junction |
  * | 6 | more than 65,536 nodes or 4,096 junctions | 0 nodes, 1 junctions |
- * | 7 | lent memory too short | 0 to 4 as for 3, 5 section, 6 scratch, 7 new places, 8 visited, listed, round |
+ * | 7 | lent memory too short | 0 to 4 as for 3, 5 section, 6 scratch, 7 new places, 8 list or round, 9 path scratch |
  * | 8 | over 31 links on writing | the node |
  * | 9 | links before this node, which has links, over 65,535 on writing | the node |
  * | 10 | heightmap bytes before a junction over 65,535 on writing | the junction |
@@ -50,6 +50,7 @@ extern "C" {
  * | 14 | the cell is at or over a limit: 65,536 nodes, 4,096 junctions, 255 links of a node | 0 |
  * | 15 | a round file's first five bytes aren't the mark and version 1 | 0 |
  * | 16 | a round file under 9 bytes, or not 9 plus its count; over 65,535 choices on writing | 0 |
+ * | 17 | no walk joins the two places | 0 |
  */
 enum ynd_refusal {
     YND_ACCEPTED = 0,
@@ -68,11 +69,12 @@ enum ynd_refusal {
     YND_NO_SUCH_PLACE = 13,
     YND_AT_LIMIT = 14,
     YND_NO_ROUND_FILE = 15,
-    YND_BAD_ROUND_LENGTH = 16
+    YND_BAD_ROUND_LENGTH = 16,
+    YND_UNREACHABLE = 17
 };
 
-/* The places of the refusals 3 (0 to 4) and 7 (0 to 8). YND_VISITED is any list of places that a call
- * fills, and the memory of a round's choices or file. */
+/* The places of the refusals 3 (0 to 4) and 7 (0 to 9). YND_VISITED is any list of places that a call
+ * fills, the choices of a shortest path, and the memory of a round's choices or file. */
 enum ynd_list {
     YND_NODES = 0,
     YND_LINKS = 1,
@@ -82,7 +84,8 @@ enum ynd_list {
     YND_SECTION = 5,
     YND_SCRATCH_LIST = 6,
     YND_NEW_PLACES = 7,
-    YND_VISITED = 8
+    YND_VISITED = 8,
+    YND_PATH_SCRATCH_LIST = 9
 };
 
 /* Sizes and limits. */
@@ -101,6 +104,7 @@ enum {
     YND_ROUND_BYTES = 9,            /* bytes of a round file before its choices */
     YND_NODE_LINKS_WRITTEN = 31,    /* links of a node that is written */
     YND_SCRATCH = 65536,            /* entries of the scratch that ynd_renumber and ynd_sound are lent */
+    YND_PATH_SCRATCH = 4,           /* entries for each node of the scratch that ynd_shortest_path is lent */
     YND_GRID = 32,                  /* grid cells along x and y */
     YND_FILE_NAME_BYTES = 13,
     YND_ROOT_WORDS = 28
@@ -383,6 +387,22 @@ uint32_t ynd_follow_round(
     const ynd_cell *ynd, const ynd_node_entry *nodes, size_t nodes_len,
     const ynd_link_entry *links, size_t links_len, uint16_t start, const uint8_t *choices, size_t choices_len,
     uint32_t *visited, size_t visited_len, ynd_walk_end *end, size_t *count, size_t *place);
+
+/* ---- Shortest paths ---- */
+
+/* A walk from the node at `from` to the node at `to` by the cell's own links whose lengths add up to least: every other
+ * walk between them has a sum at least as large. `distance` gets the sum in metres, `count` the number of links, the
+ * first `count` bytes of `choices` the choices, the first `count + 1` entries of `places` the places, none of them
+ * twice; later entries stay. ynd_walk by these choices visits these places and ends *done*. From a place to itself:
+ * no choices, distance 0. Refused, in this order: 13 no such place, either of them; 14 a struct over a limit; 7 at 0
+ * and 1 where a list is shorter than its count; 7 at 9 where the scratch has under YND_PATH_SCRATCH * node_count
+ * entries; 17 where no walk joins the two places; 7 at 8 where `choices` or `places` has under node_count entries. From
+ * 17 on, and where the call is accepted, the scratch may hold anything; all else that was lent stays on a refusal. */
+uint32_t ynd_shortest_path(
+    const ynd_cell *ynd, const ynd_node_entry *nodes, size_t nodes_len,
+    const ynd_link_entry *links, size_t links_len, size_t from, size_t to, uint32_t *scratch, size_t scratch_len,
+    uint8_t *choices, size_t choices_len, uint32_t *places, size_t places_len, uint32_t *distance, size_t *count,
+    size_t *place);
 
 /* ---- Entries added ---- */
 

@@ -78,6 +78,11 @@ extern "C" {
         ynd: &Words, nodes: *const Node, nodes_len: usize, x: i16, y: i16, found: &mut bool, at: &mut usize,
         square: &mut u64, place: &mut usize,
     ) -> u32;
+    pub(crate) fn ynd_shortest_path(
+        ynd: &Words, nodes: *const Node, nodes_len: usize, links: *const Link, links_len: usize, from: usize, to: usize,
+        scratch: *mut u32, scratch_len: usize, choices: *mut u8, choices_len: usize, places: *mut u32, places_len: usize,
+        distance: &mut u32, count: &mut usize, place: &mut usize,
+    ) -> u32;
     pub(crate) fn ynd_junction_of(
         ynd: &Words, nodes: *const Node, nodes_len: usize, refs: *const Ref, refs_len: usize, area_id: u16, node_id: u16, found: &mut bool,
         at: &mut usize, place: &mut usize,

@@ -18,7 +18,7 @@ pub enum Refusal {
     /// 6: more than 65,536 nodes (0) or 4,096 junctions (1).
     TooMany(usize),
     /// 7: lent memory too short (0 to 4 as for 3, 5 section, 6 scratch, 7 new places, 8 visited,
-    /// listed, round). A cell that lends its own memory does not meet it.
+    /// listed, round, path, 9 path scratch). A cell that lends its own memory does not meet it.
     LentTooShort(usize),
     /// 8: over 31 links on writing.
     OverThirtyOneLinks(usize),
@@ -38,6 +38,8 @@ pub enum Refusal {
     NoRoundFile,
     /// 16: a round file under 9 bytes, or not 9 plus its count; over 65,535 choices on writing.
     BadRoundLength,
+    /// 17: no walk joins the two places.
+    Unreachable,
 }
 
 impl Refusal {
@@ -65,6 +67,7 @@ impl Refusal {
             Refusal::AtLimit => (14, 0),
             Refusal::NoRoundFile => (15, 0),
             Refusal::BadRoundLength => (16, 0),
+            Refusal::Unreachable => (17, 0),
         }
     }
 
@@ -86,6 +89,7 @@ impl Refusal {
             Refusal::AtLimit => "the cell is at a limit: 65,536 nodes, 4,096 junctions, 255 links of a node",
             Refusal::NoRoundFile => "a round file's first five bytes aren't the mark and version 1",
             Refusal::BadRoundLength => "a round file under 9 bytes, or not 9 plus its count; over 65,535 choices on writing",
+            Refusal::Unreachable => "no walk joins the two places",
         }
     }
 
@@ -107,7 +111,8 @@ impl Refusal {
             14 => Refusal::AtLimit,
             15 => Refusal::NoRoundFile,
             16 => Refusal::BadRoundLength,
-            _ => unreachable!("the documents have the numbers 1 to 16, not {number}"),
+            17 => Refusal::Unreachable,
+            _ => unreachable!("the documents have the numbers 1 to 17, not {number}"),
         }
     }
 }

@@ -199,3 +199,34 @@ fn cells_go_between_threads() {
     let walks: Vec<_> = (0..4).map(|i| { let hall = hall.clone(); std::thread::spawn(move || hall.walk(i, &[0; 200]).unwrap().visited.len()) }).collect();
     for walk in walks { assert_eq!(walk.join().unwrap(), 201); }
 }
+
+#[test]
+fn shortest_paths_are_walked() {
+    for name in ["dock", "hall"] {
+        let cell = read(name);
+        let n = cell.nodes().len();
+        for (from, to) in (0..n).flat_map(|p| (0..n).map(move |q| (p, q))) {
+            let path = match cell.shortest_path(from, to) {
+                Ok(path) => path,
+                Err(e) => { assert_eq!((e.number(), e.place(), from == to), (17, 0, false)); continue }
+            };
+            let walk = cell.walk(from, &path.choices).unwrap();
+            assert_eq!((walk.end, walk.visited.last()), (End::Done, Some(&(to as u32))));
+            assert_eq!(walk.visited, path.places);
+            assert_eq!(from == to, path.choices.is_empty());
+        }
+        assert_eq!(cell.shortest_path(0, n), Err(Refusal::NoSuchPlace));
+    }
+}
+
+#[test]
+fn a_longer_way_round_with_fewer_metres() {
+    let mut cell = Cell::new();
+    for _ in 0..3 { cell.add_node(489, [0.0; 3]).unwrap(); }
+    for (from, to, length) in [(0, 2, 90), (0, 1, 30), (1, 2, 40)] {
+        cell.add_link(from, Link { area_id: 489, node_id: to, length, ..Link::default() }).unwrap();
+    }
+    let path = cell.shortest_path(0, 2).unwrap();
+    assert_eq!((path.distance, path.choices, path.places), (70, vec![1, 0], vec![0, 1, 2]));
+    assert_eq!(cell.shortest_path(2, 0), Err(Refusal::Unreachable));
+}

@@ -4,4 +4,5 @@ pub mod Cells
 pub mod Found
 pub mod Near
 pub mod Parts
+pub mod Paths
 pub mod RoundTold

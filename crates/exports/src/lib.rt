@@ -6,6 +6,7 @@
 mod answers;
 pub mod edits;
 pub mod entries;
+pub mod finding;
 pub mod grid;
 pub mod link_access;
 pub mod lookups;
