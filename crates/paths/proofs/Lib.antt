@@ -14,3 +14,4 @@ pub mod WiringBack
 pub mod WiringLaws
 pub mod DistanceLaws
 pub mod AnswerLaws
+pub mod Worked

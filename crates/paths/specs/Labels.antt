@@ -1,5 +1,5 @@
--- What the search goes by. A label is one number: the sum of a walk's lengths times 2 ^ 32, and the number of its links. No public
--- function's contract cites these.
+-- What the search goes by. A label is one number: the sum of a walk's lengths times 2 ^ 32, and the number of its
+-- links. No public function's contract cites these.
 use Prim.Native.Nat.{ℕ, zero, suc, _+_, _*_, _/_, _%_, _<_, _≤_}
 use mathlib.Core.Path.{_≡_}
 use mathlib.Core.List.{List, [], _∷_, _++_}

@@ -22,8 +22,9 @@ use Rattle.paths.specs.declared.path.Shortest.the-variants.{Path, Refuse
 abbrev pub perNode : ℕ
 perNode = 4
 
--- What is asked before the search, of a cell in lists of so many nodes and links, in this order: 13 for either place; 14 a
--- struct over a limit; 7 at 0 and 1 a list shorter than its count; 7 at 9 a scratch of fewer entries than stated.
+-- What is asked before the search, of a cell in lists of so many nodes and links, in this order: 13 for either place;
+-- 14 a struct over a limit; 7 at 0 and 1 a list shorter than its count; 7 at 9 a scratch of fewer entries than
+-- stated.
 unfoldable pub pathCauses : Ynd → ℕ → ℕ → ℕ → ℕ → ℕ → List Cause
 pathCauses y nodes links p q room =
     when (leb (y .«node_count») p) 13 0 ∷ when (leb (y .«node_count») q) 13 0 ∷ when (overLimit y) 14 0
@@ -40,13 +41,15 @@ pub data Searched (ns : List Node) (n p q : ℕ) (choices places : List ℕ) : S
   -- 7 at 8: a walk joins them, and choices or places have fewer entries than the cell has nodes
   short : (bs : List ℕ) → Leads ns p q bs → (length choices < n) ⊎ (length places < n)
       → Searched ns n p q choices places (Refused 7 8) choices places
-  -- A shortest path: its sum and its number of links, fewer than there are nodes. Its choices and places are the first
-  -- entries, later ones stay.
+  -- A shortest path: its sum and its number of links, fewer than there are nodes. Its choices and places are the
+  -- first entries, later ones stay.
   path : n ≤ length choices → n ≤ length places → (bs : List ℕ) → length bs < n → ShortestPath ns p q bs
-      → Searched ns n p q choices places (Path (distance ns bs p) (length bs)) (over bs choices) (over (route ns bs p .places) places)
+      → Searched ns n p q choices places (Path (distance ns bs p) (length bs))
+          (over bs choices) (over (route ns bs p .places) places)
 
 -- What the call answers, and the three lists after it.
-pub data PathLeft (m : Memory) (p q : ℕ) (scratch choices places : List ℕ) : Shortest → List ℕ → List ℕ → List ℕ → Type 0 where
+pub data PathLeft (m : Memory) (p q : ℕ) (scratch choices places : List ℕ) : Shortest → List ℕ → List ℕ → List ℕ
+    → Type 0 where
   -- refused before the search: nothing is changed
   refused : {number place : ℕ} → asked m p q scratch ≡ answer.Refused number place
       → PathLeft m p q scratch choices places (Refused number place) scratch choices places

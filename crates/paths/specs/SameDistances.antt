@@ -1,4 +1,5 @@
--- T-06: a sound cell gives the same sum for the same two nodes after any list of renumberings and write-then-read calls.
+-- T-06: a sound cell gives the same sum for the same two nodes after any list of renumberings and write-then-read
+-- calls.
 use Prim.Native.Nat.{ℕ, _<_}
 use mathlib.Core.Path.{_≡_}
 use mathlib.Core.Bool.{Bool, true, _&&_}
@@ -13,7 +14,8 @@ use Rattle.walks.specs.Sound.{sound}
 use Rattle.walks.specs.Calls.{Call, run, moved}
 use Rattle.paths.specs.ShortestPath.{distance, Unreachable, ShortestPath}
 
--- Walks between p and q in the nodes `first`, and between the same two nodes, now at f p and f q, in the nodes `later`.
+-- Walks between p and q in the nodes `first`, and between the same two nodes, now at f p and f q, in the nodes
+-- `later`.
 pub record SameDistance (first later : List Node) (f : ℕ → ℕ) (p q : ℕ) : Type 0 where
   -- joined by no walk then: by none now; and the other way round
   pub still-unreachable : Unreachable first p q → Unreachable later (f p) (f q)

@@ -1,5 +1,5 @@
--- What the search keeps in the lent scratch: four entries for each place, two halves or a number and a byte in each; Index has
--- the fourth one. No public function's contract cites these.
+-- What the search keeps in the lent scratch: four entries for each place, two halves or a number and a byte in each;
+-- Index has the fourth one. No public function's contract cites these.
 use Prim.Native.Nat.{ℕ, suc, _+_, _*_, _/_, _%_, _-_, _<_, _≤_}
 use mathlib.Core.Path.{_≡_}
 use mathlib.Core.List.{List}

@@ -54,14 +54,16 @@ pub data Offered (n size v k u b new : ℕ) (s t : List ℕ) : Type 0 where
   passed : labelAt s v ≤ k → new ≡ size → t ≡ s → Offered n size v k u b new s t
   taken : k < labelAt s v → Taken n size v k u b new s t → Offered n size v k u b new s t
 
--- The search from `start` with `size` places waiting. Of a place that does not wait no link improves a label, but for u's links from the
--- i-th on; where u is no place, for none. Nothing is said of the order in which places are taken up.
+-- The search from `start` with `size` places waiting. Of a place that does not wait no link improves a label, but for
+-- u's links from the i-th on; where u is no place, for none. Nothing is said of the order in which places are taken
+-- up.
 pub record Searching (ns : List Node) (start n : ℕ) (s : List ℕ) (size u i : ℕ) : Type 0 where
   pub kept : Kept n s
   pub fits : size ≤ n
   pub labels : Labelled ns start n (labelAt s) (fromAt s) (byAt s)
   pub waiting : (x : ℕ) → x < n → indexAt s x < size → labelAt s x < unlabelled
-  pub settled : (x b v : ℕ) → x < n → size ≤ indexAt s x → (x ≡ u → b < i) → next ns x b ≡ to v → labelAt s v ≤ labelAt s x + weight ns x b
+  pub settled : (x b v : ℕ) → x < n → size ≤ indexAt s x → (x ≡ u → b < i) → next ns x b ≡ to v
+      → labelAt s v ≤ labelAt s x + weight ns x b
 
 -- what is left to do: it falls with each place that is taken up
 unfoldable pub work : ℕ → List ℕ → ℕ → ℕ

@@ -56,7 +56,8 @@ fn link(scratch: &mut [u32], n: usize, v: usize, h: usize)
 fn enter(nodes: &[NodeWords], scratch: &mut [u32], n: usize, i: usize)
     requires { ⌜ (n ≤ 65536) × (4 * n ≤ length (now scratch)) × (n ≤ length (now nodes)) × (i < n)
         × Index n i (numberAt (now nodes)) (headAt (now scratch)) (nextAt (now scratch)) ⌝ }
-    ensures { λ _. ⌜ Index n (i + 1) (numberAt (now (nodes .entry))) (headAt (now (scratch .exit))) (nextAt (now (scratch .exit))) ⌝ }
+    ensures { λ _. ⌜ Index n (i + 1) (numberAt (now (nodes .entry))) (headAt (now (scratch .exit)))
+        (nextAt (now (scratch .exit))) ⌝ }
 {
     let k = number_of(nodes[i]);
     let e = entry_of(nodes, scratch, n, i, k);
@@ -80,7 +81,8 @@ pub(crate) fn enter_all(nodes: &[NodeWords], scratch: &mut [u32], n: usize)
 
 // The first node that has the number.
 fn first_in(nodes: &[NodeWords], scratch: &[u32], n: usize, k: u16) -> Place
-    requires { ⌜ (n ≤ 65536) × (4 * n ≤ length (now scratch)) × (n ≤ length (now nodes)) × (0 < n) × AllEntered (now nodes) n (now scratch) ⌝ }
+    requires { ⌜ (n ≤ 65536) × (4 * n ≤ length (now scratch)) × (n ≤ length (now nodes)) × (0 < n)
+        × AllEntered (now nodes) n (now scratch) ⌝ }
     ensures { λ r. ⌜ r ≡ firstIn n (now (nodes .entry)) k ⌝ }
 {
     let e = entry_of(nodes, scratch, n, n, k);
@@ -92,7 +94,8 @@ fn first_in(nodes: &[NodeWords], scratch: &[u32], n: usize, k: u16) -> Place
 
 // What `node` finds, without a search through all nodes.
 pub(crate) fn node_in(nodes: &[NodeWords], scratch: &[u32], n: usize, k: u16) -> Place
-    requires { ⌜ (n ≤ 65536) × (4 * n ≤ length (now scratch)) × (n ≤ length (now nodes)) × (0 < n) × AllEntered (now nodes) n (now scratch) ⌝ }
+    requires { ⌜ (n ≤ 65536) × (4 * n ≤ length (now scratch)) × (n ≤ length (now nodes)) × (0 < n)
+        × AllEntered (now nodes) n (now scratch) ⌝ }
     ensures { λ r. ⌜ r ≡ findIn n (now (nodes .entry)) k ⌝ }
 {
     let p = k as usize;

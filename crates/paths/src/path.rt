@@ -36,10 +36,13 @@ fn fill(
     choices: &mut [u8],
     places: &mut [u32],
 )
-    requires { ⌜ (n ≤ 65536) × (4 * n ≤ length (now scratch)) × Back n (labelAt (now scratch)) (fromAt (now scratch)) (byAt (now scratch))
+    requires { ⌜ (n ≤ 65536) × (4 * n ≤ length (now scratch))
+        × Back n (labelAt (now scratch)) (fromAt (now scratch)) (byAt (now scratch))
         × (goal < n) × (labelAt (now scratch) goal < unlabelled) × (labelAt (now scratch) goal % 4294967296 ≡ count)
         × (count ≤ length (now choices)) × (count < length (now places)) ⌝ }
-    ensures { λ _. ⌜ (now (choices .exit) ≡ over (choicesTo (fromAt (now (scratch .entry))) (byAt (now (scratch .entry))) count goal) (now (choices .entry)))
+    ensures { λ _. ⌜ (now (choices .exit)
+        ≡ over (choicesTo (fromAt (now (scratch .entry))) (byAt (now (scratch .entry))) count goal)
+        (now (choices .entry)))
         × (now (places .exit) ≡ over (placesTo (fromAt (now (scratch .entry))) count goal) (now (places .entry))) ⌝ }
 {
     let mut v = goal;
@@ -92,7 +95,8 @@ fn find_path(
 ) -> Shortest
     requires { ⌜ Lent ynd (now nodes) (now links) × (from < ynd .«node_count») × (to < ynd .«node_count»)
         × (4 * ynd .«node_count» ≤ length (now scratch)) ⌝ }
-    ensures { λ r. ⌜ Searched (nodesOf (lent ynd (now (nodes .entry)) (now (links .entry)))) (ynd .«node_count») from to
+    ensures { λ r. ⌜ Searched (nodesOf (lent ynd (now (nodes .entry)) (now (links .entry))))
+        (ynd .«node_count») from to
         (now (choices .entry)) (now (places .entry)) r (now (choices .exit)) (now (places .exit)) ⌝ }
 {
     let n = ynd.node_count as usize;

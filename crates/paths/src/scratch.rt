@@ -2,7 +2,8 @@
 ghost use mathlib.Core.Path.{_≡_};
 ghost use Prim.Native.Nat.{ℕ, _+_, _*_, _<_, _≤_};
 ghost use lib.ListN.{length};
-ghost use Rattle.paths.specs.Scratch.{labelAt, fromAt, byAt, placeAt, indexAt, chainAt, placed, indexed, stood, labelled, clearedAt, Fits, Kept, Swapped, Put, Cleared};
+ghost use Rattle.paths.specs.Scratch.{labelAt, fromAt, byAt, placeAt, indexAt, chainAt, placed, indexed};
+ghost use Rattle.paths.specs.Scratch.{stood, labelled, clearedAt, Fits, Kept, Swapped, Put, Cleared};
 
 // The label of the place v: its sum in the upper half, its number of links in the lower.
 pub(crate) fn label_of(scratch: &[u32], n: usize, v: usize) -> u64
@@ -88,7 +89,8 @@ fn clear_at(scratch: &mut [u32], n: usize, v: usize)
 // No place has a label, and none waits.
 pub(crate) fn clear(scratch: &mut [u32], n: usize)
     requires { ⌜ (n ≤ 65536) × (4 * n ≤ length (now scratch)) ⌝ }
-    ensures { λ _. ⌜ Cleared n (now (scratch .exit)) × (chainAt (now (scratch .exit)) ≡ chainAt (now (scratch .entry))) ⌝ }
+    ensures { λ _. ⌜ Cleared n (now (scratch .exit))
+        × (chainAt (now (scratch .exit)) ≡ chainAt (now (scratch .entry))) ⌝ }
 {
     let mut v = 0;
     while v < n {

@@ -68,7 +68,8 @@ fn follow(
     p: usize,
     b: usize,
 ) -> Edge
-    requires { ⌜ Lent ynd (now nodes) (now links) × (n ≡ ynd .«node_count») × (4 * n ≤ length (now scratch)) × AllEntered (now nodes) n (now scratch)
+    requires { ⌜ Lent ynd (now nodes) (now links) × (n ≡ ynd .«node_count») × (4 * n ≤ length (now scratch))
+        × AllEntered (now nodes) n (now scratch)
         × (p < n) × (b < 256) ⌝ }
     ensures { λ r. ⌜ r ≡ edgeOf (nodesOf (lent ynd (now (nodes .entry)) (now (links .entry)))) p b ⌝ }
 {
@@ -93,7 +94,8 @@ fn follow(
 
 // The label k, by the choice b from the place u, for the place v: it takes it if it is smaller. How many wait then.
 fn offer(scratch: &mut [u32], n: usize, size: usize, v: usize, k: u64, u: usize, b: usize) -> usize
-    requires { ⌜ Kept n (now scratch) × (size ≤ n) × (v < n) × (u < n) × (b < 256) × (k < labelAt (now scratch) v → Fits k) ⌝ }
+    requires { ⌜ Kept n (now scratch) × (size ≤ n) × (v < n) × (u < n) × (b < 256)
+        × (k < labelAt (now scratch) v → Fits k) ⌝ }
     ensures { λ r. ⌜ Offered n size v k u b r (now (scratch .entry)) (now (scratch .exit)) ⌝ }
 {
     if label_of(scratch, n, v) <= k {
@@ -115,10 +117,13 @@ fn relax_one(
     key: u64,
     b: usize,
 ) -> usize
-    requires { ⌜ Lent ynd (now nodes) (now links) × Searching (nodesOf (lent ynd (now nodes) (now links))) start (ynd .«node_count») (now scratch) size u b
+    requires { ⌜ Lent ynd (now nodes) (now links)
+        × Searching (nodesOf (lent ynd (now nodes) (now links))) start (ynd .«node_count») (now scratch) size u b
         × (u < ynd .«node_count») × (labelAt (now scratch) u ≡ key) × (key < unlabelled) × (b < 256)
-        × (4 * ynd .«node_count» ≤ length (now scratch)) × AllEntered (now nodes) (ynd .«node_count») (now scratch) ⌝ }
-    ensures { λ r. ⌜ Searching (nodesOf (lent ynd (now (nodes .entry)) (now (links .entry)))) start (ynd .«node_count») (now (scratch .exit)) r u (b + 1)
+        × (4 * ynd .«node_count» ≤ length (now scratch))
+        × AllEntered (now nodes) (ynd .«node_count») (now scratch) ⌝ }
+    ensures { λ r. ⌜ Searching (nodesOf (lent ynd (now (nodes .entry)) (now (links .entry)))) start
+        (ynd .«node_count») (now (scratch .exit)) r u (b + 1)
         × (labelAt (now (scratch .exit)) u ≡ key)
         × (work (ynd .«node_count») (now (scratch .exit)) r ≤ work (ynd .«node_count») (now (scratch .entry)) size)
         × (chainAt (now (scratch .exit)) ≡ chainAt (now (scratch .entry))) ⌝ }
@@ -144,10 +149,13 @@ fn relax(
     size: usize,
     u: usize,
 ) -> usize
-    requires { ⌜ Lent ynd (now nodes) (now links) × Searching (nodesOf (lent ynd (now nodes) (now links))) start (ynd .«node_count») (now scratch) size u 0
+    requires { ⌜ Lent ynd (now nodes) (now links)
+        × Searching (nodesOf (lent ynd (now nodes) (now links))) start (ynd .«node_count») (now scratch) size u 0
         × (u < ynd .«node_count») × (labelAt (now scratch) u < unlabelled)
-        × (4 * ynd .«node_count» ≤ length (now scratch)) × AllEntered (now nodes) (ynd .«node_count») (now scratch) ⌝ }
-    ensures { λ r. ⌜ Searching (nodesOf (lent ynd (now (nodes .entry)) (now (links .entry)))) start (ynd .«node_count») (now (scratch .exit)) r (ynd .«node_count») 0
+        × (4 * ynd .«node_count» ≤ length (now scratch))
+        × AllEntered (now nodes) (ynd .«node_count») (now scratch) ⌝ }
+    ensures { λ r. ⌜ Searching (nodesOf (lent ynd (now (nodes .entry)) (now (links .entry)))) start
+        (ynd .«node_count») (now (scratch .exit)) r (ynd .«node_count») 0
         × (work (ynd .«node_count») (now (scratch .exit)) r ≤ work (ynd .«node_count») (now (scratch .entry)) size)
         × (chainAt (now (scratch .exit)) ≡ chainAt (now (scratch .entry))) ⌝ }
 {
@@ -171,8 +179,10 @@ pub(crate) fn search(
     scratch: &mut [u32],
     start: usize,
 )
-    requires { ⌜ Lent ynd (now nodes) (now links) × (start < ynd .«node_count») × (4 * ynd .«node_count» ≤ length (now scratch)) ⌝ }
-    ensures { λ _. ⌜ Searching (nodesOf (lent ynd (now (nodes .entry)) (now (links .entry)))) start (ynd .«node_count») (now (scratch .exit)) 0 (ynd .«node_count») 0 ⌝ }
+    requires { ⌜ Lent ynd (now nodes) (now links) × (start < ynd .«node_count»)
+        × (4 * ynd .«node_count» ≤ length (now scratch)) ⌝ }
+    ensures { λ _. ⌜ Searching (nodesOf (lent ynd (now (nodes .entry)) (now (links .entry)))) start
+        (ynd .«node_count») (now (scratch .exit)) 0 (ynd .«node_count») 0 ⌝ }
 {
     let n = ynd.node_count as usize;
     enter_all(nodes, scratch, n);
