@@ -1,6 +1,7 @@
 //! The Rust and the port from one driver, on the same inputs, in one run; printed as a table for docs/BENCHMARKS.md.
 mod cells;
 mod numbers;
+mod paths;
 mod reach;
 mod rounds;
 
@@ -50,12 +51,12 @@ pub fn bench(only: Option<String>) {
     println!("| Call | Nodes | Rust, ns | Port, ns | Ratio | Goal |");
     println!("|---|---|---|---|---|---|");
     let rows = numbers::rows(&wanted).into_iter().chain(cells::rows(&wanted)).chain(reach::rows(&wanted))
-        .chain(rounds::rows(&wanted));
+        .chain(rounds::rows(&wanted)).chain(paths::rows(&wanted));
     for row in rows { println!("{}", row.line()); }
     println!();
     print!("Nanoseconds a node, or a call for steps, grid and lengths; the fastest of {TURNS} turns, ");
     println!("each side in turn. Inputs are made once.\n{NOTES}");
-    println!("{}\n{}", reach::NOTE, rounds::NOTE);
+    println!("{}\n{}\n{}", reach::NOTE, rounds::NOTE, paths::NOTE);
 }
 
 const TURNS: usize = 41;

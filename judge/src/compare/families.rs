@@ -142,6 +142,12 @@ pub const FAMILIES: &[Family] = &[
         (Edge(Left), 5_000), (Edge(NoNode), 2_000), (Edge(NotItsPlace), 20_000), (Edge(TwoNumbers), 10_000),
         (Edge(JustLong), 20_000), (Edge(OneShort), 20_000), (Edge(Empty), 1_000),
     ]),
+    cells("paths", "pairs of places in small cells, sound or not, also raw and by hand: T-06's call", &[
+        (Yes(Path), 50_000), (At(Path, 13, 0), 2_000), (At(Path, 14, 0), 500), (At(Path, 7, 0), 200),
+        (At(Path, 7, 1), 200), (At(Path, 7, 8), 10_000), (At(Path, 7, 9), 10_000), (At(Path, 17, 0), 10_000),
+        (Edge(SamePlace), 5_000), (Edge(SeveralLinks), 5_000), (Edge(Length0), 5_000), (Edge(Parallel), 5_000),
+        (Edge(Left), 5_000), (Edge(NoNode), 5_000), (Edge(Equal), 5_000), (Edge(Moved), 1_000),
+    ]),
     cells("stores", "words, links, heightmaps and list lengths stored as a whole, beside the Rust's fields", &[
         (Yes(Edit), 20_000), (No(Edit, 13), 500), (No(Edit, 14), 100), (No(Edit, 12), 200), (At(Edit, 7, 1), 100),
         (At(Edit, 7, 3), 50),

@@ -13,6 +13,7 @@ pub mod numbers;
 pub mod page;
 pub mod posts;
 pub mod programs;
+pub mod paths;
 pub mod reach;
 pub mod records;
 pub mod report;

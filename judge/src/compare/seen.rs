@@ -9,14 +9,17 @@ use std::sync::Mutex;
 
 /// The calls whose answers are counted.
 #[derive(Clone, Copy, PartialEq, Eq, Debug)]
-pub enum Call { Read, Renumber, Write, WriteRead, Lookup, Entry, Edit, Walk, Soundness, Shown, Grid, Program, Near, Round, Follow }
+pub enum Call {
+    Read, Renumber, Write, WriteRead, Lookup, Entry, Edit, Walk, Soundness, Shown, Grid, Program, Near, Round, Follow,
+    Path,
+}
 
-const CALLS: [&str; 15] = [
+const CALLS: [&str; 16] = [
     "reading", "renumbering", "writing", "write-then-read", "lookups", "entries", "edits", "walks", "soundness",
-    "shown", "grid", "cellsum", "near nodes", "round files", "rounds",
+    "shown", "grid", "cellsum", "near nodes", "round files", "rounds", "paths",
 ];
 const NUMBERS: usize = 20;
-const PLACES: usize = 9;
+const PLACES: usize = 10;
 
 /// Edges that a family has to meet.
 #[derive(Clone, Copy, PartialEq, Eq, Debug)]
@@ -26,10 +29,10 @@ pub enum Met {
     FarLinks, FarValues, UpperHalf, MostNodes, MostLinks, MostJunctions, MostRefs, Many, Found, NotFound,
     FarApart, Radius0, Radius1, RadiusMost, OnCircle, StepBeyond, EqualNear, Infinite, Third, Empty, JustLong,
     OneShort, Undrawn, Damaged, WrittenBack, MostChoices, OverChoices, NotItsPlace, TwoNumbers,
-    LatePost, PostsFirst, PostsBetween, PostsLast, AllPosts,
+    LatePost, PostsFirst, PostsBetween, PostsLast, AllPosts, SamePlace, SeveralLinks, Length0, Parallel,
 }
 
-const METS: [&str; 62] = [
+const METS: [&str; 66] = [
     "NaN", "below the lower limit", "over the upper limit", "cut towards zero", "before a threshold", "at a threshold",
     "after a threshold", "along an axis", "over several axes", "difference rounded", "square rounded",
     "first sum rounded", "last sum rounded", "a number", "none", "sound cells", "unsound cells",
@@ -42,6 +45,7 @@ const METS: [&str; 62] = [
     "a list one too short", "no system bytes", "a good file damaged", "written back", "65,535 choices",
     "65,536 choices", "a start that is not its place", "a start that two nodes have",
     "left out: refused by the Rust for a late post", "posts first", "posts in the middle", "posts last", "all nodes posts",
+    "from a place to itself", "three links and more", "links of length 0", "several links between two nodes",
 ];
 
 /// What a family has to meet: accepted, refused with a number, refused with a number at a place, or an edge.

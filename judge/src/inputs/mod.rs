@@ -7,6 +7,7 @@ pub mod large;
 pub mod limits;
 pub mod memories;
 pub mod names;
+pub mod paths;
 pub mod posts;
 pub mod reach;
 pub mod rng;

@@ -5,6 +5,7 @@ pub mod edit;
 pub mod grid;
 pub mod length;
 pub mod names;
+pub mod paths;
 pub mod reach;
 pub mod read;
 pub mod records;

@@ -8,6 +8,7 @@ pub mod lent;
 pub mod lookups;
 pub mod memory;
 pub mod numbers;
+pub mod paths;
 pub mod reach;
 pub mod rounds;
 pub mod sections;

@@ -4,6 +4,7 @@
 pub mod edits;
 pub mod kept;
 pub mod numbers;
+pub mod paths;
 pub mod programs;
 pub mod ranges;
 pub mod reach;
