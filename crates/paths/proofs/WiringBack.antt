@@ -48,7 +48,7 @@ use Rattle.cells.proofs.WritingBack.KeptCells.{keptLink, keptRef}
 use Rattle.cells.proofs.WritingBack.Kept.{both}
 use Rattle.cells.proofs.WritingBack.BlocksBack.{upTo-all, part-at, part-in, stands-at, startOf, node-record, refs-back}
 use Rattle.cells.proofs.WritingBack.SectionBack.{storedRoot, array-back, root-read, nodes-here, links-here, junctions-here, heights-here, refs-here}
-use Rattle.cells.proofs.WritingBack.WrittenBack.{Told, held-cut, write-told}
+use Rattle.cells.proofs.WritingBack.WrittenBack.{Told, write-told}
 
 -- what a test says of the entry at a place
 kept-at : {A B : Type 0} (t : B → Bool) (f : A → B) (xs : List A) (i : ℕ) (z : A) → every t (map f xs) ≡ true → i < length xs → t (f (getD xs i z)) ≡ true
@@ -275,4 +275,4 @@ write-read-wiring m s tn tr = go (writeCall m s .answer) refl
 
     go : (a : Written) → writeCall m s .answer ≡ a → SameWiring (cellOf m) (cellOf (ifWritten a t m s .memory))
     go (written.Refused x y) e = stays
-    go (written.Wrote n) e = let w = write-told (held m) (held-cut m) (short m) s n e in reading n (w .bytes) (w .told) (readOf (take n t) [] m .answer) refl
+    go (written.Wrote n) e = let w = write-told m s n e in reading n (w .bytes) (w .told) (readOf (take n t) [] m .answer) refl

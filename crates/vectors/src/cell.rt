@@ -15,7 +15,7 @@ use walks::walk::End;
 use walks::walk::Walked;
 
 // The graphics section is empty.
-fn read_alone(
+pub fn read_alone(
     system: &[u8],
     nodes: &mut [NodeWords],
     links: &mut [[u16; 4]],
@@ -74,7 +74,7 @@ fn wide(x: u16) -> u32 {
 }
 
 // The whole list, two bytes an entry.
-fn same_places(visited: &[u32], expected: &[u8]) -> bool {
+pub fn same_places(visited: &[u32], expected: &[u8]) -> bool {
     if 64 < visited.len() {
         return false;
     }

@@ -11,6 +11,7 @@ mod near;
 mod parts;
 mod replay;
 mod round_files;
+mod shortest;
 mod steps;
 
 fn main() {

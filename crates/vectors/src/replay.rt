@@ -31,6 +31,7 @@ fn agrees(kind: u8, body: &[u8]) -> bool {
         18 => crate::round_files::file(body),
         19 => crate::cell::follow(body),
         20 => crate::round_files::long(body),
+        21 => crate::shortest::path(body),
         _ => false,
     }
 }

@@ -6,6 +6,7 @@ mod edits;
 mod junctions;
 mod large;
 mod numbers;
+mod paths;
 mod reach;
 mod rounds;
 mod walks;
@@ -56,6 +57,7 @@ pub fn write(path: &str) {
     edits::add(&mut records);
     reach::add(&mut records);
     rounds::add(&mut records);
+    paths::add(&mut records);
     cells::add(&mut records);
     assert!(records.bytes.len() <= MOST, "{} bytes of vectors", records.bytes.len());
     fs::write(path, &records.bytes).expect("the vectors file");
