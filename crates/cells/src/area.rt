@@ -6,17 +6,26 @@ ghost use Rattle.cells.specs.NodeWords.{firstArea};
 use crate::node::NodeWords;
 use crate::node_words::area_of;
 
-// Whether a link or a ref of this area belongs to a cell of the area `own`.
+// Whether a link or a ref of this area belongs to a cell of the area `own`: in full or, on an island, without its bit.
 pub fn belongs_to(own: u16, area: u16) -> bool
     ensures { λ r. ⌜ r ≡ belongs own area ⌝ }
 {
-    area == own
+    if area == own {
+        return true;
+    }
+    if own / 1024 % 2 == 1 {
+        return area == own - 1024;
+    }
+    false
 }
 
-// In a cell of the area `own`, whether a ref of this area is one for `area_id`.
-pub(crate) fn ref_for(own: u16, area: u16, area_id: u16) -> bool
+// In a cell of the area `own`, whether a ref of this area is one for `area_id`; one that belongs to the cell names `own`.
+pub fn ref_for(own: u16, area: u16, area_id: u16) -> bool
     ensures { λ r. ⌜ r ≡ refFor own area «area_id» ⌝ }
 {
+    if belongs_to(own, area) {
+        return own == area_id;
+    }
     area == area_id
 }
 

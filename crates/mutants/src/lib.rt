@@ -16,6 +16,7 @@ use cells::ynd::Outcome;
 use cells::ynd::Ynd;
 use numbers::answer::Answer;
 
+pub mod areas;
 pub mod controls;
 pub mod starts;
 

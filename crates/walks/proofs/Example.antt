@@ -57,14 +57,14 @@ root = rootBytes (record {
   unknowns = 21 ∷ 22 ∷ 23 ∷ 24 ∷ 25 ∷ 26 ∷ 27 ∷ [];
 })
 
--- a node of the area 5 with one link, its fields told apart
-abbrev nodeFrom : ℕ → ℕ → ℕ → ℕ → List ℕ
-nodeFrom number link steps flags1 = nodeBytes (record {
+-- a node with one link, its fields told apart
+abbrev nodeFrom : ℕ → ℕ → ℕ → ℕ → ℕ → List ℕ
+nodeFrom area number link steps flags1 = nodeBytes (record {
   unused0 = 0;
   unused1 = 0;
   unused2 = 0;
   unused3 = 0;
-  «area_id» = 5;
+  «area_id» = area;
   «node_id» = number;
   «street_name» = 11;
   unused4 = 0;
@@ -80,8 +80,8 @@ nodeFrom number link steps flags1 = nodeBytes (record {
   flags4 = 5;
 })
 
-abbrev linkFrom : ℕ → List ℕ
-linkFrom number = linkBytes (record { «area_id» = 5; «node_id» = number; flags0 = 7; flags1 = 8; flags2 = 9; «link_length» = 10 })
+abbrev linkFrom : ℕ → ℕ → List ℕ
+linkFrom area number = linkBytes (record { «area_id» = area; «node_id» = number; flags0 = 7; flags1 = 8; flags2 = 9; «link_length» = 10 })
 
 -- a junction of one value, and the ref that gives it to the node 3
 abbrev junction : List ℕ
@@ -95,14 +95,17 @@ junction = junctionBytes (record {
   «heightmap_dim_y» = 1;
 })
 
-abbrev ref : List ℕ
-ref = refBytes (record { «area_id» = 5; «node_id» = 3; «junction_id» = 0; unk0 = 12 })
+abbrev ref : ℕ → List ℕ
+ref area = refBytes (record { «area_id» = area; «node_id» = 3; «junction_id» = 0; unk0 = 12 })
 
--- numbers 7, 3 (a ped node) and 9, each with a link to the next
+-- numbers 7, 3 (a ped node) and 9, each with a link to the next; the nodes' area, and the one that links and ref name
+abbrev pub yard : ℕ → ℕ → List ℕ
+yard own named =
+    root ++ nodeFrom own 7 0 32 2 ++ nodeFrom own 3 1 0 82 ++ nodeFrom own 9 2 64 2
+    ++ linkFrom named 3 ++ linkFrom named 9 ++ linkFrom named 7 ++ junction ++ (77 ∷ []) ++ ref named
+
 unfoldable pub bytes : List ℕ
-bytes =
-    root ++ nodeFrom 7 0 32 2 ++ nodeFrom 3 1 0 82 ++ nodeFrom 9 2 64 2 ++ linkFrom 3 ++ linkFrom 9 ++ linkFrom 7
-    ++ junction ++ (77 ∷ []) ++ ref
+bytes = yard 5 5
 
 unfoldable pub room : Memory
 room =

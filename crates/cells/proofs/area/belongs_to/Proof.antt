@@ -1,11 +1,9 @@
 use borrow.Author.Needs.{needs}
+use Rattle.numbers.proofs.Refusing.{tests}
 use Rattle.cells.specs.Area.{belongs}
 use Rattle.cells.proofs.area.belongs_to.Statement.{statement}
 use Rattle.cells.proofs.area.belongs_to.Tie as tie
 
-returns : tie.Need-returns
-unfolding belongs
-returns c = search needs
-
 pub belongs-to-spec : {M : Type 1} → statement M
-belongs-to-spec = tie.close (tie.spec returns)
+unfolding belongs
+belongs-to-spec = tie.close (tie.spec (λ c. search tests) (λ c. search needs) (λ c. search tests) (λ c. search tests))
