@@ -34,6 +34,12 @@ size_t values_held(const lent *m, size_t p)
     return held(j->heightmap_start, (size_t)j->width * j->height, m->ynd->heightmap_count);
 }
 
+/* A link or ref of this area is the cell's own: in full or, on an island (bit 1024), without the bit. */
+static bool belongs(uint16_t own, uint16_t area)
+{
+    return area == own || ((own & 1024) && area == (own & ~1024));
+}
+
 bool model_sound(const lent *m)
 {
     static uint8_t has[65536];
@@ -50,11 +56,11 @@ bool model_sound(const lent *m)
     for (size_t p = 0; p < n; p++)
         for (size_t k = 0; k < links_held(m, p); k++) {
             const ynd_link_entry *l = &m->links[m->nodes[p].link_start + k];
-            if (l->area_id == own && !has[l->node_id])
+            if (belongs(own, l->area_id) && !has[l->node_id])
                 return false;
         }
     for (size_t i = 0; i < m->ynd->ref_count; i++)
-        if (m->refs[i].area_id == own && !has[m->refs[i].node_id])
+        if (belongs(own, m->refs[i].area_id) && !has[m->refs[i].node_id])
             return false;
     return true;
 }
@@ -79,7 +85,7 @@ ynd_walk_end model_walk(const lent *m, size_t start, const uint8_t *choices, siz
         if (choices[i] >= links_held(m, at))
             return (ynd_walk_end){ YND_NO_LINK, 0, 0 };
         const ynd_link_entry *l = &m->links[m->nodes[at].link_start + choices[i]];
-        if (l->area_id != m->nodes[0].area_id)
+        if (!belongs(m->nodes[0].area_id, l->area_id))
             return (ynd_walk_end){ YND_LEFT, l->area_id, l->node_id };
         at = model_node(m, l->node_id);
         if (at == SIZE_MAX)
@@ -118,10 +124,10 @@ void model_renumber(lent *m, uint32_t *places)
             vehicles = next;
     }
     for (size_t i = 0; i < m->ynd->link_count; i++)
-        if (m->links[i].area_id == own && last[m->links[i].node_id] != UINT32_MAX)
+        if (belongs(own, m->links[i].area_id) && last[m->links[i].node_id] != UINT32_MAX)
             m->links[i].node_id = (uint16_t)places[last[m->links[i].node_id]];
     for (size_t i = 0; i < m->ynd->ref_count; i++)
-        if (m->refs[i].area_id == own && last[m->refs[i].node_id] != UINT32_MAX)
+        if (belongs(own, m->refs[i].area_id) && last[m->refs[i].node_id] != UINT32_MAX)
             m->refs[i].node_id = (uint16_t)places[last[m->refs[i].node_id]];
     m->ynd->vehicle_node_count = (uint32_t)vehicles;
     m->ynd->ped_node_count = (uint32_t)(n - vehicles);

@@ -16,6 +16,8 @@ pub fn check(cell: &Cell, aux: u64) -> Verdict {
     numbers.sort();
     seen::met_if(numbers.windows(2).any(|p| p[0] == p[1]), Met::Equal);
     seen::met_if(!cell.nodes.is_empty() && cell.nodes.iter().all(|n| n.links.is_empty()), Met::AllPosts);
+    seen::met_if(cell.is_island(), Met::Island);
+    seen::met_if(claims(cell), Met::Claimed);
     renumbering(cell, &ynd)?;
     writing(cell, &ynd)?;
     found(cell, &ynd, &mut r)?;
@@ -55,7 +57,15 @@ pub fn on_port(memory: &Memory, r: &mut Rng) -> Verdict {
     Ok(())
 }
 
+/// T-07: an island with a link or ref that names its area without the bit.
+pub fn claims(cell: &Cell) -> bool {
+    let other = |area| area != cell.area() && cell.belongs(area);
+    cell.nodes.iter().flat_map(|n| &n.links).any(|l| other(l.area_id)) || cell.refs.iter().any(|r| other(r.area_id))
+}
+
+/// T-07: renumbered island cells are not asked of the Rust.
 fn renumbering(cell: &Cell, ynd: &Ynd) -> Verdict {
+    if cell.is_island() { return Ok(()); }
     let mut model = cell.clone();
     let places = renumber::renumber(&mut model, 65_536, cell.nodes.len()).expect("room for all");
     let mut judged = ynd.clone();
@@ -99,6 +109,8 @@ fn found(cell: &Cell, ynd: &Ynd, r: &mut Rng) -> Verdict {
         let (area, number) = name(cell, r);
         let place = ynd.node(number).map(|n| place_in(&ynd.nodes, n));
         same("node", MODEL, &cell.node(number), RUST, &place)?;
+        // T-07: nor is this on an island.
+        if cell.is_island() { continue; }
         let place = ynd.junction_of(area, number).map(|j| place_in(&ynd.junctions, j));
         same("junction_of", MODEL, &cell.junction_of(area, number), RUST, &place)?;
     }

@@ -96,7 +96,7 @@ pub const FAMILIES: &[Family] = &[
         (No(Walk, 13), 100), (At(Walk, 7, 8), 500), (Edge(Sound), 1_000), (Edge(Unsound), 1_000),
         (At(Soundness, 7, 6), 500), (Edge(Equal), 1_000), (Edge(Copies), 1_000), (Edge(Watched), 1_000_000),
         (No(Lookup, 7), 100), (No(Entry, 7), 100), (Yes(Shown), 1_000), (No(Shown, 13), 1_000), (No(Shown, 7), 100),
-        (Edge(Undrawn), 100),
+        (Edge(Undrawn), 100), (Edge(Island), 2_000), (Edge(Claimed), 1_000),
     ]),
     cells("any memory", "structs and lists made by hand: every call", &[
         (Yes(Renumber), 1_000), (Yes(Write), 200), (No(Write, 8), 100), (Yes(WriteRead), 50), (No(WriteRead, 5), 20),
@@ -158,7 +158,7 @@ pub const FAMILIES: &[Family] = &[
     cells("lists of calls on sound cells", "demand 3 as it is stated", &[
         (Edge(Sound), 15_000), (Edge(Moved), 3_000), (Edge(Done), 10_000), (Edge(NoLink), 10_000),
         (Edge(Left), 10_000), (Edge(Followed), 100_000), (At(Renumber, 7, 6), 3_000), (At(Renumber, 7, 7), 1_000),
-        (At(WriteRead, 7, 5), 3_000), (At(Walk, 7, 8), 10_000),
+        (At(WriteRead, 7, 5), 3_000), (At(Walk, 7, 8), 10_000), (Edge(Island), 7_000), (Edge(Claimed), 3_000),
     ]),
     cells("scripts", "random edits and calls, then written by all sides", &[
         (Yes(Edit), 50_000), (No(Edit, 13), 1_000), (No(Edit, 12), 500), (At(Edit, 7, 0), 200), (At(Edit, 7, 1), 200),

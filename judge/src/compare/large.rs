@@ -31,7 +31,7 @@ pub fn check((cell, aux): &(Cell, u64)) -> Verdict {
     let answer = with_scratch(65_536, |s| memory.renumber(s, &mut places));
     let moved = renumber::renumber(&mut back, 65_536, counts[0]);
     same("renumbering's answer", PORT, &answer, MODEL, &moved.map(|_| ()))?;
-    ynd.recalculate_node_indices();
+    rust::renumber(&mut ynd);
     written(&memory, &back, &ynd, r)?;
     memory::writing_then_reading(&memory, bytes.len() + 1, r)
 }

@@ -18,8 +18,7 @@ pub fn lookups(memory: &Memory, r: &mut Rng) -> Verdict {
         if let Ok(place) = found { seen::met(if place.is_some() { Met::Found } else { Met::NotFound }); }
         same("node", PORT, &memory.node(number), MODEL, &(found, true))?;
         // The junctions are not lent: their count says which there are.
-        let named = cell.refs.iter().find(|x| (x.area_id, x.node_id) == (area, number));
-        let junction = named.map(|x| x.junction_id as usize).filter(|&j| j < memory.counts()[2]);
+        let junction = cell.ref_for(area, number).map(|x| x.junction_id as usize).filter(|&j| j < memory.counts()[2]);
         let found = causes::lists(memory, &[NODES, REFS]).map(|_| junction);
         seen::note(Call::Lookup, &found);
         same("junction_of", PORT, &memory.junction_of(area, number), MODEL, &(found, true))?;

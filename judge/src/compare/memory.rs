@@ -3,7 +3,7 @@ use super::scratch::with_scratch;
 use super::seen::{self, Call, Met};
 use super::{causes, same, Verdict, MODEL, PORT};
 use crate::inputs::rng::Rng;
-use crate::model::cell::Cell;
+use crate::model::cell::{belongs, Cell};
 use crate::model::{refuse_if, renumber, write, Answer};
 use crate::port::memory::Memory;
 
@@ -72,7 +72,7 @@ fn every_list(memory: &Memory, after: &Memory, cell: &Cell, moved: &[usize]) -> 
     let mut named = vec![None; 65_536];
     for (old, &new) in moved.iter().enumerate() { named[(memory.nodes[old][0] >> 16) as usize] = Some(new as u16); }
     let [_, links, _, _, refs] = memory.held();
-    for w in laid.links[..links].iter_mut().chain(laid.refs[..refs].iter_mut()).filter(|w| w[0] == own) {
+    for w in laid.links[..links].iter_mut().chain(laid.refs[..refs].iter_mut()).filter(|w| belongs(own, w[0])) {
         w[1] = named[w[1] as usize].unwrap_or(w[1]);
     }
     same("renumbering: every list", PORT, after, MODEL, &laid)

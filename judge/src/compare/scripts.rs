@@ -149,7 +149,7 @@ fn on_rust(ynd: &mut Ynd, op: &Op) {
             ynd.junctions[place].heightmap.values = values;
         }
         Op::PutValue { place, index, value } => ynd.junctions[place].heightmap.values[index] = value,
-        Op::Renumber { .. } => ynd.recalculate_node_indices(),
+        Op::Renumber { .. } => rust::renumber(ynd),
         Op::WriteRead { .. } => *ynd = rust::write(ynd).and_then(|b| rust::read(&b, &[])).unwrap_or_default(),
         Op::Write { .. } | Op::Walk { .. } => {}
     }

@@ -2,6 +2,7 @@
 //! as read; then every place's walks, held to the walks of the cell that document 01 defines for the bytes first read.
 use super::scratch::with_scratch;
 use super::seen::{self, Call, Met};
+use super::cells::claims;
 use super::{memory, same, Verdict, MODEL, PORT};
 use crate::inputs::files::File;
 use crate::inputs::rng::Rng;
@@ -23,6 +24,8 @@ pub fn check(f: &File) -> Verdict {
     let Ok(first) = read::read(&f.system, &f.graphics) else { return Ok(()) };
     if !is_sound(&first) { return Ok(()); }
     seen::met(Met::Sound);
+    seen::met_if(first.is_island(), Met::Island);
+    seen::met_if(claims(&first), Met::Claimed);
     let r = &mut Rng::new(f.aux);
     let lent = first.counts().map(|n| n + r.below(4));
     let mut memory = Memory::rubbish(r, lent);
@@ -123,7 +126,7 @@ fn choices(cell: &Cell, start: usize, r: &mut Rng) -> Vec<u8> {
         let choice = if links.is_empty() || r.once_in(16) { r.pick(&[0, 1, 2, 31, 255]) } else {
             r.below(links.len()) as u8
         };
-        here = links.get(choice as usize).filter(|l| l.area_id == cell.area()).and_then(|l| cell.node(l.node_id));
+        here = links.get(choice as usize).filter(|l| cell.belongs(l.area_id)).and_then(|l| cell.node(l.node_id));
         choice
     }).collect()
 }

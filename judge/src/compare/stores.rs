@@ -132,7 +132,7 @@ fn on_rust(ynd: &mut Ynd, store: &Store) {
         Store::AddNode(area) => { ynd.add_node(area, rust::vec3([0; 3])); }
         Store::AddLink { place, link } => ynd.nodes[place].links.push(rust::path_link(&link)),
         Store::AddJunction(j) => ynd.junctions.push(rust::path_junction(&j)),
-        Store::Renumber => ynd.recalculate_node_indices(),
+        Store::Renumber => rust::renumber(ynd),
         Store::WriteRead => *ynd = rust::write(ynd).and_then(|b| rust::read(&b, &[])).unwrap_or_default(),
     }
 }

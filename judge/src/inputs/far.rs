@@ -18,7 +18,9 @@ pub fn any(r: &mut Rng) -> (Memory, u64) {
     (m.ynd[11], m.ynd[12], m.ynd[13], m.ynd[14]) =
         ((links - r.below(3)) as u32, junctions as u32, (values - r.below(3)) as u32, refs as u32);
     let (own, sound) = (r.u16(), r.once_in(2));
-    let area = |r: &mut Rng| if r.once_in(if sound { 9 } else { 4 }) { own ^ 1 } else { own };
+    let area = |r: &mut Rng| {
+        if r.once_in(if sound { 9 } else { 4 }) { r.pick(&[own ^ 1, own ^ 1024]) } else { own }
+    };
     for i in 0..nodes {
         let [area, number] = if sound { [own, i as u16] } else { [area(r), r.below(nodes + 1) as u16] };
         m.nodes[i][0] = area as u32 | (number as u32) << 16;

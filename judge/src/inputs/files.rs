@@ -71,10 +71,14 @@ pub fn arrays(r: &mut Rng, shape: Shape) -> [Vec<u8>; 5] {
 fn arrays_of(r: &mut Rng, Shape([nodes, links, junctions, values, refs]): Shape, sound: bool) -> [Vec<u8>; 5] {
     let any = r.u16();
     let own = r.pick(&[0u16, 489, 1177, 0xFFFF, any]);
+    // T-07: an island's own links mostly name its area without the bit.
+    let used = if own & 1024 != 0 && r.once_in(2) { own ^ 1024 } else { own };
     let numbers = numbers(r, nodes, sound);
     let named = |r: &mut Rng| {
         let any = r.u16();
-        let area = if r.once_in(if sound { 6 } else { 3 }) { r.pick(&[own ^ 1, own ^ 1024, any]) } else { own };
+        let area = if r.once_in(if sound { 6 } else { 3 }) {
+            r.pick(&[own ^ 1, own, own ^ 1024, own ^ 2048, own ^ 3072, any])
+        } else { used };
         let number = if numbers.is_empty() || (!sound && r.once_in(5)) { r.pick(&[0, 1, 0xFFFF, any ^ 0x5555]) } else {
             r.pick(&numbers)
         };
@@ -105,7 +109,8 @@ fn arrays_of(r: &mut Rng, Shape([nodes, links, junctions, values, refs]): Shape,
 /// A node's record with some of so many links.
 fn node(r: &mut Rng, own: u16, number: u16, links: usize, sound: bool) -> Vec<u8> {
     let mut b = r.bytes(40);
-    put_le(&mut b, 16, 2, if sound || !r.once_in(8) { own } else { r.u16() } as u64);
+    let any = r.u16();
+    put_le(&mut b, 16, 2, if sound || !r.once_in(8) { own } else { r.pick(&[any, own ^ 1024]) } as u64);
     put_le(&mut b, 18, 2, number as u64);
     let count = r.below(links.min(31) + 1).min(if r.once_in(3) { 31 } else { 4 });
     // Ranges overlap; a node with no links may start at the list's very end.

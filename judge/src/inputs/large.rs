@@ -33,7 +33,7 @@ pub fn cell(r: &mut Rng) -> (Cell, u64) {
     (cell, r.next())
 }
 
-fn area(r: &mut Rng, own: u16) -> u16 { if r.once_in(5) { own ^ 1 } else { own } }
+fn area(r: &mut Rng, own: u16) -> u16 { if r.once_in(5) { r.pick(&[own ^ 1, own ^ 1024]) } else { own } }
 
 /// So many links over the nodes before the last, at most 31 each, as evenly as chance has it; the last has up to 31
 /// more.

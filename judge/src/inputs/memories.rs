@@ -16,8 +16,10 @@ pub fn any(r: &mut Rng) -> (Memory, u64) {
     if r.once_in(16) { m.ynd[14] = r.pick(&[65_535, 65_536, u32::MAX]); }
     let (own, sound) = (r.u16(), r.once_in(2));
     let nodes = lent[0];
-    let name = |r: &mut Rng| [if r.once_in(if sound { 9 } else { 4 }) { own ^ 1 } else { own },
-        r.below(nodes + 1) as u16];
+    let name = |r: &mut Rng| {
+        let other = r.pick(&[own ^ 1, own ^ 1024, own ^ 3072]);
+        [if r.once_in(if sound { 9 } else { 4 }) { other } else { own }, r.below(nodes + 1) as u16]
+    };
     for i in 0..nodes {
         let [area, number] = if sound { [own, i as u16] } else { name(r) };
         m.nodes[i][0] = area as u32 | (number as u32) << 16;

@@ -77,7 +77,10 @@ fn op(r: &mut Rng, cell: &Cell, sizes: [usize; 5]) -> Op {
 
 fn section(r: &mut Rng) -> usize { r.pick(&[SECTION, SECTION, SECTION, 0, 1151, 1152, 1192, 1400]) }
 
-fn area(r: &mut Rng, cell: &Cell) -> u16 { if r.once_in(4) { r.u16() } else { cell.area() } }
+fn area(r: &mut Rng, cell: &Cell) -> u16 {
+    let any = r.u16();
+    if r.once_in(4) { r.pick(&[any, any, cell.area() ^ 1024]) } else { cell.area() }
+}
 
 fn number(r: &mut Rng, cell: &Cell) -> u16 {
     if r.once_in(5) { r.u16() } else { r.below(cell.nodes.len() + 3) as u16 }

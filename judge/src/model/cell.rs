@@ -60,6 +60,12 @@ impl Cell {
     /// The own area: the first node's, 0 if there is no node.
     pub fn area(&self) -> u16 { self.nodes.first().map_or(0, |n| n.area_id) }
 
+    /// T-07: the own area carries bit 1024.
+    pub fn is_island(&self) -> bool { self.area() & ISLAND != 0 }
+
+    /// Whether a link or ref of this area belongs to the cell.
+    pub fn belongs(&self, area_id: u16) -> bool { belongs(self.area(), area_id) }
+
     /// `node`: the place equal to the number if that node has it, else the first that has it.
     pub fn node(&self, node_id: u16) -> Option<usize> {
         let own = node_id as usize;
@@ -67,10 +73,15 @@ impl Cell {
         self.nodes.iter().position(|n| n.node_id == node_id)
     }
 
+    /// The first ref for this area and number. T-07: one that belongs to the cell names the cell's area.
+    pub fn ref_for(&self, area_id: u16, node_id: u16) -> Option<&Ref> {
+        let named = |r: &Ref| if self.belongs(r.area_id) { self.area() } else { r.area_id };
+        self.refs.iter().find(|r| named(r) == area_id && r.node_id == node_id)
+    }
+
     /// `junction_of`: the junction that the first ref for this area and number names.
     pub fn junction_of(&self, area_id: u16, node_id: u16) -> Option<usize> {
-        let r = self.refs.iter().find(|r| r.area_id == area_id && r.node_id == node_id)?;
-        let place = r.junction_id as usize;
+        let place = self.ref_for(area_id, node_id)?.junction_id as usize;
         (place < self.junctions.len()).then_some(place)
     }
 
@@ -85,6 +96,12 @@ impl Cell {
         ]
     }
 }
+
+/// T-07's bit.
+pub const ISLAND: u16 = 1_024;
+
+/// In full or, on an island, without the bit.
+pub fn belongs(own: u16, area_id: u16) -> bool { area_id == own || own & ISLAND != 0 && area_id == own & !ISLAND }
 
 /// The one NaN.
 pub const NAN: u32 = 0x7fc0_0000;

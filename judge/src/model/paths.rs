@@ -8,7 +8,7 @@ pub const SCRATCH: usize = 4;
 
 /// Where the own links of the node at a place lead, and how long each is: links that would end a walk lead nowhere.
 pub fn edges(cell: &Cell, place: usize) -> Vec<(usize, u64)> {
-    let own = cell.nodes[place].links.iter().filter(|l| l.area_id == cell.area());
+    let own = cell.nodes[place].links.iter().filter(|l| cell.belongs(l.area_id));
     own.filter_map(|l| cell.node(l.node_id).map(|to| (to, l.length as u64))).collect()
 }
 

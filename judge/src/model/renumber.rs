@@ -1,5 +1,5 @@
 //! Section 4: renumbering. Non-ped nodes first, then ped nodes, each group in old order, numbered by place.
-use super::cell::Cell;
+use super::cell::{belongs, Cell};
 use super::{room, within, Answer};
 
 /// Renumbers, and gives each node's new place by its old one. The scratch must have 65,536 entries, the list one a
@@ -17,7 +17,7 @@ pub fn renumber(cell: &mut Cell, scratch: usize, places: usize) -> Answer<Vec<us
     let mut by_number = vec![None; 65_536];
     for (i, n) in cell.nodes.iter().enumerate() { by_number[n.node_id as usize] = Some(new_place[i] as u16); }
     let renamed = |area_id: u16, node_id: u16| {
-        if area_id == area { by_number[node_id as usize].unwrap_or(node_id) } else { node_id }
+        if belongs(area, area_id) { by_number[node_id as usize].unwrap_or(node_id) } else { node_id }
     };
     let old = std::mem::take(&mut cell.nodes);
     for (new, &i) in order.iter().enumerate() {

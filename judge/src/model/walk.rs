@@ -1,5 +1,5 @@
 //! Section 5: walks and soundness.
-use super::cell::{Cell, Junction};
+use super::cell::{belongs, Cell, Junction};
 use super::{refuse_if, room, within, Answer};
 
 #[derive(Debug, Clone, Copy, PartialEq, Eq)]
@@ -33,7 +33,7 @@ pub fn walk(cell: &Cell, start: usize, choices: &[u8]) -> Answer<Walk> {
         let here = &cell.nodes[*w.places.last().unwrap()];
         let Some(l) = here.links.get(choice as usize) else { w.end = End::NoLink; break };
         w.chosen.push((l.flags, l.length));
-        if l.area_id != cell.area() { w.end = End::Left(l.area_id, l.node_id); break; }
+        if !cell.belongs(l.area_id) { w.end = End::Left(l.area_id, l.node_id); break; }
         let Some(next) = cell.node(l.node_id) else { w.end = End::NoNode; break };
         w.places.push(next);
         w.seen.push(see(cell, next));
@@ -67,7 +67,7 @@ pub fn is_sound(cell: &Cell) -> bool {
     let area = cell.area();
     let mut held = vec![false; 65_536];
     let differ = cell.nodes.iter().all(|n| !std::mem::replace(&mut held[n.node_id as usize], true));
-    let named = |area_id: u16, node_id: u16| area_id != area || held[node_id as usize];
+    let named = |area_id: u16, node_id: u16| !belongs(area, area_id) || held[node_id as usize];
     differ
         && cell.nodes.iter().all(|n| n.area_id == area && n.links.iter().all(|l| named(l.area_id, l.node_id)))
         && cell.refs.iter().all(|r| named(r.area_id, r.node_id))

@@ -61,6 +61,11 @@ impl Memory {
     }
 
     pub fn junction_of(&self, area_id: u16, node_id: u16) -> Found<usize> {
+        if slips::any() { return slips::walks::junction_of(self, area_id, node_id); }
+        self.junction_of_right(area_id, node_id)
+    }
+
+    pub fn junction_of_right(&self, area_id: u16, node_id: u16) -> Found<usize> {
         let (mut is, mut at, mut place) = (false, KEPT_PLACE, KEPT_PLACE);
         let (kept, mut ynd) = (self.keep(NODES | REFS), Shown::of(&self.ynd));
         let number = unsafe {

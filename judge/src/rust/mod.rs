@@ -1,6 +1,7 @@
 //! The Rust's answers in the model's words.
 use crate::math::{Vec2, Vec3};
 use crate::model::cell::{one_nan, Cell, Junction, Link, Node, Ref};
+use crate::model::renumber;
 use crate::model::sections::{le, SYSTEM};
 use crate::resource::lend_sections;
 use crate::ynd::{
@@ -36,6 +37,14 @@ pub fn write(ynd: &Ynd) -> Answer<Vec<u8>> {
         section[nodes + 40 * i + 26..][..2].fill(0);
     }
     Ok(section)
+}
+
+/// `recalculate_node_indices`. T-07: a renumbered island cell leaves the runs; the Rust goes on from the model's.
+pub fn renumber(ynd: &mut Ynd) {
+    let mut cell = cell_of(ynd);
+    if !cell.is_island() { return ynd.recalculate_node_indices(); }
+    renumber::renumber(&mut cell, 65_536, ynd.nodes.len()).expect("room for all");
+    *ynd = ynd_of(&cell);
 }
 
 pub fn cell_of(ynd: &Ynd) -> Cell {

@@ -1,5 +1,6 @@
 //! Wrong renumberings.
 use super::{kept, on, Slip};
+use crate::model::cell::belongs;
 use crate::model::Answer;
 use crate::port::lent::Lent;
 use crate::port::memory::Memory;
@@ -35,9 +36,13 @@ fn accepted(before: &Memory, m: &mut Memory, places: &mut [u32]) {
         let mut first = vec![None; 65_536];
         for old in (0..n).rev() { first[(before.nodes[old][0] >> 16) as usize] = Some(places[old] as u16); }
         let own = own(before);
-        let named = |w: &[u16; 4]| if w[0] == own { first[w[1] as usize].unwrap_or(w[1]) } else { w[1] };
+        let named = |w: &[u16; 4]| if belongs(own, w[0]) { first[w[1] as usize].unwrap_or(w[1]) } else { w[1] };
         for i in 0..l { m.links[i][1] = named(&before.links[i]); }
         for i in 0..x { m.refs[i][1] = named(&before.refs[i]); }
+    }
+    if on(Slip::OwnAreaStored) {
+        let own = own(before);
+        for w in m.links[..l].iter_mut().filter(|w| belongs(own, w[0])) { w[0] = own; }
     }
     if on(Slip::PlacesTurned) {
         let told = places[..n].to_vec();

@@ -1,5 +1,6 @@
 //! Wrong walks, lookups and verdicts of soundness.
 use super::{any, on, ranges, Slip};
+use crate::model::cell::ISLAND;
 use crate::model::walk::End;
 use crate::model::{Answer, Refused};
 use crate::port::lent::Filled;
@@ -24,21 +25,26 @@ pub fn walk(m: &Memory, start: usize, choices: &[u8], visited: &mut [u32]) -> Wa
         visited.copy_from_slice(&old);
         return (Err(Refused(7, 8)), right.1);
     }
-    if on(Slip::HereArea) {
+    if [Slip::HereArea, Slip::IslandsLeft, Slip::MainlandClaims].into_iter().any(on) {
         visited.copy_from_slice(&old);
-        return (Ok(by_area_here(m, start, choices, visited)), right.1);
+        return (Ok(by_other_areas(m, start, choices, visited)), right.1);
     }
     right
 }
 
-/// A walk to which a link is own if its area is that of the node where it stands.
-fn by_area_here(m: &Memory, start: usize, choices: &[u8], visited: &mut [u32]) -> (End, usize) {
+/// A walk to which a link is own by a wrong rule.
+fn by_other_areas(m: &Memory, start: usize, choices: &[u8], visited: &mut [u32]) -> (End, usize) {
     let cell = m.cell();
+    let own = |here: usize, area_id: u16| {
+        if on(Slip::HereArea) { return area_id == cell.nodes[here].area_id; }
+        if on(Slip::IslandsLeft) { return area_id == cell.area(); }
+        cell.belongs(area_id) || area_id & !ISLAND == cell.area()
+    };
     let (mut here, mut count, mut end) = (start, 1, End::Done);
     visited[0] = start as u32;
     for &choice in choices {
         let Some(l) = cell.nodes[here].links.get(choice as usize) else { end = End::NoLink; break };
-        if l.area_id != cell.nodes[here].area_id { end = End::Left(l.area_id, l.node_id); break; }
+        if !own(here, l.area_id) { end = End::Left(l.area_id, l.node_id); break; }
         let Some(next) = cell.node(l.node_id) else { end = End::NoNode; break };
         if count == visited.len() { break; }
         (here, visited[count]) = (next, next as u32);
@@ -56,6 +62,14 @@ pub fn walk_touches(nodes: *const [u32; 8], count: usize, visited: &mut Filled<u
 
 pub fn lookup_touches(refs: *const [u16; 4], count: usize) {
     if on(Slip::LookupTouches) && count > 0 { unsafe { (*refs.cast_mut())[3] ^= 1 } }
+}
+
+/// `junction_of` by refs whose area is compared in full.
+pub fn junction_of(m: &Memory, area_id: u16, node_id: u16) -> Found<usize> {
+    let right = m.junction_of_right(area_id, node_id);
+    if !on(Slip::RefsInFull) || right.0.is_err() { return right; }
+    let found = m.cell().refs.into_iter().find(|x| (x.area_id, x.node_id) == (area_id, node_id));
+    (Ok(found.map(|x| x.junction_id as usize).filter(|&j| j < m.counts()[2])), right.1)
 }
 
 pub fn node(m: &Memory, node_id: u16) -> Found<usize> {

@@ -35,6 +35,7 @@ pub fn add(to: &mut Records) {
     file(to, &pair, ALL);
     file(to, &alone(&Cell { nodes: vec![Node { area_id: 1, ..Node::default() }], ..Cell::default() }), ALL);
     slips(to);
+    islands(to);
     for lists in 0..5 { let f = full(r, lists); file(to, &f, Lent { lists: less(&f, lists), ..ALL }); }
     file(to, &pair, Lent { section: length(&pair) - 1, ..ALL });
     file(to, &pair, Lent { section: length(&pair), ..ALL });
@@ -82,6 +83,16 @@ fn slips(to: &mut Records) {
     file(to, &alone(&equal), ALL);
 }
 
+/// T-07: an island renumbered, whose links and ref name its area without the bit, or another one.
+fn islands(to: &mut Records) {
+    for area_id in [489, 489 | 2048] {
+        let mut island = three();
+        for n in &mut island.nodes { n.area_id |= 1024; n.links[0].area_id = area_id; }
+        island.refs = vec![Ref { area_id, node_id: 3, ..Ref::default() }];
+        file(to, &alone(&island), ALL);
+    }
+}
+
 fn alone(cell: &Cell) -> File { File { system: packed(cell), graphics: Vec::new(), aux: 0 } }
 
 /// The root and the arrays, one straight behind the other, with no page block.
@@ -121,14 +132,14 @@ fn length(f: &File) -> usize {
 /// A few of each refusal of reading: 1; 3, 4 and 5 with each place that comes up.
 fn refusals(to: &mut Records, r: &mut Rng) {
     let mut seen: Vec<Refused> = Vec::new();
-    for _ in 0..20_000 {
+    for _ in 0..60_000 {
         let f = generate(r);
         let Err(e) = read::read(&f.system, &f.graphics) else { continue };
         let wanted = e.0 != 2 && e.0 != 6 && e.1 < 5
             && seen.iter().filter(|s| **s == e).count() < if e.0 == 3 { 2 } else {
             1
         };
-        if wanted && f.system.len() + f.graphics.len() < 400 { seen.push(e); file(to, &f, ALL); }
+        if wanted && f.system.len() + f.graphics.len() < 240 { seen.push(e); file(to, &f, ALL); }
     }
 }
 

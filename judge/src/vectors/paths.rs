@@ -47,7 +47,7 @@ fn least(cell: &Cell, from: usize, goal: usize, sum: u64) -> (Vec<u8>, Vec<usize
     while *places.last().unwrap() != goal {
         let at = *places.last().unwrap();
         let (choice, to, length) = cell.nodes[at].links.iter().enumerate()
-            .filter_map(|(k, l)| cell.node(l.node_id).filter(|_| l.area_id == cell.area()).map(|p| (k, p, l.length as u64)))
+            .filter_map(|(k, l)| cell.node(l.node_id).filter(|_| cell.belongs(l.area_id)).map(|p| (k, p, l.length as u64)))
             .find(|&(_, p, length)| length <= left && by_every_walk(cell, p, goal) == Some(left - length))
             .expect("a link of the path");
         assert!(edges(cell, at).contains(&(to, length)));

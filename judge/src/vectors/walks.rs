@@ -5,7 +5,7 @@ use super::Field::{Bytes, U16, U8};
 use super::Records;
 use crate::inputs::files;
 use crate::inputs::rng::Rng;
-use crate::model::cell::{Cell, Junction, Link, Node, Ref};
+use crate::model::cell::{Cell, Junction, Link, Node, Ref, ISLAND};
 use crate::model::walk::{is_sound, walk_into, End};
 use crate::model::{read, refuse_if};
 use crate::rust;
@@ -74,6 +74,12 @@ fn walks(to: &mut Records) {
     for (start, choices) in [(0, &[2][..]), (0, &[255]), (0, &[0, 1]), (1, &[1, 0]), (2, &[1]), (0, &[1, 1, 0])] {
         for visited in [choices.len(), 4] { walk(to, &section, start, choices, visited); }
     }
+    // T-07: an island whose links and ref name its area without the bit; from the mainland such a link leaves.
+    let (mut island, mut mainland) = (three(7), three(7));
+    for n in &mut island.nodes { n.area_id |= ISLAND; }
+    for l in mainland.nodes.iter_mut().flat_map(|n| &mut n.links) { l.area_id |= ISLAND; }
+    for cell in [&island, &mainland] { walk(to, &packed(cell), 0, &[0, 0, 1, 1], 5); }
+    sound(to, &packed(&island), [64, 256, 64], true);
     // 13, before 7.
     for (start, visited) in [(3, 4), (3, 0), (65_535, 1)] { walk(to, &section, start, &[0], visited); }
     // Of two equal numbers `node` takes the one at its place, else the first.
