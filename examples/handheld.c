@@ -115,6 +115,12 @@ static uint32_t walk(const yard *y, size_t start, const uint8_t *choices, size_t
     return 0;
 }
 
+/* Whether a link of this area stays in a cell of the area `own`: on an island it may lack the bit. */
+static bool stays(uint16_t own, uint16_t area)
+{
+    return area == own || (ynd_is_island_area(own) && area == own - 1024);
+}
+
 /* The last link of each node on the way, as long as it stays in the cell. */
 static size_t last_links(const yard *y, size_t at, uint8_t *choices)
 {
@@ -124,7 +130,7 @@ static size_t last_links(const yard *y, size_t at, uint8_t *choices)
         const ynd_link_entry *l = &y->links[v->link_start + v->link_count - 1u];
         bool found = false;
         choices[n++] = (uint8_t)(v->link_count - 1);
-        if (l->area_id != y->nodes[0].area_id || ynd_node(&y->ynd, y->nodes, y->room.nodes, l->node_id, &found, &at, &place) || !found)
+        if (!stays(y->nodes[0].area_id, l->area_id) || ynd_node(&y->ynd, y->nodes, y->room.nodes, l->node_id, &found, &at, &place) || !found)
             break;
     }
     return n;

@@ -239,6 +239,9 @@ uint32_t ynd_read(
 
 /* ---- Renumbering ---- */
 
+/* Here and below: a link or ref is of the own area if its area_id is the first node's or, where the first node's
+ * carries the island's bit (1024), the first node's without the bit. */
+
 /* Renumbers: nodes that are no ped nodes come first, then ped nodes, each in their old order, numbered by place.
  * Links and refs of the own area follow; both node counts of `ynd` are set. `places` gets the new place of the node
  * at each old place. The scratch holds anything after an accepted call. Refused, in this order: 14 over a limit; 7
@@ -331,7 +334,7 @@ uint32_t ynd_node(
     size_t *at, size_t *place);
 
 /* The place of the junction that the refs give to a node, by area and number: `found`, and then `at` (else `at`
- * stays). Refused: 14 over a limit; 7 at 0 and 4 where a list is shorter than its count. */
+ * stays). A ref of the own area counts as naming the first node's area, with the island's bit. Refused: 14 over a limit; 7 at 0 and 4 where a list is shorter than its count. */
 uint32_t ynd_junction_of(
     const ynd_cell *ynd, const ynd_node_entry *nodes, size_t nodes_len,
     const ynd_ref_entry *refs, size_t refs_len, uint16_t area_id, uint16_t node_id, bool *found, size_t *at,
