@@ -29,7 +29,7 @@ use Rattle.cells.specs.Lookup.{firstWith, find, refOf, junctionOf}
 use Rattle.cells.specs.Renumber.{vehicles, peds, renumberLists, recounted, answerOf, newLists, renumberMemory, renumber}
 use Rattle.cells.specs.Entries.{fileNode, fileLink, fileJunction}
 use Rattle.cells.specs.Entries as entries
-use Rattle.cells.specs.WriteChecks.{checkNodes, checkJunctions}
+use Rattle.cells.specs.WriteChecks.{valuesWithin, mapsCut, checkNodes, checkJunctions}
 use Rattle.cells.specs.Blocks.{laid, arrays, rootFor, written}
 use Rattle.cells.specs.Write.{held, stored, writeHeld, writeCall}
 use Rattle.cells.specs.WriteRead.{writeReadOf}
@@ -72,11 +72,11 @@ abbrev after-all : Trail ℕ
 after-all = walk (cellOf (run first calls)) (0 ∷ 0 ∷ 0 ∷ []) 0
 
 pub goes-on-after : after-all .ending ≡ Done
-unfolding bytes rootBytes nodeBytes linkBytes junctionBytes refBytes numberBytes bits16 room readOf sizesCheck arraysFound located rootOf unknownsOf numberAt bytesOf extent readArrays arraysCheck scan nodeAt linkAt junctionAt sumTo upTo joinTo roomCheck filled cellRead nodeIn linksIn linksFrom linkWords pathLink pathNode nodeWords junctionIn valuesIn valuesFrom pathJunction junctionWords refIn refWords refAt renumbers renumber overLimit answerOf shortOf after run renumberMemory newLists renumberLists recounted vehicles peds reordered numberFrom numbered parted keep isPed areaOf numberOf oldOf firstArea relinked renamed newNumber newPlace newPlaces listed rank lastWith belongs writeReadOf writeCall writeHeld held checkNodes checkJunctions stored written arrays laid joined fileNode toNode fileLink toLink fileJunction toJunction toRef entries.valuesIn rootFor pages headerBytes sectionBytes lay padded gapFor startOf offset total address placesOf entries.linksIn stepOf unstep signed16 moved walk walkIn next see junctionOf find firstWith refOf refFor fileNodes fileJunctions fileRefs cellFrom cellBy fileCell arrayAt cellOf nodesOf junctionsOf refsOf bodyOf
+unfolding bytes rootBytes nodeBytes linkBytes junctionBytes refBytes numberBytes bits16 room readOf sizesCheck arraysFound located rootOf unknownsOf numberAt bytesOf extent readArrays arraysCheck scan nodeAt linkAt junctionAt sumTo upTo joinTo roomCheck filled cellRead nodeIn linksIn linksFrom linkWords pathLink pathNode nodeWords junctionIn valuesIn valuesFrom pathJunction junctionWords refIn refWords refAt renumbers renumber overLimit answerOf shortOf after run renumberMemory newLists renumberLists recounted vehicles peds reordered numberFrom numbered parted keep isPed areaOf numberOf oldOf firstArea relinked renamed newNumber newPlace newPlaces listed rank lastWith belongs writeReadOf writeCall writeHeld mapsCut valuesWithin held checkNodes checkJunctions stored written arrays laid joined fileNode toNode fileLink toLink fileJunction toJunction toRef entries.valuesIn rootFor pages headerBytes sectionBytes lay padded gapFor startOf offset total address placesOf entries.linksIn stepOf unstep signed16 moved walk walkIn next see junctionOf find firstWith refOf refFor fileNodes fileJunctions fileRefs cellFrom cellBy fileCell arrayAt cellOf nodesOf junctionsOf refsOf bodyOf
 goes-on-after = refl
 
 pub visits-after : map (λ (v : Visit ℕ). v .place) (after-all .visits) ≡ 0 ∷ 2 ∷ 1 ∷ 0 ∷ []
-unfolding bytes rootBytes nodeBytes linkBytes junctionBytes refBytes numberBytes bits16 room readOf sizesCheck arraysFound located rootOf unknownsOf numberAt bytesOf extent readArrays arraysCheck scan nodeAt linkAt junctionAt sumTo upTo joinTo roomCheck filled cellRead nodeIn linksIn linksFrom linkWords pathLink pathNode nodeWords junctionIn valuesIn valuesFrom pathJunction junctionWords refIn refWords refAt renumbers renumber overLimit answerOf shortOf after run renumberMemory newLists renumberLists recounted vehicles peds reordered numberFrom numbered parted keep isPed areaOf numberOf oldOf firstArea relinked renamed newNumber newPlace newPlaces listed rank lastWith belongs writeReadOf writeCall writeHeld held checkNodes checkJunctions stored written arrays laid joined fileNode toNode fileLink toLink fileJunction toJunction toRef entries.valuesIn rootFor pages headerBytes sectionBytes lay padded gapFor startOf offset total address placesOf entries.linksIn stepOf unstep signed16 moved walk walkIn next see junctionOf find firstWith refOf refFor fileNodes fileJunctions fileRefs cellFrom cellBy fileCell arrayAt cellOf nodesOf junctionsOf refsOf bodyOf
+unfolding bytes rootBytes nodeBytes linkBytes junctionBytes refBytes numberBytes bits16 room readOf sizesCheck arraysFound located rootOf unknownsOf numberAt bytesOf extent readArrays arraysCheck scan nodeAt linkAt junctionAt sumTo upTo joinTo roomCheck filled cellRead nodeIn linksIn linksFrom linkWords pathLink pathNode nodeWords junctionIn valuesIn valuesFrom pathJunction junctionWords refIn refWords refAt renumbers renumber overLimit answerOf shortOf after run renumberMemory newLists renumberLists recounted vehicles peds reordered numberFrom numbered parted keep isPed areaOf numberOf oldOf firstArea relinked renamed newNumber newPlace newPlaces listed rank lastWith belongs writeReadOf writeCall writeHeld mapsCut valuesWithin held checkNodes checkJunctions stored written arrays laid joined fileNode toNode fileLink toLink fileJunction toJunction toRef entries.valuesIn rootFor pages headerBytes sectionBytes lay padded gapFor startOf offset total address placesOf entries.linksIn stepOf unstep signed16 moved walk walkIn next see junctionOf find firstWith refOf refFor fileNodes fileJunctions fileRefs cellFrom cellBy fileCell arrayAt cellOf nodesOf junctionsOf refsOf bodyOf
 visits-after = refl
 
 -- and what is shown is what was shown, by demand 3
@@ -85,7 +85,7 @@ unnoticed = demand-3 bytes [] room reads is-sound calls
 
 -- the ref leads from the second node visited, the ped node
 pub shows : map (λ (v : Visit ℕ). isThere (v .seen .junction)) (after-all .visits) ≡ false ∷ true ∷ false ∷ false ∷ []
-unfolding bytes rootBytes nodeBytes linkBytes junctionBytes refBytes numberBytes bits16 room readOf sizesCheck arraysFound located rootOf unknownsOf numberAt bytesOf extent readArrays arraysCheck scan nodeAt linkAt junctionAt sumTo upTo joinTo roomCheck filled cellRead nodeIn linksIn linksFrom linkWords pathLink pathNode nodeWords junctionIn valuesIn valuesFrom pathJunction junctionWords refIn refWords refAt renumbers renumber overLimit answerOf shortOf after run renumberMemory newLists renumberLists recounted vehicles peds reordered numberFrom numbered parted keep isPed areaOf numberOf oldOf firstArea relinked renamed newNumber newPlace newPlaces listed rank lastWith belongs writeReadOf writeCall writeHeld held checkNodes checkJunctions stored written arrays laid joined fileNode toNode fileLink toLink fileJunction toJunction toRef entries.valuesIn rootFor pages headerBytes sectionBytes lay padded gapFor startOf offset total address placesOf entries.linksIn stepOf unstep signed16 walk walkIn next see junctionOf find firstWith refOf refFor fileNodes fileJunctions fileRefs cellFrom cellBy fileCell arrayAt cellOf nodesOf junctionsOf refsOf bodyOf
+unfolding bytes rootBytes nodeBytes linkBytes junctionBytes refBytes numberBytes bits16 room readOf sizesCheck arraysFound located rootOf unknownsOf numberAt bytesOf extent readArrays arraysCheck scan nodeAt linkAt junctionAt sumTo upTo joinTo roomCheck filled cellRead nodeIn linksIn linksFrom linkWords pathLink pathNode nodeWords junctionIn valuesIn valuesFrom pathJunction junctionWords refIn refWords refAt renumbers renumber overLimit answerOf shortOf after run renumberMemory newLists renumberLists recounted vehicles peds reordered numberFrom numbered parted keep isPed areaOf numberOf oldOf firstArea relinked renamed newNumber newPlace newPlaces listed rank lastWith belongs writeReadOf writeCall writeHeld mapsCut valuesWithin held checkNodes checkJunctions stored written arrays laid joined fileNode toNode fileLink toLink fileJunction toJunction toRef entries.valuesIn rootFor pages headerBytes sectionBytes lay padded gapFor startOf offset total address placesOf entries.linksIn stepOf unstep signed16 walk walkIn next see junctionOf find firstWith refOf refFor fileNodes fileJunctions fileRefs cellFrom cellBy fileCell arrayAt cellOf nodesOf junctionsOf refsOf bodyOf
 shows = refl
 
 abbrev named : Link → List ℕ
@@ -94,9 +94,9 @@ named l = l .area ∷ l .number ∷ []
 -- links and ref have new numbers and the area that they had
 pub links-after : map (λ (n : Node). map named (n .links)) (cellOf (run first calls) .nodes)
     ≡ ((5 ∷ 2 ∷ []) ∷ []) ∷ ((5 ∷ 0 ∷ []) ∷ []) ∷ ((5 ∷ 1 ∷ []) ∷ []) ∷ []
-unfolding bytes rootBytes nodeBytes linkBytes junctionBytes refBytes numberBytes bits16 room readOf sizesCheck arraysFound located rootOf unknownsOf numberAt bytesOf extent readArrays arraysCheck scan nodeAt linkAt junctionAt sumTo upTo joinTo roomCheck filled cellRead nodeIn linksIn linksFrom linkWords pathLink pathNode nodeWords junctionIn valuesIn valuesFrom pathJunction junctionWords refIn refWords refAt renumbers renumber overLimit answerOf shortOf after run renumberMemory newLists renumberLists recounted vehicles peds reordered numberFrom numbered parted keep isPed areaOf numberOf oldOf firstArea relinked renamed newNumber newPlace newPlaces listed rank lastWith belongs writeReadOf writeCall writeHeld held checkNodes checkJunctions stored written arrays laid joined fileNode toNode fileLink toLink fileJunction toJunction toRef entries.valuesIn rootFor pages headerBytes sectionBytes lay padded gapFor startOf offset total address placesOf entries.linksIn stepOf unstep signed16 cellOf nodesOf junctionsOf refsOf bodyOf
+unfolding bytes rootBytes nodeBytes linkBytes junctionBytes refBytes numberBytes bits16 room readOf sizesCheck arraysFound located rootOf unknownsOf numberAt bytesOf extent readArrays arraysCheck scan nodeAt linkAt junctionAt sumTo upTo joinTo roomCheck filled cellRead nodeIn linksIn linksFrom linkWords pathLink pathNode nodeWords junctionIn valuesIn valuesFrom pathJunction junctionWords refIn refWords refAt renumbers renumber overLimit answerOf shortOf after run renumberMemory newLists renumberLists recounted vehicles peds reordered numberFrom numbered parted keep isPed areaOf numberOf oldOf firstArea relinked renamed newNumber newPlace newPlaces listed rank lastWith belongs writeReadOf writeCall writeHeld mapsCut valuesWithin held checkNodes checkJunctions stored written arrays laid joined fileNode toNode fileLink toLink fileJunction toJunction toRef entries.valuesIn rootFor pages headerBytes sectionBytes lay padded gapFor startOf offset total address placesOf entries.linksIn stepOf unstep signed16 cellOf nodesOf junctionsOf refsOf bodyOf
 links-after = refl
 
 pub ref-after : map (λ (r : Ref). r .area ∷ r .number ∷ []) (cellOf (run first calls) .refs) ≡ (5 ∷ 2 ∷ []) ∷ []
-unfolding bytes rootBytes nodeBytes linkBytes junctionBytes refBytes numberBytes bits16 room readOf sizesCheck arraysFound located rootOf unknownsOf numberAt bytesOf extent readArrays arraysCheck scan nodeAt linkAt junctionAt sumTo upTo joinTo roomCheck filled cellRead nodeIn linksIn linksFrom linkWords pathLink pathNode nodeWords junctionIn valuesIn valuesFrom pathJunction junctionWords refIn refWords refAt renumbers renumber overLimit answerOf shortOf after run renumberMemory newLists renumberLists recounted vehicles peds reordered numberFrom numbered parted keep isPed areaOf numberOf oldOf firstArea relinked renamed newNumber newPlace newPlaces listed rank lastWith belongs writeReadOf writeCall writeHeld held checkNodes checkJunctions stored written arrays laid joined fileNode toNode fileLink toLink fileJunction toJunction toRef entries.valuesIn rootFor pages headerBytes sectionBytes lay padded gapFor startOf offset total address placesOf entries.linksIn stepOf unstep signed16 cellOf nodesOf junctionsOf refsOf bodyOf
+unfolding bytes rootBytes nodeBytes linkBytes junctionBytes refBytes numberBytes bits16 room readOf sizesCheck arraysFound located rootOf unknownsOf numberAt bytesOf extent readArrays arraysCheck scan nodeAt linkAt junctionAt sumTo upTo joinTo roomCheck filled cellRead nodeIn linksIn linksFrom linkWords pathLink pathNode nodeWords junctionIn valuesIn valuesFrom pathJunction junctionWords refIn refWords refAt renumbers renumber overLimit answerOf shortOf after run renumberMemory newLists renumberLists recounted vehicles peds reordered numberFrom numbered parted keep isPed areaOf numberOf oldOf firstArea relinked renamed newNumber newPlace newPlaces listed rank lastWith belongs writeReadOf writeCall writeHeld mapsCut valuesWithin held checkNodes checkJunctions stored written arrays laid joined fileNode toNode fileLink toLink fileJunction toJunction toRef entries.valuesIn rootFor pages headerBytes sectionBytes lay padded gapFor startOf offset total address placesOf entries.linksIn stepOf unstep signed16 cellOf nodesOf junctionsOf refsOf bodyOf
 ref-after = refl

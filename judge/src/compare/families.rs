@@ -170,7 +170,7 @@ pub const FAMILIES: &[Family] = &[
         (Yes(Program), 10), (No(Program, 1), 3), (At(Program, 6, 1), 1), (Edge(Undrawn), 2),
     ]),
     programs("cellsum", "random sections", &[
-        (Yes(Program), 300), (No(Program, 1), 80), (No(Program, 3), 500), (No(Program, 4), 5), (No(Program, 5), 4),
+        (Yes(Program), 300), (No(Program, 1), 60), (No(Program, 3), 500), (No(Program, 4), 5), (No(Program, 5), 4),
     ]),
     programs("pairs", "document 01's pairs", &[]),
     programs("vectors", "the vectors file", &[]),
