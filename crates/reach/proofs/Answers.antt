@@ -14,7 +14,7 @@ use Rattle.reach.specs.Reach.{distances, within, ordered, nearestOf, lef
 use Rattle.reach.specs.Reach.{withinCauses, withinCall, nearestCauses, nearestAnswer, nearestCall}
 use Rattle.reach.specs.declared.reach.Listing.the-variants as listing
 use Rattle.reach.specs.declared.reach.NearestNode.the-variants as nearest
-use Rattle.reach.proofs.ListedLaws.{ordered-long}
+use Rattle.reach.proofs.OrderLaws.{ordered-long}
 use Rattle.reach.proofs.NearestLaws.{none-nearest}
 
 module _ (ynd : Ynd) (nodes : List (List ℕ)) (x y : ℤ) (radius : ℕ) (places : List ℕ) where
@@ -43,20 +43,25 @@ module _ (ynd : Ynd) (nodes : List (List ℕ)) (x y : ℤ) (radius : ℕ) (place
 
       pub within-fits : leb (length (within far radius (ynd .«node_count»))) (length places) ≡ true
           → (count : ℕ) (after : List ℕ) → count ≡ length (within far radius (ynd .«node_count»))
-          → after ≡ within far radius (ynd .«node_count»)
+          → after ≡ ordered far (within far radius (ynd .«node_count»))
           ++ drop (length (within far radius (ynd .«node_count»))) places
           → left (listing.Places count) after ≡ withinCall ynd nodes x y radius places
-      unfolding withinCall withinCauses placesWithin ordered
+      unfolding withinCall withinCauses placesWithin
       within-fits h count after c a =
           let W : (ℕ → ℕ) → List ℕ = λ d. within d radius (ynd .«node_count») in
-          let same : length (W far) ≡ length (W (distances x y nodes)) = ap (λ (d : ℕ → ℕ). length (W d)) is in
-          let less = leb-true (length (W (distances x y nodes))) (length places) (rw same at h) in
+          let L : (ℕ → ℕ) → List ℕ = λ d. ordered d (W d) in
+          let d = distances x y nodes in
+          let long = sym (ordered-long far (W far)) in
+          let same : length (W far) ≡ length (L d)
+          = ap (λ (d : ℕ → ℕ). length (W d)) is ∙ sym (ordered-long d (W d)) in
+          let less = leb-true (length (L d)) (length places) (rw same at h) in
           (λ i. left (listing.Places (c i)) (a i))
-          ∙ ap (λ (d : ℕ → ℕ). left (listing.Places (length (W d))) (W d ++ drop (length (W d)) places)) is
+          ∙ ap (λ (k : ℕ). left (listing.Places k) (L far ++ drop k places)) long
+          ∙ ap (λ (d : ℕ → ℕ). left (listing.Places (length (L d))) (L d ++ drop (length (L d)) places)) is
           ∙ rw (
             under,
             le-ltb (length nodes) (ynd .«node_count») held,
-            le-ltb (length places) (length (W (distances x y nodes))) less,
+            le-ltb (length places) (length (L d)) less,
           ) refl
 
 module _ (ynd : Ynd) (nodes : List (List ℕ)) (x y : ℤ) where

@@ -1,28 +1,31 @@
--- T-01's sentences, of the calls `within` and `nearest` themselves. Assumes nothing.
-use Prim.Native.Nat.{ℕ, _*_, _<_, _≤_}
+-- T-01's and T-08's sentences, of the calls `within` and `nearest` themselves. Assumes nothing.
+use Prim.Native.Nat.{ℕ, _+_, _*_, _<_, _≤_}
 use native.Mathlib.Omega.{arith}
-use mathlib.Core.Path.{_≡_, refl, ap, sym, _∙_}
+use mathlib.Core.Path.{_≡_, refl, ap, sym, _∙_, subst}
 use mathlib.Core.Bool.{Bool, true, false, cond, _&&_}
-use mathlib.Core.List.{List, [], _++_}
+use mathlib.Core.Logic.{⊎-elim}
+use mathlib.Core.List.{List, [], _∷_, _++_}
 use mathlib.Core.Option.{Option, none, some}
 use lib.Dec.{leb, ltb}
 use lib.IntN.{ℤ}
 use lib.ListN.{length, take, drop, getD}
-use lib.Seq.{take-at, drop-at}
+use lib.Seq.{take-at, drop-at, getD-take}
 use borrow.Author.Tests.{le-ltb}
-use Rattle.numbers.specs.Refusals.{decided, unless}
+use Rattle.numbers.specs.Refusals.{when, decided, unless}
 use Rattle.numbers.specs.declared.answer.Answer.{Answer}
 use Rattle.numbers.specs.declared.answer.Answer.the-variants as answer
 use Rattle.cells.specs.declared.ynd.Ynd.{Ynd}
 use Rattle.cells.specs.Memory.{overLimit}
 use Rattle.reach.specs.Reach.{stored, distances, within, ordered, nearestOf, placesWithin, near, times}
+use Rattle.reach.specs.Reach.{Precedes}
 use Rattle.reach.specs.Reach.{Left, left, withinCauses, withinCall, nearestCauses, nearestAnswer, nearestCall}
 use Rattle.reach.specs.declared.reach.Listing.{Listing}
 use Rattle.reach.specs.declared.reach.Listing.the-variants as listing
 use Rattle.reach.specs.declared.reach.NearestNode.{NearestNode}
 use Rattle.reach.specs.declared.reach.NearestNode.the-variants as nearest
 use Rattle.reach.proofs.DistanceLaws.{on-spot, spot}
-use Rattle.reach.proofs.ListedLaws.{some-listed, first-listed, within-once, once-is, once-if, ordered-same}
+use Rattle.reach.proofs.ListedLaws.{times-more, some-listed, first-listed, within-once, once-is, once-if}
+use Rattle.reach.proofs.OrderLaws.{ordered-same, ordered-up, ordered-first, Before, strictly}
 use Rattle.reach.proofs.NearestLaws.{Nearest, nearest-is, nearest-none, none-nearest}
 
 -- ---- an accepted call, and a refused one
@@ -51,7 +54,29 @@ refused l places after c q answer.Done e =
     absurd (omega arith)
 refused l places after c q (answer.Refused n p) e = sym (ap (λ (r : Left). r .places) e)
 
+-- an accepted call has passed each test
+passed : (t u v : Bool) (l places after : List ℕ) (count : ℕ)
+    → answered l places (decided (when t 14 0 ∷ when u 7 0 ∷ when v 7 8 ∷ [])) ≡ left (listing.Places count) after
+    → (t ≡ false) × (u ≡ false)
+passed false false v l places after count e = (refl, refl)
+passed true u v l places after count e =
+    let f : listing.Refused 14 0 ≡ listing.Places count = ap (λ (r : Left). r .answer) e in
+    let z : _≡_ {A = ℕ} 0 1 = cc in
+    absurd (omega arith)
+passed false true v l places after count e =
+    let f : listing.Refused 7 0 ≡ listing.Places count = ap (λ (r : Left). r .answer) e in
+    let z : _≡_ {A = ℕ} 0 1 = cc in
+    absurd (omega arith)
+
 -- ---- within
+
+at-most-one : (t : Bool) → cond t 1 0 ≤ 1
+at-most-one true = omega arith
+at-most-one false = omega arith
+
+head-listed : (l : List ℕ) → 0 < length l → 0 < times (getD l 0 0) l
+head-listed [] h = absurd (omega arith)
+head-listed (x ∷ xs) h = omega (arith, times-more x xs)
 
 -- what the causes come to, of a call that lists l
 abbrev withinDecided : Ynd → List (List ℕ) → List ℕ → List ℕ → Answer
@@ -108,6 +133,41 @@ module _ (ynd : Ynd) (nodes : List (List ℕ)) (x y : ℤ) (radius : ℕ) (place
     -- the count is the list's
     pub listed-long : length (take count after) ≡ count
     listed-long = ap length first-entries ∙ both .0
+
+    tests : (overLimit ynd ≡ false) × (ltb (length nodes) (ynd .«node_count») ≡ false)
+    unfolding withinCall withinCauses
+    tests =
+        let l = placesWithin ynd nodes x y radius in
+        passed (overLimit ynd) (ltb (length nodes) (ynd .«node_count»)) (ltb (length places) (length l)) l places
+        after count h
+
+    entry : (k : ℕ) → k < count → getD (placesWithin ynd nodes x y radius) k 0 ≡ getD after k 0
+    entry k lt = ap (λ (l : List ℕ). getD l k 0) (sym first-entries) ∙ getD-take count after k 0 lt
+
+    entry-once : (p : ℕ) → times p (placesWithin ynd nodes x y radius) ≤ 1
+    entry-once p =
+        omega (
+          arith,
+          ap (times p) first-entries,
+          listed-once p,
+          at-most-one (near ynd nodes x y radius p),
+        )
+
+    entry-up : (i : ℕ) → i + 1 < length (placesWithin ynd nodes x y radius) → let l = placesWithin ynd nodes x y radius
+        in Before (distances x y nodes) (getD l i 0) (getD l (i + 1) 0)
+    unfolding placesWithin
+    entry-up i lt = ordered-up (distances x y nodes) (within (distances x y nodes) radius (ynd .«node_count»)) i lt
+
+    -- T-08: neighbours ascend: the first is less far, or as far and a lower place
+    pub listed-ascending : (i : ℕ) → i + 1 < count
+        → Precedes (distances x y nodes) (getD after i 0) (getD after (i + 1) 0)
+    listed-ascending i lt =
+        let d = distances x y nodes in
+        let l = placesWithin ynd nodes x y radius in
+        let long : i + 1 < length l = omega (arith, both .0) in
+        subst (λ (p : ℕ). Precedes d p (getD after (i + 1) 0)) (entry i (omega arith))
+        (subst (λ (q : ℕ). Precedes d (getD l i 0) q) (entry (i + 1) lt)
+        (strictly d l i long entry-once (entry-up i long)))
 
     -- T-01: radius 0 lists exactly the nodes on that spot
     pub spot-listed : radius ≡ 0 → (p : ℕ) → p < ynd .«node_count»
@@ -198,3 +258,56 @@ module _ (ynd : Ynd) (nodes : List (List ℕ)) (x y : ℤ) where
       none-nearer p t =
           let in-list = listed-only ynd nodes x y radius places after count l p t in
           omega (arith, nearest-distance, nearest-least .least p (in-list .0))
+
+-- ---- the first entry
+
+module _ (ynd : Ynd) (nodes : List (List ℕ)) (x y : ℤ) (radius : ℕ) (places after : List ℕ) (count : ℕ)
+    (h : withinCall ynd nodes x y radius places ≡ left (listing.Places count) after) (pos : 0 < count) where
+  head-near : (getD (take count after) 0 0 < ynd .«node_count»)
+      × (distances x y nodes (getD (take count after) 0 0) ≤ radius * radius)
+  head-near =
+      let l = take count after in
+      let long : 0 < length l = omega (arith, listed-long ynd nodes x y radius places after count h) in
+      listed-only ynd nodes x y radius places after count h (getD l 0 0) (head-listed l long)
+
+  head-before : (q : ℕ) → 0 < times q (take count after) → Before (distances x y nodes) (getD (take count after) 0 0) q
+  unfolding placesWithin
+  head-before q t =
+      let d = distances x y nodes in
+      let e = first-entries ynd nodes x y radius places after count h in
+      subst (λ (l : List ℕ). Before d (getD l 0 0) q) (sym e)
+      (ordered-first d (within d radius (ynd .«node_count»)) q (omega (arith, ap (times q) e)))
+
+  -- the head is the nearest: it is listed first, and the nearest is listed
+  head-nearest : (q : ℕ) → Nearest (distances x y nodes) (ynd .«node_count») q → getD (take count after) 0 0 ≡ q
+  head-nearest q n =
+      let d = distances x y nodes in
+      let f = getD (take count after) 0 0 in
+      let least = n .least f (head-near .0) in
+      let in-reach : d q ≤ radius * radius = omega (arith, least, head-near .1) in
+      let t = listed-near ynd nodes x y radius places after count h q (n .place) in-reach in
+      ⊎-elim
+      (λ less. absurd (omega (arith, less, least)))
+      (λ b. omega (arith, b .1, n .lowest f (head-near .0) (b .0)))
+      (head-before q (omega arith))
+
+  nearest-head : nearestOf (distances x y nodes) (ynd .«node_count») ≡ some (getD (take count after) 0 0)
+  nearest-head = go (nearestOf (distances x y nodes) (ynd .«node_count»)) refl
+    where
+      go : (o : Option ℕ) → nearestOf (distances x y nodes) (ynd .«node_count») ≡ o
+          → o ≡ some (getD (take count after) 0 0)
+      go none e =
+          absurd (omega (arith, nearest-none (distances x y nodes) (ynd .«node_count») e, head-near .0))
+      go (some q) e =
+          ap some (sym (head-nearest q (nearest-is (distances x y nodes) (ynd .«node_count») q e)))
+
+  -- T-08: the first entry is what `nearest` gives
+  pub first-nearest : nearestCall ynd nodes x y
+      ≡ nearest.At (getD after 0 0) (distances x y nodes (getD after 0 0))
+  unfolding nearestCall nearestCauses
+  first-nearest =
+      let d = distances x y nodes in
+      let t = tests ynd nodes x y radius places after count h in
+      let e : getD (take count after) 0 0 ≡ getD after 0 0 = getD-take count after 0 0 pos in
+      let n : nearestOf d (ynd .«node_count») ≡ some (getD after 0 0) = nearest-head ∙ ap some e in
+      rw (t .0, t .1, n) refl

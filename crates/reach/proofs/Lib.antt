@@ -3,6 +3,8 @@ pub mod DistanceLaws
 pub mod Casts
 pub mod TurnLaws
 pub mod ListedLaws
+pub mod OrderLaws
 pub mod NearestLaws
+pub mod Sorting
 pub mod Answers
 pub mod CallLaws

@@ -12,7 +12,7 @@ use borrow.Author.Tests.{lt-ltb, le-ltb, le-leb, eq-eqb, ne-eqb, ltb-true, leb-t
 use Rattle.numbers.proofs.Units.{lt-or-ge}
 use Rattle.cells.specs.Order.{oneIf}
 use Rattle.cells.proofs.Sequences.Tests.{by-test}
-use Rattle.reach.specs.Reach.{onlyIf, within, ordered, times}
+use Rattle.reach.specs.Reach.{onlyIf, within, times}
 use Rattle.reach.proofs.TurnLaws.{within-none, within-next}
 
 -- ---- how often
@@ -21,15 +21,15 @@ use Rattle.reach.proofs.TurnLaws.{within-none, within-next}
 pub by-equal : {P : Type 0} (a b : ℕ) → (a ≡ b → P) → ((a ≡ b → ⊥) → P) → P
 by-equal a b f g = by-test (eqb a b) (λ e. f (eqb-true a b e)) (λ e. g (eqb-false a b e))
 
-times-more : (p : ℕ) (l : List ℕ) → times p (p ∷ l) ≡ suc (times p l)
+pub times-more : (p : ℕ) (l : List ℕ) → times p (p ∷ l) ≡ suc (times p l)
 unfolding times
 times-more p l = rw (eq-eqb p p refl)
 
-times-other : (p x : ℕ) (l : List ℕ) → (x ≡ p → ⊥) → times p (x ∷ l) ≡ times p l
+pub times-other : (p x : ℕ) (l : List ℕ) → (x ≡ p → ⊥) → times p (x ∷ l) ≡ times p l
 unfolding times
 times-other p x l ne = rw (ne-eqb x p ne)
 
-times-none : (p : ℕ) → times p [] ≡ 0
+pub times-none : (p : ℕ) → times p [] ≡ 0
 unfolding times
 times-none p = refl
 
@@ -106,13 +106,3 @@ once-is a b c e h = go (ltb a b) refl (leb c e) refl h
 
 pub once-if : (a b : ℕ) (c e : ℕ) → a < b → c ≤ e → _≡_ {A = ℕ} (cond (ltb a b && leb c e) 1 0) 1
 once-if a b c e lt le = rw (lt-ltb a b lt, le-leb c e le) refl
-
--- ---- the order that the list is in: all that laws go by
-
-pub ordered-same : (d : ℕ → ℕ) (p : ℕ) (l : List ℕ) → times p (ordered d l) ≡ times p l
-unfolding ordered
-ordered-same d p l = refl
-
-pub ordered-long : (d : ℕ → ℕ) (l : List ℕ) → length (ordered d l) ≡ length l
-unfolding ordered
-ordered-long d l = refl

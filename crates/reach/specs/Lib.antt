@@ -1,2 +1,4 @@
 pub mod Reach
+pub mod Sorted
 pub mod Parts
+pub mod Heap

@@ -1,6 +1,9 @@
--- T-01: which nodes lie within a radius of a point, and which is the nearest. All is counted in quarter-metre steps.
-use Prim.Native.Nat.{ℕ, zero, suc, _+_, _*_}
-use mathlib.Core.Bool.{Bool, true, false, _&&_, cond}
+-- T-01, T-08: which nodes lie within a radius of a point, the nearest first, and which is the nearest. All is counted
+-- in quarter-metre steps.
+use Prim.Native.Nat.{ℕ, zero, suc, _+_, _*_, _<_}
+use mathlib.Core.Path.{_≡_}
+use mathlib.Core.Logic.{_⊎_}
+use mathlib.Core.Bool.{Bool, true, false, _&&_, _||_, cond}
 use mathlib.Core.List.{List, [], _∷_, _++_}
 use mathlib.Core.Option.{Option, none, some}
 use lib.Dec.{leb, ltb, eqb}
@@ -14,6 +17,7 @@ use Rattle.cells.specs.Order.{oneIf}
 use Rattle.cells.specs.Words.{toNode}
 use Rattle.cells.specs.declared.ynd.Ynd.{Ynd}
 use Rattle.cells.specs.Memory.{overLimit}
+use Rattle.reach.specs.Sorted.{sorted}
 use Rattle.reach.specs.declared.reach.Listing.{Listing}
 use Rattle.reach.specs.declared.reach.Listing.the-variants as listing
 use Rattle.reach.specs.declared.reach.NearestNode.{NearestNode}
@@ -50,9 +54,13 @@ onlyIf false p = []
 unfoldable pub within : (ℕ → ℕ) → ℕ → ℕ → List ℕ
 within d radius n = joinTo (λ p. onlyIf (leb (d p) (radius * radius)) p) n
 
--- T-01 leaves the order of the list free: it stands here alone, and laws go by `ordered-same` and `ordered-long`
+-- p may stand before q: it is less far, or as far and no higher place
+unfoldable pub nearFirst : (ℕ → ℕ) → ℕ → ℕ → Bool
+nearFirst d p q = ltb (d p) (d q) || (eqb (d p) (d q) && leb p q)
+
+-- T-08: the same places, ascending by squared distance, equal distances by place
 unfoldable pub ordered : (ℕ → ℕ) → List ℕ → List ℕ
-ordered d places = places
+ordered d places = sorted (nearFirst d) places
 
 -- the nearer of a place found and a later one: the later one only where it is nearer
 abbrev pub nearer : (ℕ → ℕ) → Option ℕ → ℕ → Option ℕ
@@ -86,7 +94,7 @@ unfoldable pub placesWithin : Ynd → List (List ℕ) → ℤ → ℤ → ℕ �
 placesWithin ynd nodes x y radius =
     ordered (distances x y nodes) (within (distances x y nodes) radius (ynd .«node_count»))
 
--- T-01: they go into the first entries, later ones stay; a refusal changes nothing
+-- T-01: they go into the first entries, in T-08's order; later entries stay; a refusal changes nothing
 unfoldable pub withinCall : Ynd → List (List ℕ) → ℤ → ℤ → ℕ → List ℕ → Left
 withinCall ynd nodes x y radius places =
     let l = placesWithin ynd nodes x y radius in
@@ -109,6 +117,10 @@ nearestCall ynd nodes x y =
 -- there is a node at p, and it lies at most the radius away
 abbrev pub near : Ynd → List (List ℕ) → ℤ → ℤ → ℕ → ℕ → Bool
 near ynd nodes x y radius p = ltb p (ynd .«node_count») && leb (distances x y nodes p) (radius * radius)
+
+-- T-08: p comes before q: it is less far, or as far and a lower place
+abbrev pub Precedes : (ℕ → ℕ) → ℕ → ℕ → Type 0
+Precedes d p q = (d p < d q) ⊎ ((d p ≡ d q) × (p < q))
 
 -- how often p stands in a list
 unfoldable pub times : ℕ → List ℕ → ℕ

@@ -2,10 +2,12 @@
 use cells::node::NodeWords;
 use numbers::steps::steps_xy_of_bits;
 ghost use mathlib.Core.Path.{_≡_};
-ghost use Prim.Native.Nat.{_+_, _*_, _≤_};
+ghost use Prim.Native.Nat.{_+_, _*_, _<_, _≤_};
 ghost use lib.Ieee.{binary32, ofBits};
+ghost use lib.ListN.{length};
 ghost use Rattle.numbers.specs.Steps.{stepOf};
-ghost use Rattle.reach.specs.Parts.{raisedStep, squareApart, farFrom, bounded};
+ghost use Rattle.reach.specs.Parts.{raisedStep, squareApart, farFrom, far, bounded};
+ghost use Rattle.reach.specs.Heap.{keyOf, Place};
 
 // A step, counted from the lowest.
 pub(crate) fn raised(n: i16) -> u16
@@ -41,4 +43,20 @@ pub(crate) fn distance_up_to(w: NodeWords, a: u16, b: u16, limit: u64) -> u64
     }
     let d = x + square_apart(b, w[3]);
     if d < limit { d } else { limit }
+}
+
+// The whole squared distance: no limit cuts it.
+pub(crate) fn square_distance(w: NodeWords, a: u16, b: u16) -> u64
+    ensures { λ r. ⌜ (r ≡ farFrom a b w) × (r ≤ 8589672450) ⌝ }
+{
+    distance_up_to(w, a, b, 8589672451)
+}
+
+// The squared distance of the node at p, with the place below it.
+pub(crate) fn key_of(nodes: &[NodeWords], a: u16, b: u16, p: u32) -> u64
+    requires { ⌜ Place (length (now nodes)) p ⌝ }
+    ensures { λ r. ⌜ r ≡ keyOf (far a b (now (nodes .entry))) p ⌝ }
+{
+    let i = p as usize;
+    square_distance(nodes[i], a, b) * 65536 + p as u64
 }

@@ -1,3 +1,4 @@
-// Nodes within reach of a point, and the nearest (T-01).
+// Nodes within reach of a point, the nearest first, and the nearest (T-01, T-08).
 pub mod distance;
 pub mod reach;
+pub mod sort;

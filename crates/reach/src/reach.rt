@@ -1,4 +1,4 @@
-// Which nodes are within reach of a point, and which is the nearest (T-01).
+// Which nodes are within reach of a point, the nearest first, and which is the nearest (T-01, T-08).
 ghost use mathlib.Core.Path.{_≡_};
 ghost use mathlib.Core.List.{_++_};
 ghost use Prim.Native.Nat.{_<_, _≤_};
@@ -9,6 +9,8 @@ ghost use Rattle.reach.specs.Parts.{far};
 use crate::distance::beyond;
 use crate::distance::distance_up_to;
 use crate::distance::raised;
+use crate::distance::square_distance;
+use crate::sort::sort;
 use cells::node::NodeWords;
 use cells::room::over_limit;
 use cells::ynd::Ynd;
@@ -83,7 +85,7 @@ fn fill_within(
 }
 
 // Fills the first entries with the place of every node whose stored x and y lie at most the radius away, each once and
-// no other; later entries stay. The order is free: what holds of the list is that each such place stands in it once.
+// no other, ascending by squared distance, equal distances by place; later entries stay.
 pub fn within(
     ynd: Ynd,
     nodes: &[NodeWords],
@@ -108,6 +110,7 @@ pub fn within(
         return Listing::Refused(7, 8);
     }
     let count = fill_within(nodes, n, a, b, radius, places);
+    sort(nodes, a, b, &mut places[..count]);
     Listing::Places(count)
 }
 
@@ -117,7 +120,7 @@ fn nearest_of(nodes: &[NodeWords], n: usize, a: u16, b: u16) -> NearestNode
     ensures { λ r. ⌜ r ≡ nearestAnswer (far a b (now (nodes .entry))) (nearestOf (far a b (now (nodes .entry))) n) ⌝ }
 {
     let mut best = 0;
-    let mut least = distance_up_to(nodes[0], a, b, 8589672451);
+    let mut least = square_distance(nodes[0], a, b);
     let mut i = 1;
     while i < n {
         let d = distance_up_to(nodes[i], a, b, least);

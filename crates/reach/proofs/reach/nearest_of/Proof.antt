@@ -6,8 +6,7 @@ use mathlib.Core.Option.{some}
 use Rattle.reach.specs.Reach.{nearestAnswer, nearestOf}
 use Rattle.reach.specs.Parts.{far, bounded}
 use Rattle.reach.specs.declared.reach.NearestNode.the-variants.{At}
-use Rattle.reach.proofs.DistanceLaws.{far-small}
-use Rattle.reach.proofs.TurnLaws.{bounded-under, below-limit, not-below}
+use Rattle.reach.proofs.TurnLaws.{below-limit, not-below}
 use Rattle.reach.proofs.TurnLaws.{nearest-here, nearest-there, nearest-one}
 use borrow.Author.Needs.{needs}
 use Rattle.reach.proofs.reach.nearest_of.Statement.{statement}
@@ -20,20 +19,18 @@ Inv-loop nodes n a b best₀ least₀ i₀ best least i =
 abbrev μ-loop : tie.MeasureT-loop
 μ-loop nodes n a b best₀ least₀ i₀ best least i = n - i
 
--- the first node's distance, which no limit cuts
-first : (c : tie.After-distance-up-to Inv-loop μ-loop) → let s = c .before .before .args in
-    c .distance-up-to .result ≡ far (s .a) (s .b) (s .nodes .now) 0
+-- the first node's distance
+first : (c : tie.After-square-distance Inv-loop μ-loop) → let s = c .before .before .args in
+    c .square-distance .result ≡ far (s .a) (s .b) (s .nodes .now) 0
 unfolding far
-first c =
-    let s = c .before .before .args in
-    c .distance-up-to .ensures ∙ bounded-under 8589672451 _ (far-small (s .a) (s .b) _ (omega arith) (omega arith))
+first c = c .square-distance .ensures .0
 
 -- the distance that was tested
-tested : (c : tie.After-distance-up-to2 Inv-loop μ-loop) → let at = c .before .before .before in
+tested : (c : tie.After-distance-up-to Inv-loop μ-loop) → let at = c .before .before .before in
     let s = at .before .before .before .args in
-    c .distance-up-to2 .result ≡ bounded (at .loop .least) (far (s .a) (s .b) (s .nodes .now) (at .loop .i))
+    c .distance-up-to .result ≡ bounded (at .loop .least) (far (s .a) (s .b) (s .nodes .now) (at .loop .i))
 unfolding far
-tested c = c .distance-up-to2 .ensures
+tested c = c .distance-up-to .ensures
 
 loop-holds : tie.Need-loop-holds Inv-loop μ-loop
 loop-holds c = (omega arith, first c, nearest-one _)
@@ -45,7 +42,7 @@ loop-again c =
     let l = at .loop in
     let d = far (s .a) (s .b) (s .nodes .now) in
     let t = tested (c .before) in
-    let r = c .before .distance-up-to2 .result in
+    let r = c .before .distance-up-to .result in
     ⊎-elim
     (λ w.
     let best : c .if1 .best ≡ l .i = cc in
