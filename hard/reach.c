@@ -1,4 +1,4 @@
-/* T-01: the nodes within reach of a point, and the nearest, each against its sentence. */
+/* T-01, T-08: the nodes within reach of a point, and the nearest, each against its sentence. */
 #include "check.h"
 
 /* The squared distance of a node's stored steps from a point. */
@@ -31,7 +31,12 @@ static void within_with(const lent *m, int16_t x, int16_t y, uint16_t radius, si
         CHECK(met && bad_counts(m) == 0 && *count == near && near <= room);
         for (size_t i = 0; i < near; i++) {
             CHECK(places[i] < m->ynd->node_count && !met[places[i]]++);
-            CHECK(square_distance(&m->nodes[places[i]], x, y) <= (uint64_t)radius * radius);
+            uint64_t square = square_distance(&m->nodes[places[i]], x, y);
+            CHECK(square <= (uint64_t)radius * radius);
+            if (i > 0) {
+                uint64_t before = square_distance(&m->nodes[places[i - 1]], x, y);
+                CHECK(before < square || (before == square && places[i - 1] < places[i]));
+            }
         }
         CHECK(memcmp(places + near, old + near, (room - near) * sizeof *places) == 0);
         free(met);

@@ -349,10 +349,10 @@ uint32_t ynd_area_of_cell(
 /* ---- Nodes within reach of a point. Point, radius and distances count quarter-metre steps ---- */
 
 /* The places of all nodes whose stored x and y (as writing stores them) lie at most `radius` from the point, each once
- * and no other: `count` gets how many they are, the first entries of `places` their places, later entries stay. Their
- * order may change with a release: do not lean on it. Radius 0 lists the nodes exactly there. Refused, in this order:
- * 14 a struct over a limit; 7 at 0 where a list is shorter than its count; 7 at 8 where `places` has fewer entries
- * than there are such nodes (node_count entries always do, and spare a count). */
+ * and no other: `count` gets how many they are, the first entries of `places` their places, later entries stay. The
+ * nearest comes first: they ascend by squared distance, equal distances by place. Radius 0 lists the nodes exactly
+ * there. Refused, in this order: 14 a struct over a limit; 7 at 0 where a list is shorter than its count; 7 at 8 where
+ * `places` has fewer entries than there are such nodes (node_count entries always do, and spare a count). */
 uint32_t ynd_within(
     const ynd_cell *ynd, const ynd_node_entry *nodes, size_t nodes_len, int16_t x, int16_t y, uint16_t radius,
     uint32_t *places, size_t places_len, size_t *count, size_t *place);

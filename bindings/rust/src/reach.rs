@@ -1,4 +1,4 @@
-//! Nodes within reach of a point, and the nearest. Points, radii and distances count quarter-metre steps.
+//! Nodes within reach of a point, the nearest first, and the nearest. Points, radii and distances count quarter-metre steps.
 use crate::cell::{lookup, Cell};
 use crate::ffi;
 
@@ -12,7 +12,7 @@ pub struct NearNode {
 
 impl Cell {
     /// The places of all nodes whose stored x and y lie at most the radius from the point, each once and no other.
-    /// Their order may change with a release.
+    /// The nearest comes first: they ascend by squared distance, equal distances by place.
     pub fn within(&self, point: [i16; 2], radius: u16) -> Vec<u32> {
         let [x, y] = point;
         let (mut places, mut count) = (vec![0; self.nodes().len()], 0);

@@ -143,10 +143,9 @@ fn near_nodes_of_the_hall() {
     for point in [[0, 0], [40, 24], [-32768, 32767], [32767, 32767]] {
         for radius in [0, 1, 16, 40, 400, 65_535] {
             let near = |&p: &u32| square(p as usize, point) <= (radius as u64).pow(2);
-            let want: Vec<u32> = all.clone().map(|p| p as u32).filter(near).collect();
-            let mut have = hall.within(point, radius);
-            have.sort_unstable();
-            assert_eq!(have, want, "{point:?} {radius}");
+            let mut want: Vec<u32> = all.clone().map(|p| p as u32).filter(near).collect();
+            want.sort_by_key(|&p| (square(p as usize, point), p));
+            assert_eq!(hall.within(point, radius), want, "{point:?} {radius}");
         }
         let best = hall.nearest(point).unwrap();
         assert_eq!(best.squared_distance, square(best.place, point));
@@ -165,7 +164,8 @@ fn near_nodes_at_the_corners() {
     assert_eq!(cell.nearest([32767, 32767]), Some(corner));
     assert!(!cell.within([32767, 32767], 65_535).contains(&0));
     assert_eq!(cell.nearest([0, 0]), Some(NearNode { place: 1, squared_distance: 400 }));
-    assert_eq!((cell.within([0, 0], 20).len(), cell.within([0, 0], 19).len()), (2, 0));
+    assert_eq!((cell.within([0, 0], 20), cell.within([0, 0], 19)), (vec![1, 2], vec![]));
+    assert_eq!(cell.within([-17, 12], 65_535), vec![2, 1, 0]);
 }
 
 #[test]

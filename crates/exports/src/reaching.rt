@@ -1,4 +1,4 @@
-// Nodes within reach of a point, and the nearest (T-01). Steps of a quarter metre.
+// Nodes within reach of a point, the nearest first, and the nearest (T-01, T-08). Steps of a quarter metre.
 use crate::words::ynd_of;
 use cells::node::NodeWords;
 use reach::reach::Listing;
@@ -9,7 +9,8 @@ ghost use Rattle.exports.specs.Cells.{toYnd};
 ghost use Rattle.exports.specs.Found.{told};
 ghost use Rattle.exports.specs.Near.{listingTold, nearby, nearestTold};
 
-// The places of the nodes at most the radius away, as many as `count` says, in no order that a caller may lean on.
+// The places of the nodes at most the radius away, as many as `count` says, ascending by squared distance, equal
+// distances by place.
 #[no_mangle]
 pub extern "C" fn ynd_within(
     ynd: &[u32; 15],
