@@ -118,12 +118,13 @@ pub const FAMILIES: &[Family] = &[
         (Edge(LatePost), 5), (Edge(PostsFirst), 5), (Edge(PostsBetween), 5), (Edge(PostsLast), 5), (Yes(Write), 20),
         (Yes(WriteRead), 20), (Edge(Moved), 20), (Edge(NoLink), 100), (Edge(Followed), 500),
     ]),
-    cells("reach", "points and radii over nodes anywhere, also raw: T-01's two calls", &[
+    cells("reach", "points and radii over nodes anywhere, also raw: T-01's two calls, T-08's order", &[
         (Yes(Near), 100_000), (At(Near, 7, 0), 1_000), (At(Near, 7, 8), 10_000), (At(Near, 14, 0), 1_000),
         (Edge(FarApart), 5_000), (Edge(Radius0), 5_000), (Edge(Radius1), 5_000), (Edge(RadiusMost), 5_000),
         (Edge(OnCircle), 5_000), (Edge(StepBeyond), 5_000), (Edge(EqualNear), 5_000), (Edge(Nan), 5_000),
         (Edge(Infinite), 5_000), (Edge(Third), 5_000), (Edge(Empty), 5_000), (Edge(JustLong), 50_000),
-        (Edge(OneShort), 50_000), (Edge(MostNodes), 20),
+        (Edge(OneShort), 50_000), (Edge(MostNodes), 20), (Edge(Tied), 5_000), (Edge(Backwards), 500),
+        (Edge(MostListed), 20),
     ]),
     cells("round files of few bytes", "every file of up to 6 of 7 bytes, alone and behind the mark and version 1", &[
         (No(Round, 15), 250_000), (No(Round, 16), 500_000), (At(Round, 7, 8), 5_000), (Yes(Round), 10_000),

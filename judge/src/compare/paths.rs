@@ -90,7 +90,7 @@ fn followed(m: &Memory, cell: &Cell, from: usize, to: usize, links: usize, befor
 fn edges_met(cell: &Cell, from: usize, to: usize, links: usize) {
     let all: Vec<(usize, usize, u64)> =
         (0..cell.nodes.len()).flat_map(|p| edges(cell, p).into_iter().map(move |(q, l)| (p, q, l))).collect();
-    let own = |l: &crate::model::cell::Link| l.area_id == cell.area();
+    let own = |l: &crate::model::cell::Link| cell.belongs(l.area_id);
     let ids = |k: u16| cell.nodes.iter().filter(|n| n.node_id == k).count();
     met_if(from == to, Met::SamePlace);
     met_if(links > 2, Met::SeveralLinks);

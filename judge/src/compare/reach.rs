@@ -1,4 +1,4 @@
-//! Nodes within reach of a point and the nearest, against T-01's sentences. The Rust has neither call, but it stores
+//! Nodes within reach of a point and the nearest, against T-01's and T-08's sentences. The Rust has neither call, but it stores
 //! the steps that distances go by.
 use super::run::Run;
 use super::seen::{self, met_if, Call, Met};
@@ -34,14 +34,13 @@ pub fn check(t: &Tap) -> Verdict {
     Ok(())
 }
 
-/// The list is the model's in some order; what lies behind it stays.
+/// The list is the model's, in its order; what lies behind it stays.
 fn listed(t: &Tap, bad: &Answer<()>, near: &[usize], lent: usize) -> Verdict {
     let fits = bad.clone().and_then(|_| room(8, &[near.len()], &[lent]));
     let want = fits.map(|_| near.iter().map(|&p| p as u32).collect::<Vec<u32>>());
     let (have, kept) = t.memory.within(t.point, t.radius, lent);
     seen::note(Call::Near, &have);
-    let sorted = have.map(|mut l| { l.sort_unstable(); l });
-    same("within", MODEL, &want, PORT, &sorted)?;
+    same("within", MODEL, &want, PORT, &have)?;
     same("what within leaves", MODEL, &true, PORT, &kept)
 }
 
@@ -70,4 +69,8 @@ fn edges(t: &Tap, cell: &Cell, near: &[usize]) {
     met_if(bits((-0.3f32).to_bits()), Met::Third);
     met_if(cell.nodes.is_empty(), Met::Empty);
     met_if(cell.nodes.len() == 65_536, Met::MostNodes);
+    let tied = |k: usize| squares[near[k]] == squares[near[k + 19]];
+    met_if((19..near.len()).any(|k| tied(k - 19)), Met::Tied);
+    met_if(near.len() >= 20 && near.windows(2).all(|w| w[0] > w[1]), Met::Backwards);
+    met_if(near.len() == 65_536, Met::MostListed);
 }

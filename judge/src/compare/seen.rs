@@ -30,10 +30,10 @@ pub enum Met {
     FarApart, Radius0, Radius1, RadiusMost, OnCircle, StepBeyond, EqualNear, Infinite, Third, Empty, JustLong,
     OneShort, Undrawn, Damaged, WrittenBack, MostChoices, OverChoices, NotItsPlace, TwoNumbers,
     LatePost, PostsFirst, PostsBetween, PostsLast, AllPosts, SamePlace, SeveralLinks, Length0, Parallel,
-    Island, Claimed,
+    Island, Claimed, Tied, Backwards, MostListed,
 }
 
-const METS: [&str; 68] = [
+const METS: [&str; 71] = [
     "NaN", "below the lower limit", "over the upper limit", "cut towards zero", "before a threshold", "at a threshold",
     "after a threshold", "along an axis", "over several axes", "difference rounded", "square rounded",
     "first sum rounded", "last sum rounded", "a number", "none", "sound cells", "unsound cells",
@@ -48,6 +48,7 @@ const METS: [&str; 68] = [
     "left out: refused by the Rust for a late post", "posts first", "posts in the middle", "posts last", "all nodes posts",
     "from a place to itself", "three links and more", "links of length 0", "several links between two nodes",
     "island cells", "islands whose links or refs lack the bit",
+    "20 listed at one distance", "20 listed, the last place first", "65,536 listed",
 ];
 
 /// What a family has to meet: accepted, refused with a number, refused with a number at a place, or an edge.

@@ -1,4 +1,4 @@
-//! Cells and points for T-01, around its edges.
+//! Cells and points for T-01 and T-08, around their edges.
 use super::floats;
 use super::rng::Rng;
 use crate::model::cell::{Cell, Node};
@@ -16,11 +16,12 @@ pub struct Tap {
 const TRIPLES: [[i32; 3]; 5] = [[3, 4, 5], [5, 12, 13], [8, 15, 17], [20, 21, 29], [0, 7, 7]];
 
 pub fn tap(r: &mut Rng) -> Tap {
-    match r.below(8) {
+    match r.below(9) {
         0 => corners(r),
         1 | 2 => circle(r),
         3 => raw(r),
         4 => by_hand(r),
+        5 => crowd(r),
         _ => {
             let places = (0..r.pick(&[0, 1, 2, 5, 40])).map(|_| anywhere(r)).collect();
             seen_from(r, places, None)
@@ -76,6 +77,22 @@ fn circle(r: &mut Rng) -> Tap {
         [from[0] + x, from[1] + y + beyond]
     }).collect();
     seen_from(r, places, Some((from, c)))
+}
+
+/// Many nodes at few distances from the point or at many: in any order, in T-08's or in the reverse of it. Once in a
+/// while as many as a cell may have.
+fn crowd(r: &mut Rng) -> Tap {
+    let n = if r.once_in(500) { 65_536 } else { r.within(20, 60) };
+    let few = r.pick(&[1, 2, 5, 40, 30_000]);
+    let mut far: Vec<i32> = (0..n).map(|_| r.below(few) as i32).collect();
+    match r.below(3) {
+        0 => far.sort(),
+        1 => far.sort_by(|a, b| b.cmp(a)),
+        _ => (),
+    }
+    let places = far.into_iter().map(|k| r.pick(&[[k, 0], [-k, 0], [0, k], [0, -k]])).collect();
+    let reach = r.pick(&[65_535, 30_000, few as i32 / 2]);
+    seen_from(r, places, Some(([0, 0], reach)))
 }
 
 /// Coordinates as they are, stored by `put_node`: NaN, infinite ones, -0.3, any.

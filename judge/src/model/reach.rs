@@ -1,4 +1,5 @@
-//! T-01: the nodes within reach of a point, and the nearest. Points, radii and distances are whole steps.
+//! T-01, T-08: the nodes within reach of a point, the nearest first, and the nearest. Points, radii and distances are
+//! whole steps.
 use super::cell::{Cell, Node};
 use super::steps::{steps, XY};
 use super::{refuse_if, room, Answer, MOST_JUNCTIONS, MOST_NODES};
@@ -10,10 +11,12 @@ pub fn squared(node: &Node, point: [i16; 2]) -> u64 {
     along(x, point[0]) + along(y, point[1])
 }
 
-/// The place of every node that lies at most the radius away.
+/// The place of every node that lies at most the radius away, by squared distance, equal distances by place.
 pub fn within(cell: &Cell, point: [i16; 2], radius: u16) -> Vec<usize> {
-    let near = |&p: &usize| squared(&cell.nodes[p], point) <= (radius as u64).pow(2);
-    (0..cell.nodes.len()).filter(near).collect()
+    let near = |(s, _): &(u64, usize)| *s <= (radius as u64).pow(2);
+    let mut found: Vec<(u64, usize)> = cell.nodes.iter().map(|n| squared(n, point)).zip(0..).filter(near).collect();
+    found.sort();
+    found.into_iter().map(|(_, p)| p).collect()
 }
 
 /// The nearest node's place, the lowest where distances are equal, and its squared distance.

@@ -1,4 +1,5 @@
-//! Kinds 16 and 17: the nodes within reach of a point, and the nearest. The Rust has neither: the answers are T-01's.
+//! Kinds 16 and 17: the nodes within reach of a point, and the nearest. The Rust has neither: the answers are T-01's
+//! and T-08's.
 use super::cells::told;
 use super::Field::{self, I16, U16, U32, U8};
 use super::Records;
@@ -15,11 +16,15 @@ const NEAREST: u8 = 17;
 /// Nodes of a random record, so that the file stays small; the program has room for 64.
 const FEW: usize = 3;
 
+/// How far six nodes lie from the point along both axes: nearer and nearer, and neither so nor the other way.
+const ORDERS: [[i32; 6]; 2] = [[9_000, 8, 7, 6, 5, 4], [20_000, 5, -5, 70, 2, 5]];
+
 pub fn add(to: &mut Records) {
     let r = &mut Rng::new(5);
     // Places 0, 3 and 4 on the circle of radius 5, place 1 a step beyond; places 2 and 5 nearest.
     let six = at(r, &[[3, 4], [3, 5], [0, 3], [-5, 0], [4, -3], [-3, 0]]);
     for radius in [2, 3, 5] { both(to, &Tap { radius, ..six.clone() }); }
+    for shape in ORDERS { both(to, &Tap { radius: 65_535, ..at(r, &shape.map(|k| [k, -k])) }); }
     // 65,535 steps on both axes.
     let corner = at(r, &[[32_767, 32_767], [-32_768, 32_767]]);
     for radius in [65_535, 0] { both(to, &Tap { point: [-32_768, -32_768], radius, ..corner.clone() }); }
