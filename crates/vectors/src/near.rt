@@ -48,18 +48,7 @@ fn wide(x: u16) -> u32 {
     x as u32
 }
 
-fn holds(places: &[u32], p: u32) -> bool {
-    let mut i: usize = 0;
-    while i < places.len() {
-        if places[i] == p {
-            return true;
-        }
-        i += 1;
-    }
-    false
-}
-
-// The list has each of so many places, which differ, in any order; behind them it holds what it held.
+// The list has so many places, in this order (T-08); behind them it holds what it held.
 fn places_agree(places: &[u32], count: usize, expected: &[u8]) -> bool {
     if 64 < places.len() {
         return false;
@@ -67,7 +56,8 @@ fn places_agree(places: &[u32], count: usize, expected: &[u8]) -> bool {
     let mut i: usize = 0;
     while i < places.len() {
         if i < count {
-            if !holds(places, wide(u16_at(after(expected, 2 * i), 0))) {
+            let p = wide(u16_at(after(expected, 2 * i), 0));
+            if places[i] != p {
                 return false;
             }
         } else {
@@ -111,7 +101,7 @@ fn cut(b: &[u8], nodes: &mut [NodeWords], places: &mut [u32]) -> bool {
 
 // The places within reach.
 //   0 x, 2 y, 4 radius, 6 how many nodes are lent; 8 the struct's nodes, 12 its junctions; 16 entries lent for places;
-//   18 number and place, 21 how many places; 23 the nodes, the places in any order. The list first held 65535.
+//   18 number and place, 21 how many places; 23 the nodes, the places. The list first held 65535.
 pub fn within(b: &[u8]) -> bool {
     let mut nodes = [[0u32; 8]; 64];
     let mut places = [65535u32; 64];
