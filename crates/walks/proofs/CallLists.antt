@@ -36,19 +36,19 @@ pub record Alike (c d : Cell) (f : ℕ → ℕ) : Type 0 where
 abbrev pub Numbered : Cell → Type 0
 Numbered c = (q : ℕ) → q < length (c .nodes) → nodeAt (c .nodes) q .number ≡ q
 
-move-id : (t : Trail ℕ) → move (λ p. p) t ≡ t
-move-id t = λ i. record { ending = t .ending; visits = go (t .visits) i }
+pub move-id : {L : Type 0} (t : Trail L) → move (λ p. p) t ≡ t
+move-id {L} t = λ i. record { ending = t .ending; visits = go (t .visits) i }
   where
-    go : (l : List (Visit ℕ)) → map (moveVisit (λ p. p)) l ≡ l
+    go : (l : List (Visit L)) → map (moveVisit (λ p. p)) l ≡ l
     go [] = refl
-    go (v ∷ vs) = ap {B = List (Visit ℕ)} (λ r. v ∷ r) (go vs)
+    go (v ∷ vs) = ap {B = List (Visit L)} (λ r. v ∷ r) (go vs)
 
-move-move : (f g : ℕ → ℕ) (t : Trail ℕ) → move g (move f t) ≡ move (λ p. g (f p)) t
-move-move f g t = λ i. record { ending = t .ending; visits = go (t .visits) i }
+pub move-move : {L : Type 0} (f g : L → L) (t : Trail L) → move g (move f t) ≡ move (λ p. g (f p)) t
+move-move {L} f g t = λ i. record { ending = t .ending; visits = go (t .visits) i }
   where
-    go : (l : List (Visit ℕ)) → map (moveVisit g) (map (moveVisit f) l) ≡ map (moveVisit (λ p. g (f p))) l
+    go : (l : List (Visit L)) → map (moveVisit g) (map (moveVisit f) l) ≡ map (moveVisit (λ p. g (f p))) l
     go [] = refl
-    go (v ∷ vs) = ap {B = List (Visit ℕ)} (λ r. moveVisit (λ p. g (f p)) v ∷ r) (go vs)
+    go (v ∷ vs) = ap {B = List (Visit L)} (λ r. moveVisit (λ p. g (f p)) v ∷ r) (go vs)
 
 pub alike-refl : (c : Cell) → Alike c c (λ p. p)
 alike-refl c = record { same-count = refl; inside = λ p lt. lt; same-walks = λ bs p lt. sym (move-id (walk c bs p)) }

@@ -94,12 +94,12 @@ module _ (c : Cell) (s : Sound c) where
       cc (b, o .2, new-eqb (r .number) p (o .0) (o .1) lp))
       (λ f. cc f))
 
-  see-new : (p : ℕ) → p < length ns → see (renumberCell c) (newPlace peds p) ≡ see c p
+  pub see-new : (p : ℕ) → p < length ns → see (renumberCell c) (newPlace peds p) ≡ see c p
   unfolding see junctionOf
   see-new p lp = rw (new-node c p lp, length-map, node-area c s p lp, new-area c s, new-refs c, new-junctions c, ref-new p lp (c .refs) (s .refs-named))
 
   -- the link chosen is the one chosen before, renumbered
-  link-new : (p b : ℕ) → p < length ns → linkAt (renumberCell c .nodes) (newPlace peds p) b ≡ mapOption (relink old) (linkAt ns p b)
+  pub link-new : (p b : ℕ) → p < length ns → linkAt (renumberCell c .nodes) (newPlace peds p) b ≡ mapOption (relink old) (linkAt ns p b)
   link-new p b lp = rw (new-node c p lp, map-at)
 
   -- and leads to the same node

@@ -26,21 +26,21 @@ trail-route c (b ∷ bs) p = go (next (c .nodes) p b) (trail-route c bs)
 
 -- ---- a trail with each place moved
 
-moved-places : (f : ℕ → ℕ) (l : List (Visit ℕ)) → map (λ v. v .place) (map (moveVisit f) l) ≡ map f (map (λ v. v .place) l)
+moved-places : {L : Type 0} (f : L → L) (l : List (Visit L)) → map (λ v. v .place) (map (moveVisit f) l) ≡ map f (map (λ v. v .place) l)
 moved-places f [] = refl
-moved-places f (v ∷ vs) = ap {B = List ℕ} (λ r. f (v .place) ∷ r) (moved-places f vs)
+moved-places {L} f (v ∷ vs) = ap {B = List L} (λ r. f (v .place) ∷ r) (moved-places f vs)
 
-moved-shown : (f : ℕ → ℕ) (l : List (Visit ℕ)) → map shownAt (map (moveVisit f) l) ≡ map shownAt l
+moved-shown : {L : Type 0} (f : L → L) (l : List (Visit L)) → map shownAt (map (moveVisit f) l) ≡ map shownAt l
 moved-shown f [] = refl
 moved-shown f (v ∷ vs) = ap {B = List (Seen × Option LinkBody)} (λ r. shownAt v ∷ r) (moved-shown f vs)
 
-pub same-walk : (f : ℕ → ℕ) (t u : Trail ℕ) → u ≡ move f t → SameWalk f t u
-same-walk f t u e =
+pub same-walk : {L : Type 0} (f : L → L) (t u : Trail L) → u ≡ move f t → SameWalk f t u
+same-walk {L} f t u e =
     let at : places u ≡ map f (places t) = ap places e ∙ moved-places f (t .visits) in
     record {
       same-shown = ap shown e ∙ moved-shown f (t .visits);
       same-count = ap (λ (n : ℕ). n - 1) (ap length at ∙ length-map (places t) f);
-      same-end = ap (λ (r : Trail ℕ). r .ending) e;
+      same-end = ap (λ (r : Trail L). r .ending) e;
       same-places = at;
     }
 

@@ -24,24 +24,24 @@ use Rattle.walks.specs.Calls.{Call, run, moved, anyRenumbers}
 --   walk cell choices p             all of a walk: its end, and each place visited with what is shown there
 --   walkCall m choices p visited    what the call `walk` answers, and the visited list after it
 
--- What a walk shows at a place. Of the node: area, street, position bits, flags0 to flags5, link count and junction, whole. Of the link
--- chosen there: its three flags and its length.
-abbrev pub shownAt : Visit ℕ → Seen × Option LinkBody
+-- What a walk shows at a place, whatever kind of places there are. Of the node: area, street, position bits, flags0 to
+-- flags5, link count and junction, whole. Of the link chosen there: its three flags and its length.
+abbrev pub shownAt : {L : Type 0} → Visit L → Seen × Option LinkBody
 shownAt v = (v .seen, v .link)
 
 -- All that it shows, in order.
-abbrev pub shown : Trail ℕ → List (Seen × Option LinkBody)
+abbrev pub shown : {L : Type 0} → Trail L → List (Seen × Option LinkBody)
 shown t = map shownAt (t .visits)
 
 -- The places visited, in order, the start first; and how many links were followed.
-abbrev pub places : Trail ℕ → List ℕ
+abbrev pub places : {L : Type 0} → Trail L → List L
 places t = map (λ v. v .place) (t .visits)
 
-abbrev pub followed : Trail ℕ → ℕ
+abbrev pub followed : {L : Type 0} → Trail L → ℕ
 followed t = length (places t) - 1
 
 -- Two walks, `before` in the first cell and `after` the calls; `f p` is where the node first at place p now stands.
-pub record SameWalk (f : ℕ → ℕ) (before after : Trail ℕ) : Type 0 where
+pub record SameWalk {L : Type 0} (f : L → L) (before after : Trail L) : Type 0 where
   -- "shows the same areas, streets, positions, flags, link counts, lengths and junctions, in the same order"
   pub same-shown : shown after ≡ shown before
   -- "Both follow equally many links"

@@ -1,0 +1,13 @@
+use borrow.Author.Tests.{lt-ltb, le-ltb}
+use borrow.Author.Needs.{needs}
+use Rattle.sets.proofs.join.least_of.Statement.{statement}
+use Rattle.sets.proofs.join.least_of.Tie as tie
+
+returns : tie.Need-returns
+returns c = rw (lt-ltb (c .before .args .a) (c .before .args .b) (c .if1 .taken))
+
+returns-2 : tie.Need-returns-2
+returns-2 c = rw (le-ltb (c .before .args .a) (c .before .args .b) (c .if1 .left))
+
+pub least-of-spec : {M : Type 1} → statement M
+least-of-spec = tie.close (tie.spec returns returns-2)

@@ -1,0 +1,12 @@
+pub mod Members
+pub mod Crossing
+pub mod SetSound
+pub mod MemberList
+pub mod SetRenumber
+pub mod SetCalls
+pub mod CrossingCall
+pub mod SetClaim
+pub mod CellSet
+pub mod Leave
+pub mod Join
+pub mod SetParts
