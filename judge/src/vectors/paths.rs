@@ -4,7 +4,7 @@ use super::cells::{packed, told};
 use super::Field::{Bytes, U16, U32};
 use super::Records;
 use crate::model::cell::{Cell, Link, Node};
-use crate::model::paths::{by_every_walk, edges, refused, SCRATCH};
+use crate::model::paths::{by_every_walk, edges, refused};
 use crate::model::{refuse_if, Answer};
 
 const PATH: u8 = 21;
