@@ -104,8 +104,7 @@ new-fits ns start n d from by links h u b v lu lv k link less =
     relabelled ns start n d from by links h u b v lu lv k link less e (upd from v u) (upd by v b)
     (upd-same d v w) (upd-same from v u) (upd-same by v b)
     (λ x lt ne. upd-other d v w x ne) (λ x lt ne. upd-other from v u x ne) (λ x lt ne. upd-other by v b x ne) in
-    let small : e v < unlabelled = omega (arith, upd-same d v w, h .most v lv) in
-    (
+    let small : e v < unlabelled = omega (arith, upd-same d v w, h .most v lv) in (
       omega (arith, ap (λ (x : ℕ). x / 4294967296) (upd-same d v w), label-sum ns start n e (upd from v u) (upd by v b) links l v lv small),
       omega (arith, ap (λ (x : ℕ). x % 4294967296) (upd-same d v w), label-steps ns start n e (upd from v u) (upd by v b) links l v lv small),
     )

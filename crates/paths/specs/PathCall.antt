@@ -45,7 +45,7 @@ pub data Searched (ns : List Node) (n p q : ℕ) (choices places : List ℕ) : S
   -- first entries, later ones stay.
   path : n ≤ length choices → n ≤ length places → (bs : List ℕ) → length bs < n → ShortestPath ns p q bs
       → Searched ns n p q choices places (Path (distance ns bs p) (length bs))
-          (over bs choices) (over (route ns bs p .places) places)
+      (over bs choices) (over (route ns bs p .places) places)
 
 -- What the call answers, and the three lists after it.
 pub data PathLeft (m : Memory) (p q : ℕ) (scratch choices places : List ℕ) : Shortest → List ℕ → List ℕ → List ℕ

@@ -22,10 +22,10 @@ pub fn add(to: &mut Records) {
     for x in [-0.3f32, 8191.75, 8192.0, f32::NAN, -1024.0, 0.0, -0.0, f32::INFINITY, f32::NEG_INFINITY] {
         steps(to, x.to_bits());
     }
-    for _ in 0..400 { steps(to, floats::bits(r)); }
+    for _ in 0..120 { steps(to, floats::bits(r)); }
     for _ in 0..80 { metres(to, r.u16() as i16); }
     for x in [-1.0f32 / 8192.0, -1.0 / 2048.0, f32::NAN] { cell_for_position(to, [x.to_bits(); 2]); }
-    for _ in 0..250 { cell_for_position(to, [floats::bits(r), floats::bits(r)]); }
+    for _ in 0..90 { cell_for_position(to, [floats::bits(r), floats::bits(r)]); }
     // s = 25; s = 32761 - 1/512, the rounded square of 181 - 1/65536 and 1/256.
     for b in [[3.0f32, 4.0, 0.0], [180.999_984_741_210_937_5, 0.0625, 0.0]] {
         length(to, [[0; 3], b.map(f32::to_bits)]);
@@ -39,7 +39,7 @@ pub fn add(to: &mut Records) {
         "nodes4294967296.ynd", "x\\nodes0007.ynd", ""] {
         file_name(to, name);
     }
-    for _ in 0..120 { if let Ok(name) = String::from_utf8(names::bytes(r)) { file_name(to, &name); } }
+    for _ in 0..60 { if let Ok(name) = String::from_utf8(names::bytes(r)) { file_name(to, &name); } }
     for (cx, cy) in [(0, 0), (31, 31), (25, 4), (32, 0), (0, 32), (u32::MAX, 5)] { grid_cell(to, cx, cy); }
     for _ in 0..30 { grid_cell(to, r.below(34) as u32, r.below(34) as u32); }
     for area in [1177, 1024, 1023, 0, u32::MAX] { self::area(to, area, area ^ 1024); }

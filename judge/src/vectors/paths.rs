@@ -32,12 +32,10 @@ fn yard() -> Cell {
 }
 
 pub fn add(to: &mut Records) {
-    for (from, goal) in [(0, 2), (0, 0), (3, 2), (2, 1), (1, 0), (0, 3), (0, 4), (4, 0)] {
-        path(to, from, goal, [16, 4, 4]);
-    }
-    // The scratch and the lists, each just long enough and one entry less; 13 before 7 at 9, 17 before 7 at 8.
-    for lent in [[15, 4, 4], [16, 3, 4], [16, 4, 3], [20, 6, 5], [0, 0, 0]] {
-        for (from, goal) in [(0, 2), (0, 3), (0, 4)] { path(to, from, goal, lent); }
+    for (from, goal) in [(0, 2), (0, 0), (0, 3), (0, 4)] { path(to, from, goal, [16, 4, 4]); }
+    // The scratch and the lists, each one entry too short, and to spare; 13 before 7 at 9, 17 before 7 at 8.
+    for (goal, lent) in [(2, [15, 4, 4]), (2, [16, 3, 4]), (2, [16, 4, 3]), (2, [20, 6, 5]), (4, [0, 0, 0]), (3, [16, 0, 0])] {
+        path(to, 0, goal, lent);
     }
 }
 
