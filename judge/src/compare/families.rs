@@ -99,8 +99,8 @@ pub const FAMILIES: &[Family] = &[
         (Edge(Undrawn), 100), (Edge(Island), 2_000), (Edge(Claimed), 1_000),
     ]),
     cells("any memory", "structs and lists made by hand: every call", &[
-        (Yes(Renumber), 1_000), (Yes(Write), 200), (No(Write, 8), 100), (Yes(WriteRead), 50), (No(WriteRead, 5), 20),
-        (No(WriteRead, 7), 100), (At(Renumber, 7, 0), 100), (No(Renumber, 14), 500), (No(Write, 14), 500),
+        (Yes(Renumber), 1_000), (Yes(Write), 200), (No(Write, 8), 100), (Yes(WriteRead), 50), (No(Write, 12), 100),
+        (No(WriteRead, 12), 100), (No(WriteRead, 7), 100), (At(Renumber, 7, 0), 100), (No(Renumber, 14), 500), (No(Write, 14), 500),
         (No(Write, 11), 100), (Edge(Sound), 100), (Edge(Unsound), 1_000),
     ]),
     cells("far ranges", "pools of over 65,536 entries, starts past 65,535: every call", &[
