@@ -1,6 +1,6 @@
 // Stored steps (document 01, section 3): x and y count quarters of a metre, z counts thirty-seconds.
 ghost use mathlib.Core.Path.{_≡_};
-ghost use Prim.Native.Nat.{_≤_};
+ghost use Prim.Native.Nat.{_%_, _≤_};
 ghost use lib.Ieee.{binary32, ofBits};
 ghost use Rattle.numbers.specs.Steps.{limited, stepOf, unstep};
 
@@ -20,8 +20,8 @@ fn limit(negative: bool) -> i16
     if negative { -32768 } else { 32767 }
 }
 
-// The steps of the number that the pattern b stands for: times 2^k, cut towards zero, limited. Five cases on the
-// exponent's field, in this order (T-04; specs/Cases.antt defines them).
+// The steps of the number that the pattern b stands for: times 2^k, cut towards zero, limited. Four of the five cases
+// on the exponent's field, in their order (T-04; specs/Cases.antt defines all five); NaN is the fifth, below.
 //
 // IEEE 754, binary32: bit 31 is the sign, bits 30 to 23 are the exponent's field (8 bits), bits 22 to 0 the fraction
 // (23 bits). The field is the exponent plus the bias, 127. So a field from 1 to 254 stands for
@@ -35,9 +35,8 @@ fn limit(negative: bool) -> i16
 //   cut to -32768 (along x and y from -8192 down to above -8192.25, along z from -1024 down to above -1024.03125)
 //   has the field of this case too, though an i16 holds it: the limit of its sign is the step that it has.
 // - Infinite is field 255 with the fraction 0: the limit of the sign.
-// - NaN is field 255 with any other fraction: 0.
-fn steps_of_bits(b: u32, k: u32) -> i16
-    requires { ⌜ k ≤ 5 ⌝ }
+fn steps_of_number(b: u32, k: u32) -> i16
+    requires { ⌜ (k ≤ 5) × (b % 0x8000_0000 ≤ 0x7f80_0000) ⌝ }
     ensures { λ r. ⌜ r ≡ stepOf k (ofBits binary32 b) ⌝ }
 {
     let negative = b >= 0x8000_0000;
@@ -56,11 +55,20 @@ fn steps_of_bits(b: u32, k: u32) -> i16
         return limit(negative);
     }
     // infinite
-    if fraction == 0 {
-        return limit(negative);
-    }
+    limit(negative)
+}
+
+// The same for any pattern. NaN is field 255 with another fraction than 0, so a pattern above infinity's but for the
+// sign: 0.
+fn steps_of_bits(b: u32, k: u32) -> i16
+    requires { ⌜ k ≤ 5 ⌝ }
+    ensures { λ r. ⌜ r ≡ stepOf k (ofBits binary32 b) ⌝ }
+{
     // NaN
-    0
+    if 0x7f80_0000 < b % 0x8000_0000 {
+        return 0;
+    }
+    steps_of_number(b, k)
 }
 
 // The same, from the f32.
@@ -68,12 +76,12 @@ fn steps(x: f32, k: u32) -> i16
     requires { ⌜ k ≤ 5 ⌝ }
     ensures { λ r. ⌜ r ≡ stepOf k x ⌝ }
 {
-    // NaN comes first on this way in: the language leaves the bits of a NaN undefined, so they may not be taken. The
-    // bits of every other value go through the cases.
+    // NaN comes first here too: the language leaves the bits of a NaN undefined, so they may not be taken. The bits of
+    // every other value go through the cases.
     if x != x {
         return 0;
     }
-    steps_of_bits(f32::to_bits(x), k)
+    steps_of_number(f32::to_bits(x), k)
 }
 
 // What n steps stand for, along x and y.

@@ -6,7 +6,7 @@ use lib.Ieee.Bits.{ofBits-toBits}
 use mir.Syntax.{w16}
 use mir.ValLaws.{toZ-ofZ}
 use Rattle.numbers.specs.Steps.{stepOf}
-use Rattle.numbers.proofs.Patterns.{only-nan, no-nan}
+use Rattle.numbers.proofs.Patterns.{only-nan, no-nan, number-bits}
 use borrow.Author.Needs.{needs}
 use Rattle.numbers.proofs.steps.steps.Statement.{statement}
 use Rattle.numbers.proofs.steps.steps.Tie as tie
@@ -19,15 +19,21 @@ returns : tie.Need-returns
 unfolding stepOf
 returns c = sym (ap (stepOf (c .before .args .k)) (only-nan (c .before .args .x) (c .if1 .taken)))
 
-float-to-bits-steps-of-bits : tie.Need-float-to-bits-steps-of-bits
-float-to-bits-steps-of-bits c = no-nan (c .before .args .x) (c .if1 .left)
+float-to-bits-steps-of-number : tie.Need-float-to-bits-steps-of-number
+float-to-bits-steps-of-number c = no-nan (c .before .args .x) (c .if1 .left)
+
+steps-of-number-requires : tie.Need-steps-of-number-requires
+steps-of-number-requires c κs =
+    let start = c .before in
+    (start .pre, number-bits (start .args .x) (held start) (no-nan (start .args .x) (c .if1 .left)))
 
 returns-2 : tie.Need-returns-2
 returns-2 c =
     let start = c .before .before in
-    toZ-ofZ w16 (c .steps-of-bits .result) (record { sfits = c .steps-of-bits .ok })
-    ∙ c .steps-of-bits .ensures
+    toZ-ofZ w16 (c .steps-of-number .result) (record { sfits = c .steps-of-number .ok })
+    ∙ c .steps-of-number .ensures
     ∙ ap (stepOf (start .args .k)) (ofBits-toBits binary32 (start .args .x) (held start))
 
 pub steps-spec : {M : Type 1} → statement M
-steps-spec = tie.close (tie.spec returns float-to-bits-steps-of-bits (λ c κs. search needs) returns-2)
+steps-spec =
+    tie.close (tie.spec returns float-to-bits-steps-of-number steps-of-number-requires returns-2)
