@@ -6,7 +6,8 @@ ghost use Rattle.cells.specs.Memory.{memory};
 ghost use Rattle.cells.specs.Read.{readOf};
 ghost use Rattle.cells.specs.Renumber.{renumber, scratchLeft};
 ghost use Rattle.walks.specs.Calls.{moved};
-ghost use Rattle.demand3.specs.Again.{againLeft, renewLeft, renew, placeAfter, bothWalks, soundWalks, walkAgain, scratchAfter, calls, SameWalks};
+ghost use Rattle.demand3.specs.Again.{againLeft, renewLeft, renew, placeAfter, bothWalks, soundWalks};
+ghost use Rattle.demand3.specs.Again.{walkAgain, scratchAfter, calls, SameWalks};
 use cells::junction::JunctionWords;
 use cells::link::LinkWords;
 use cells::node::NodeWords;
@@ -62,9 +63,11 @@ fn renewed(
     places: &mut [u32],
     section: &mut [u8],
 ) -> Outcome
-    ensures { λ r. ⌜ renewLeft r (now (nodes .exit)) (now (links .exit)) (now (junctions .exit)) (now (heights .exit)) (now (refs .exit))
+    ensures { λ r. ⌜ renewLeft r (now (nodes .exit)) (now (links .exit)) (now (junctions .exit))
+        (now (heights .exit)) (now (refs .exit))
         (now (places .exit)) (now (section .exit))
-        ≡ renew (memory ynd (now (nodes .entry)) (now (links .entry)) (now (junctions .entry)) (now (heights .entry)) (now (refs .entry)))
+        ≡ renew (memory ynd (now (nodes .entry)) (now (links .entry)) (now (junctions .entry)) (now (heights .entry))
+        (now (refs .entry)))
         (length (now (scratch .entry))) (now (places .entry)) (now (section .entry)) ⌝ }
     ensures { λ r. ⌜ scratchLeft (r .answer) (now (scratch .entry)) (now (scratch .exit)) ⌝ }
 {
@@ -92,12 +95,16 @@ fn both_walks(
     visited: &mut [u32],
     later: &mut [u32],
 ) -> Again
-    ensures { λ r. ⌜ againLeft r (now (nodes .exit)) (now (links .exit)) (now (junctions .exit)) (now (heights .exit)) (now (refs .exit))
+    ensures { λ r. ⌜ againLeft r (now (nodes .exit)) (now (links .exit)) (now (junctions .exit))
+        (now (heights .exit)) (now (refs .exit))
         (now (places .exit)) (now (section .exit)) (now (visited .exit)) (now (later .exit))
-        ≡ bothWalks (memory ynd (now (nodes .entry)) (now (links .entry)) (now (junctions .entry)) (now (heights .entry)) (now (refs .entry)))
-        (length (now (scratch .entry))) (now (places .entry)) (now (section .entry)) (now (choices .entry)) start (now (visited .entry)) (now (later .entry)) ⌝ }
+        ≡ bothWalks (memory ynd (now (nodes .entry)) (now (links .entry)) (now (junctions .entry))
+        (now (heights .entry)) (now (refs .entry)))
+        (length (now (scratch .entry))) (now (places .entry)) (now (section .entry)) (now (choices .entry)) start
+        (now (visited .entry)) (now (later .entry)) ⌝ }
     ensures { λ _. ⌜ scratchLeft (renumber
-        (memory ynd (now (nodes .entry)) (now (links .entry)) (now (junctions .entry)) (now (heights .entry)) (now (refs .entry)))
+        (memory ynd (now (nodes .entry)) (now (links .entry)) (now (junctions .entry)) (now (heights .entry))
+        (now (refs .entry)))
         (length (now (scratch .entry))) (now (places .entry)) .answer) (now (scratch .entry)) (now (scratch .exit)) ⌝ }
 {
     let before = walk(ynd, nodes, links, start, choices, visited);
@@ -138,12 +145,16 @@ fn sound_walks(
     visited: &mut [u32],
     later: &mut [u32],
 ) -> Again
-    ensures { λ r. ⌜ againLeft r (now (nodes .exit)) (now (links .exit)) (now (junctions .exit)) (now (heights .exit)) (now (refs .exit))
+    ensures { λ r. ⌜ againLeft r (now (nodes .exit)) (now (links .exit)) (now (junctions .exit))
+        (now (heights .exit)) (now (refs .exit))
         (now (places .exit)) (now (section .exit)) (now (visited .exit)) (now (later .exit))
-        ≡ soundWalks (memory ynd (now (nodes .entry)) (now (links .entry)) (now (junctions .entry)) (now (heights .entry)) (now (refs .entry)))
-        (now (scratch .entry)) (now (places .entry)) (now (section .entry)) (now (choices .entry)) start (now (visited .entry)) (now (later .entry)) ⌝ }
+        ≡ soundWalks (memory ynd (now (nodes .entry)) (now (links .entry)) (now (junctions .entry))
+        (now (heights .entry)) (now (refs .entry)))
+        (now (scratch .entry)) (now (places .entry)) (now (section .entry)) (now (choices .entry)) start
+        (now (visited .entry)) (now (later .entry)) ⌝ }
     ensures { λ r. ⌜ scratchAfter (r .walks)
-        (memory ynd (now (nodes .entry)) (now (links .entry)) (now (junctions .entry)) (now (heights .entry)) (now (refs .entry)))
+        (memory ynd (now (nodes .entry)) (now (links .entry)) (now (junctions .entry)) (now (heights .entry))
+        (now (refs .entry)))
         (now (places .entry)) (now (scratch .entry)) (now (scratch .exit)) ⌝ }
 {
     let s = sound(ynd, nodes, links, refs, scratch);
@@ -185,7 +196,8 @@ fn sound_walks(
     )
 }
 
-// Reads a cell; if it is sound, walks, renumbers it, writes and reads it again, and walks again from where the start then
+// Reads a cell; if it is sound, walks, renumbers it, writes and reads it again, and walks again from where the start
+// then
 // stands. Lent visited lists of equal length, both walks answer the same, and the places of the second are those of the
 // first, each moved on. Only `Refused` leaves everything as it was: behind it nothing has been stored.
 pub fn walk_again<'a>(
@@ -205,18 +217,23 @@ pub fn walk_again<'a>(
     visited: &mut [u32],
     later: &mut [u32],
 ) -> Again
-    ensures { λ r. ⌜ againLeft r (now (nodes .exit)) (now (links .exit)) (now (junctions .exit)) (now (heights .exit)) (now (refs .exit))
+    ensures { λ r. ⌜ againLeft r (now (nodes .exit)) (now (links .exit)) (now (junctions .exit))
+        (now (heights .exit)) (now (refs .exit))
         (now (places .exit)) (now (section .exit)) (now (visited .exit)) (now (later .exit))
         ≡ walkAgain (now (system .entry)) (now (graphics .entry))
-        (memory ynd (now (nodes .entry)) (now (links .entry)) (now (junctions .entry)) (now (heights .entry)) (now (refs .entry)))
-        (now (scratch .entry)) (now (places .entry)) (now (section .entry)) (now (choices .entry)) start (now (visited .entry)) (now (later .entry)) ⌝ }
+        (memory ynd (now (nodes .entry)) (now (links .entry)) (now (junctions .entry)) (now (heights .entry))
+        (now (refs .entry)))
+        (now (scratch .entry)) (now (places .entry)) (now (section .entry)) (now (choices .entry)) start
+        (now (visited .entry)) (now (later .entry)) ⌝ }
     ensures { λ r. ⌜ (length (now (later .entry)) ≡ length (now (visited .entry)) → SameWalks
         (moved (readOf (now (system .entry)) (now (graphics .entry))
-        (memory ynd (now (nodes .entry)) (now (links .entry)) (now (junctions .entry)) (now (heights .entry)) (now (refs .entry))) .memory)
+        (memory ynd (now (nodes .entry)) (now (links .entry)) (now (junctions .entry)) (now (heights .entry))
+        (now (refs .entry))) .memory)
         (calls (now (scratch .entry)) (now (places .entry)) (now (section .entry))))
         (r .walks) (now (visited .exit)) (now (later .exit))) ⌝ }
     ensures { λ r. ⌜ scratchAfter (r .walks) (readOf (now (system .entry)) (now (graphics .entry))
-        (memory ynd (now (nodes .entry)) (now (links .entry)) (now (junctions .entry)) (now (heights .entry)) (now (refs .entry))) .memory)
+        (memory ynd (now (nodes .entry)) (now (links .entry)) (now (junctions .entry)) (now (heights .entry))
+        (now (refs .entry))) .memory)
         (now (places .entry)) (now (scratch .entry)) (now (scratch .exit)) ⌝ }
 {
     let a = read(

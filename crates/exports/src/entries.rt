@@ -19,7 +19,8 @@ use cells::node::node_words;
 use numbers::math::Vec3;
 ghost use mathlib.Core.Path.{_≡_};
 ghost use lib.ListN.{length};
-ghost use Rattle.cells.specs.Edit.{nodeEntry, gotNode, linkEntry, gotLink, refEntry, gotRef, junctionEntry, gotJunction, heightEntry, gotHeight};
+ghost use Rattle.cells.specs.Edit.{nodeEntry, gotNode, linkEntry, gotLink, refEntry, gotRef, junctionEntry};
+ghost use Rattle.cells.specs.Edit.{gotJunction, heightEntry, gotHeight};
 ghost use Rattle.cells.specs.Edit.{putNode, setPosition, putLink, putRef, putJunction, putHeight};
 ghost use Rattle.cells.specs.Words.{toNode, toLink, toRef, toJunction};
 ghost use Rattle.exports.specs.Cells.{toYnd};
@@ -34,7 +35,8 @@ pub extern "C" fn ynd_get_node(
     place: &mut usize,
 ) -> u32
     ensures { λ r. ⌜ told r (now (place .exit)) (now (node .exit))
-        ≡ nodeTold (gotNode (nodeEntry (toYnd (now (ynd .entry))) (now (nodes .entry)) at) (now (nodes .entry))) (now (node .entry)) ⌝ }
+        ≡ nodeTold (gotNode (nodeEntry (toYnd (now (ynd .entry))) (now (nodes .entry)) at) (now (nodes .entry)))
+        (now (node .entry)) ⌝ }
 {
     let y = ynd_of(*ynd);
     let g = cells::get::get_node(y, nodes, at);
@@ -63,7 +65,8 @@ pub extern "C" fn ynd_get_link(
     place: &mut usize,
 ) -> u32
     ensures { λ r. ⌜ told r (now (place .exit)) (now (link .exit))
-        ≡ linkTold (gotLink (linkEntry (toYnd (now (ynd .entry))) (now (nodes .entry)) (length (now (links .entry))) at k) (now (links .entry))) (now (link .entry)) ⌝ }
+        ≡ linkTold (gotLink (linkEntry (toYnd (now (ynd .entry))) (now (nodes .entry)) (length (now (links .entry)))
+        at k) (now (links .entry))) (now (link .entry)) ⌝ }
 {
     let y = ynd_of(*ynd);
     let g = cells::get::get_link(y, nodes, links, at, k);
@@ -90,7 +93,8 @@ pub extern "C" fn ynd_get_ref(
     place: &mut usize,
 ) -> u32
     ensures { λ r. ⌜ told r (now (place .exit)) (now (taken .exit))
-        ≡ refTold (gotRef (refEntry (toYnd (now (ynd .entry))) (now (refs .entry)) at) (now (refs .entry))) (now (taken .entry)) ⌝ }
+        ≡ refTold (gotRef (refEntry (toYnd (now (ynd .entry))) (now (refs .entry)) at) (now (refs .entry)))
+        (now (taken .entry)) ⌝ }
 {
     let y = ynd_of(*ynd);
     let g = cells::get::get_ref(y, refs, at);
@@ -116,7 +120,8 @@ pub extern "C" fn ynd_get_junction(
     place: &mut usize,
 ) -> u32
     ensures { λ r. ⌜ told r (now (place .exit)) (now (junction .exit))
-        ≡ junctionTold (gotJunction (junctionEntry (toYnd (now (ynd .entry))) (now (junctions .entry)) at) (now (junctions .entry))) (now (junction .entry)) ⌝ }
+        ≡ junctionTold (gotJunction (junctionEntry (toYnd (now (ynd .entry))) (now (junctions .entry)) at)
+        (now (junctions .entry))) (now (junction .entry)) ⌝ }
 {
     let y = ynd_of(*ynd);
     let g = cells::get::get_junction(y, junctions, at);
@@ -145,7 +150,8 @@ pub extern "C" fn ynd_get_height(
     place: &mut usize,
 ) -> u32
     ensures { λ r. ⌜ told r (now (place .exit)) (now (value .exit))
-        ≡ heightTold (gotHeight (heightEntry (toYnd (now (ynd .entry))) (now (junctions .entry)) (length (now (heights .entry))) at k) (now (heights .entry))) (now (value .entry)) ⌝ }
+        ≡ heightTold (gotHeight (heightEntry (toYnd (now (ynd .entry))) (now (junctions .entry))
+        (length (now (heights .entry))) at k) (now (heights .entry))) (now (value .entry)) ⌝ }
 {
     let y = ynd_of(*ynd);
     let g = cells::get::get_height(y, junctions, heights, at, k);
@@ -193,7 +199,8 @@ pub extern "C" fn ynd_set_position(
     place: &mut usize,
 ) -> u32
     ensures { λ r. ⌜ told r (now (place .exit)) (now (nodes .exit))
-        ≡ storedTold (setPosition (toYnd (now (ynd .entry))) (now (nodes .entry)) at (record { x = x; y = y; z = z })) ⌝ }
+        ≡ storedTold (setPosition (toYnd (now (ynd .entry))) (now (nodes .entry)) at
+        (record { x = x; y = y; z = z })) ⌝ }
 {
     let cell = ynd_of(*ynd);
     let a = cells::put::set_position(cell, nodes, at, Vec3 { x, y, z });
@@ -213,7 +220,8 @@ pub extern "C" fn ynd_put_link(
     place: &mut usize,
 ) -> u32
     ensures { λ r. ⌜ told r (now (place .exit)) (now (links .exit))
-        ≡ storedTold (putLink (toYnd (now (ynd .entry))) (now (nodes .entry)) (now (links .entry)) at k (toLink (now (link .entry)))) ⌝ }
+        ≡ storedTold (putLink (toYnd (now (ynd .entry))) (now (nodes .entry)) (now (links .entry)) at k
+        (toLink (now (link .entry)))) ⌝ }
 {
     let y = ynd_of(*ynd);
     let l = link_of(*link);
@@ -250,7 +258,8 @@ pub extern "C" fn ynd_put_junction(
     place: &mut usize,
 ) -> u32
     ensures { λ r. ⌜ told r (now (place .exit)) (now (junctions .exit))
-        ≡ storedTold (putJunction (toYnd (now (ynd .entry))) (now (junctions .entry)) at (toJunction (now (junction .entry)))) ⌝ }
+        ≡ storedTold (putJunction (toYnd (now (ynd .entry))) (now (junctions .entry)) at
+        (toJunction (now (junction .entry)))) ⌝ }
 {
     let y = ynd_of(*ynd);
     let j = path_junction_of(*junction);
@@ -271,7 +280,8 @@ pub extern "C" fn ynd_put_height(
     place: &mut usize,
 ) -> u32
     ensures { λ r. ⌜ told r (now (place .exit)) (now (heights .exit))
-        ≡ storedTold (putHeight (toYnd (now (ynd .entry))) (now (junctions .entry)) (now (heights .entry)) at k value) ⌝ }
+        ≡ storedTold (putHeight (toYnd (now (ynd .entry))) (now (junctions .entry)) (now (heights .entry)) at k
+        value) ⌝ }
 {
     let y = ynd_of(*ynd);
     let a = cells::put::put_height(y, junctions, heights, at, k, value);

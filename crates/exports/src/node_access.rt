@@ -9,7 +9,8 @@ use numbers::math::Vec3;
 ghost use mathlib.Core.Path.{_≡_};
 ghost use Prim.Native.Nat.{_*_, _/_};
 ghost use Rattle.cells.specs.Access.{fieldOf, withField, hasBit, withBit};
-ghost use Rattle.cells.specs.NodeAccess.{newNode, withPosition, withFlags0, withFlags1, withFlags2, withFlags3, withFlags4, withFlags5, disabled};
+ghost use Rattle.cells.specs.NodeAccess.{newNode, withPosition, withFlags0, withFlags1, withFlags2, withFlags3};
+ghost use Rattle.cells.specs.NodeAccess.{withFlags4, withFlags5, disabled};
 ghost use Rattle.cells.specs.NodeWords.{pedKind};
 ghost use Rattle.cells.specs.Special.{specialOf, specialValue, isPedSpecial, speedOf, speedValue};
 ghost use Rattle.cells.specs.Words.{toNode, nodeWords};
@@ -161,7 +162,8 @@ pub extern "C" fn ynd_node_dead_endness(node: &NodeWords) -> u8
 
 #[no_mangle]
 pub extern "C" fn ynd_node_set_off_road(node: &mut NodeWords, on: bool)
-    ensures { λ _. ⌜ now (node .exit) ≡ nodeWords (withFlags0 (toNode (now (node .entry))) (withBit 3 ((toNode (now (node .entry))) .flags0) on)) ⌝ }
+    ensures { λ _. ⌜ now (node .exit) ≡ nodeWords
+        (withFlags0 (toNode (now (node .entry))) (withBit 3 ((toNode (now (node .entry))) .flags0) on)) ⌝ }
 {
     let n = node_of(*node);
     let w = node_words(n.set_off_road(on));
@@ -170,7 +172,8 @@ pub extern "C" fn ynd_node_set_off_road(node: &mut NodeWords, on: bool)
 
 #[no_mangle]
 pub extern "C" fn ynd_node_set_no_big_vehicles(node: &mut NodeWords, on: bool)
-    ensures { λ _. ⌜ now (node .exit) ≡ nodeWords (withFlags0 (toNode (now (node .entry))) (withBit 5 ((toNode (now (node .entry))) .flags0) on)) ⌝ }
+    ensures { λ _. ⌜ now (node .exit) ≡ nodeWords
+        (withFlags0 (toNode (now (node .entry))) (withBit 5 ((toNode (now (node .entry))) .flags0) on)) ⌝ }
 {
     let n = node_of(*node);
     let w = node_words(n.set_no_big_vehicles(on));
@@ -179,7 +182,8 @@ pub extern "C" fn ynd_node_set_no_big_vehicles(node: &mut NodeWords, on: bool)
 
 #[no_mangle]
 pub extern "C" fn ynd_node_set_cannot_go_left(node: &mut NodeWords, on: bool)
-    ensures { λ _. ⌜ now (node .exit) ≡ nodeWords (withFlags0 (toNode (now (node .entry))) (withBit 7 ((toNode (now (node .entry))) .flags0) on)) ⌝ }
+    ensures { λ _. ⌜ now (node .exit) ≡ nodeWords
+        (withFlags0 (toNode (now (node .entry))) (withBit 7 ((toNode (now (node .entry))) .flags0) on)) ⌝ }
 {
     let n = node_of(*node);
     let w = node_words(n.set_cannot_go_left(on));
@@ -188,7 +192,8 @@ pub extern "C" fn ynd_node_set_cannot_go_left(node: &mut NodeWords, on: bool)
 
 #[no_mangle]
 pub extern "C" fn ynd_node_set_slip_road(node: &mut NodeWords, on: bool)
-    ensures { λ _. ⌜ now (node .exit) ≡ nodeWords (withFlags1 (toNode (now (node .entry))) (withBit 0 ((toNode (now (node .entry))) .flags1) on)) ⌝ }
+    ensures { λ _. ⌜ now (node .exit) ≡ nodeWords
+        (withFlags1 (toNode (now (node .entry))) (withBit 0 ((toNode (now (node .entry))) .flags1) on)) ⌝ }
 {
     let n = node_of(*node);
     let w = node_words(n.set_slip_road(on));
@@ -197,7 +202,8 @@ pub extern "C" fn ynd_node_set_slip_road(node: &mut NodeWords, on: bool)
 
 #[no_mangle]
 pub extern "C" fn ynd_node_set_indicate_keep_left(node: &mut NodeWords, on: bool)
-    ensures { λ _. ⌜ now (node .exit) ≡ nodeWords (withFlags1 (toNode (now (node .entry))) (withBit 1 ((toNode (now (node .entry))) .flags1) on)) ⌝ }
+    ensures { λ _. ⌜ now (node .exit) ≡ nodeWords
+        (withFlags1 (toNode (now (node .entry))) (withBit 1 ((toNode (now (node .entry))) .flags1) on)) ⌝ }
 {
     let n = node_of(*node);
     let w = node_words(n.set_indicate_keep_left(on));
@@ -206,7 +212,8 @@ pub extern "C" fn ynd_node_set_indicate_keep_left(node: &mut NodeWords, on: bool
 
 #[no_mangle]
 pub extern "C" fn ynd_node_set_indicate_keep_right(node: &mut NodeWords, on: bool)
-    ensures { λ _. ⌜ now (node .exit) ≡ nodeWords (withFlags1 (toNode (now (node .entry))) (withBit 2 ((toNode (now (node .entry))) .flags1) on)) ⌝ }
+    ensures { λ _. ⌜ now (node .exit) ≡ nodeWords
+        (withFlags1 (toNode (now (node .entry))) (withBit 2 ((toNode (now (node .entry))) .flags1) on)) ⌝ }
 {
     let n = node_of(*node);
     let w = node_words(n.set_indicate_keep_right(on));
@@ -215,7 +222,8 @@ pub extern "C" fn ynd_node_set_indicate_keep_right(node: &mut NodeWords, on: boo
 
 #[no_mangle]
 pub extern "C" fn ynd_node_set_left_turns_only(node: &mut NodeWords, on: bool)
-    ensures { λ _. ⌜ now (node .exit) ≡ nodeWords (withFlags1 (toNode (now (node .entry))) (withBit 7 ((toNode (now (node .entry))) .flags1) on)) ⌝ }
+    ensures { λ _. ⌜ now (node .exit) ≡ nodeWords
+        (withFlags1 (toNode (now (node .entry))) (withBit 7 ((toNode (now (node .entry))) .flags1) on)) ⌝ }
 {
     let n = node_of(*node);
     let w = node_words(n.set_left_turns_only(on));
@@ -224,7 +232,8 @@ pub extern "C" fn ynd_node_set_left_turns_only(node: &mut NodeWords, on: bool)
 
 #[no_mangle]
 pub extern "C" fn ynd_node_set_no_gps(node: &mut NodeWords, on: bool)
-    ensures { λ _. ⌜ now (node .exit) ≡ nodeWords (withFlags2 (toNode (now (node .entry))) (withBit 0 ((toNode (now (node .entry))) .flags2) on)) ⌝ }
+    ensures { λ _. ⌜ now (node .exit) ≡ nodeWords
+        (withFlags2 (toNode (now (node .entry))) (withBit 0 ((toNode (now (node .entry))) .flags2) on)) ⌝ }
 {
     let n = node_of(*node);
     let w = node_words(n.set_no_gps(on));
@@ -233,7 +242,8 @@ pub extern "C" fn ynd_node_set_no_gps(node: &mut NodeWords, on: bool)
 
 #[no_mangle]
 pub extern "C" fn ynd_node_set_is_junction(node: &mut NodeWords, on: bool)
-    ensures { λ _. ⌜ now (node .exit) ≡ nodeWords (withFlags2 (toNode (now (node .entry))) (withBit 2 ((toNode (now (node .entry))) .flags2) on)) ⌝ }
+    ensures { λ _. ⌜ now (node .exit) ≡ nodeWords
+        (withFlags2 (toNode (now (node .entry))) (withBit 2 ((toNode (now (node .entry))) .flags2) on)) ⌝ }
 {
     let n = node_of(*node);
     let w = node_words(n.set_is_junction(on));
@@ -242,7 +252,8 @@ pub extern "C" fn ynd_node_set_is_junction(node: &mut NodeWords, on: bool)
 
 #[no_mangle]
 pub extern "C" fn ynd_node_set_highway(node: &mut NodeWords, on: bool)
-    ensures { λ _. ⌜ now (node .exit) ≡ nodeWords (withFlags2 (toNode (now (node .entry))) (withBit 6 ((toNode (now (node .entry))) .flags2) on)) ⌝ }
+    ensures { λ _. ⌜ now (node .exit) ≡ nodeWords
+        (withFlags2 (toNode (now (node .entry))) (withBit 6 ((toNode (now (node .entry))) .flags2) on)) ⌝ }
 {
     let n = node_of(*node);
     let w = node_words(n.set_highway(on));
@@ -251,7 +262,8 @@ pub extern "C" fn ynd_node_set_highway(node: &mut NodeWords, on: bool)
 
 #[no_mangle]
 pub extern "C" fn ynd_node_set_tunnel(node: &mut NodeWords, on: bool)
-    ensures { λ _. ⌜ now (node .exit) ≡ nodeWords (withFlags3 (toNode (now (node .entry))) (withBit 0 ((toNode (now (node .entry))) .flags3) on)) ⌝ }
+    ensures { λ _. ⌜ now (node .exit) ≡ nodeWords
+        (withFlags3 (toNode (now (node .entry))) (withBit 0 ((toNode (now (node .entry))) .flags3) on)) ⌝ }
 {
     let n = node_of(*node);
     let w = node_words(n.set_tunnel(on));
@@ -260,7 +272,8 @@ pub extern "C" fn ynd_node_set_tunnel(node: &mut NodeWords, on: bool)
 
 #[no_mangle]
 pub extern "C" fn ynd_node_set_heuristic_value(node: &mut NodeWords, v: u8)
-    ensures { λ _. ⌜ now (node .exit) ≡ nodeWords (withFlags3 (toNode (now (node .entry))) (withField 1 7 ((toNode (now (node .entry))) .flags3) v)) ⌝ }
+    ensures { λ _. ⌜ now (node .exit) ≡ nodeWords
+        (withFlags3 (toNode (now (node .entry))) (withField 1 7 ((toNode (now (node .entry))) .flags3) v)) ⌝ }
 {
     let n = node_of(*node);
     let w = node_words(n.set_heuristic_value(v));
@@ -269,7 +282,8 @@ pub extern "C" fn ynd_node_set_heuristic_value(node: &mut NodeWords, v: u8)
 
 #[no_mangle]
 pub extern "C" fn ynd_node_set_density(node: &mut NodeWords, v: u8)
-    ensures { λ _. ⌜ now (node .exit) ≡ nodeWords (withFlags4 (toNode (now (node .entry))) (withField 0 4 ((toNode (now (node .entry))) .flags4) v)) ⌝ }
+    ensures { λ _. ⌜ now (node .exit) ≡ nodeWords
+        (withFlags4 (toNode (now (node .entry))) (withField 0 4 ((toNode (now (node .entry))) .flags4) v)) ⌝ }
 {
     let n = node_of(*node);
     let w = node_words(n.set_density(v));
@@ -289,7 +303,9 @@ pub extern "C" fn ynd_node_special(node: &NodeWords) -> u8
 // Of a value over 31 the low five bits are stored.
 #[no_mangle]
 pub extern "C" fn ynd_node_set_special(node: &mut NodeWords, v: u8)
-    ensures { λ _. ⌜ now (node .exit) ≡ nodeWords (withFlags1 (toNode (now (node .entry))) (withField 3 5 (toNode (now (node .entry)) .flags1) (specialValue (specialOf v)))) ⌝ }
+    ensures { λ _. ⌜ now (node .exit) ≡ nodeWords
+        (withFlags1 (toNode (now (node .entry)))
+        (withField 3 5 (toNode (now (node .entry)) .flags1) (specialValue (specialOf v)))) ⌝ }
 {
     let n = node_of(*node);
     let s = NodeSpecial::from_value(v);
@@ -321,7 +337,9 @@ fn speed_of(v: u8) -> NodeSpeed
 // A speed over 3 is 3.
 #[no_mangle]
 pub extern "C" fn ynd_node_set_speed(node: &mut NodeWords, v: u8)
-    ensures { λ _. ⌜ now (node .exit) ≡ nodeWords (withFlags5 (toNode (now (node .entry))) (withField 1 2 (toNode (now (node .entry)) .flags5) (speedValue (speedOf v)))) ⌝ }
+    ensures { λ _. ⌜ now (node .exit) ≡ nodeWords
+        (withFlags5 (toNode (now (node .entry)))
+        (withField 1 2 (toNode (now (node .entry)) .flags5) (speedValue (speedOf v)))) ⌝ }
 {
     let n = node_of(*node);
     let s = speed_of(v);
@@ -348,7 +366,8 @@ pub extern "C" fn ynd_node_new(
     z: f32,
     node: &mut NodeWords,
 )
-    ensures { λ _. ⌜ now (node .exit) ≡ nodeWords (newNode «area_id» «node_id» (dequantised (quantised (record { x = x; y = y; z = z })))) ⌝ }
+    ensures { λ _. ⌜ now (node .exit) ≡ nodeWords
+        (newNode «area_id» «node_id» (dequantised (quantised (record { x = x; y = y; z = z })))) ⌝ }
 {
     let n = PathNode::new(area_id, node_id, Vec3 { x, y, z });
     let w = node_words(n);
@@ -358,7 +377,8 @@ pub extern "C" fn ynd_node_new(
 // The position is stored in whole steps.
 #[no_mangle]
 pub extern "C" fn ynd_node_set_position(node: &mut NodeWords, x: f32, y: f32, z: f32)
-    ensures { λ _. ⌜ now (node .exit) ≡ nodeWords (withPosition (toNode (now (node .entry))) (dequantised (quantised (record { x = x; y = y; z = z })))) ⌝ }
+    ensures { λ _. ⌜ now (node .exit) ≡ nodeWords
+        (withPosition (toNode (now (node .entry))) (dequantised (quantised (record { x = x; y = y; z = z })))) ⌝ }
 {
     let n = node_of(*node);
     let w = node_words(n.set_position(Vec3 { x, y, z }));

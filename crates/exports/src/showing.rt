@@ -12,7 +12,8 @@ ghost use mathlib.Core.List.{List};
 ghost use Prim.Native.Nat.{ℕ};
 ghost use Rattle.walks.specs.Shown.{shownNode, shownJunction, shownValues, shownLink};
 ghost use Rattle.exports.specs.Cells.{lent};
-ghost use Rattle.exports.specs.Found.{told, isPlace, placeOrZero, seenWords, shownNodeTold, shownJunctionTold, shownValuesTold, shownLinkTold};
+ghost use Rattle.exports.specs.Found.{told, isPlace, placeOrZero, seenWords, shownNodeTold, shownJunctionTold};
+ghost use Rattle.exports.specs.Found.{shownValuesTold, shownLinkTold};
 
 fn is_place(p: Place) -> usize
     ensures { λ r. ⌜ r ≡ isPlace p ⌝ }
@@ -63,7 +64,8 @@ fn seen_words(n: SeenNode) -> [usize; 14]
     ]
 }
 
-// Of the node at a place: area, street, the bits of its position, flags0 to flags5, link count, 1 if it has a junction and else
+// Of the node at a place: area, street, the bits of its position, flags0 to flags5, link count, 1 if it has a
+// junction and else
 // 0, the junction's place.
 #[no_mangle]
 pub extern "C" fn ynd_shown_node(
@@ -77,7 +79,8 @@ pub extern "C" fn ynd_shown_node(
     place: &mut usize,
 ) -> u32
     ensures { λ r. ⌜ ((heights : List ℕ) → told r (now (place .exit)) (now (shown .exit))
-        ≡ shownNodeTold (shownNode (lent (now (ynd .entry)) (now (nodes .entry)) (now (links .entry)) (now (junctions .entry)) heights (now (refs .entry))) at) (now (shown .entry))) ⌝ }
+        ≡ shownNodeTold (shownNode (lent (now (ynd .entry)) (now (nodes .entry)) (now (links .entry))
+        (now (junctions .entry)) heights (now (refs .entry))) at) (now (shown .entry))) ⌝ }
 {
     let y = ynd_of(*ynd);
     let s = walks::shown::shown_node(y, nodes, links, junctions, refs, at);
@@ -103,8 +106,10 @@ pub extern "C" fn ynd_shown_junction(
     shown: &mut [u32; 6],
     place: &mut usize,
 ) -> u32
-    ensures { λ r. ⌜ ((nodes links : List (List ℕ)) (heights : List ℕ) (refs : List (List ℕ)) → told r (now (place .exit)) (now (shown .exit))
-        ≡ shownJunctionTold (shownJunction (lent (now (ynd .entry)) nodes links (now (junctions .entry)) heights refs) at) (now (shown .entry))) ⌝ }
+    ensures { λ r. ⌜ ((nodes links : List (List ℕ)) (heights : List ℕ) (refs : List (List ℕ)) → told r
+        (now (place .exit)) (now (shown .exit))
+        ≡ shownJunctionTold (shownJunction
+        (lent (now (ynd .entry)) nodes links (now (junctions .entry)) heights refs) at) (now (shown .entry))) ⌝ }
 {
     let y = ynd_of(*ynd);
     let s = walks::shown::shown_junction(y, junctions, at);
@@ -121,7 +126,8 @@ pub extern "C" fn ynd_shown_junction(
     }
 }
 
-// The heightmap values of the junction at a place, copied to the front of the lent list; `count` gets how many they are.
+// The heightmap values of the junction at a place, copied to the front of the lent list; `count` gets how many they
+// are.
 // A lent list that is too short for them is 7 at 3, as the heights are.
 #[no_mangle]
 pub extern "C" fn ynd_shown_values(
@@ -133,8 +139,10 @@ pub extern "C" fn ynd_shown_values(
     count: &mut usize,
     place: &mut usize,
 ) -> u32
-    ensures { λ r. ⌜ ((nodes links : List (List ℕ)) (refs : List (List ℕ)) → told r (now (place .exit)) (now (count .exit))
-        ≡ shownValuesTold (shownValues (lent (now (ynd .entry)) nodes links (now (junctions .entry)) (now (heights .entry)) refs) at
+    ensures { λ r. ⌜ ((nodes links : List (List ℕ)) (refs : List (List ℕ)) → told r (now (place .exit))
+        (now (count .exit))
+        ≡ shownValuesTold (shownValues (lent (now (ynd .entry)) nodes links (now (junctions .entry))
+        (now (heights .entry)) refs) at
         (now (values .entry)) .answer) (now (count .entry))) ⌝ }
     ensures { λ _. ⌜ ((nodes links : List (List ℕ)) (refs : List (List ℕ)) → now (values .exit)
         ≡ shownValues (lent (now (ynd .entry)) nodes links (now (junctions .entry)) (now (heights .entry)) refs) at
@@ -155,7 +163,8 @@ pub extern "C" fn ynd_shown_values(
     }
 }
 
-// Of the link that a byte chooses at a place: 1, its three flags and its length; five zeros where there is no such link.
+// Of the link that a byte chooses at a place: 1, its three flags and its length; five zeros where there is no such
+// link.
 #[no_mangle]
 pub extern "C" fn ynd_shown_link(
     ynd: &[u32; 15],
@@ -166,8 +175,10 @@ pub extern "C" fn ynd_shown_link(
     shown: &mut [u8; 5],
     place: &mut usize,
 ) -> u32
-    ensures { λ r. ⌜ ((junctions : List (List ℕ)) (heights : List ℕ) (refs : List (List ℕ)) → told r (now (place .exit)) (now (shown .exit))
-        ≡ shownLinkTold (shownLink (lent (now (ynd .entry)) (now (nodes .entry)) (now (links .entry)) junctions heights refs) at choice) (now (shown .entry))) ⌝ }
+    ensures { λ r. ⌜ ((junctions : List (List ℕ)) (heights : List ℕ) (refs : List (List ℕ)) → told r
+        (now (place .exit)) (now (shown .exit))
+        ≡ shownLinkTold (shownLink (lent (now (ynd .entry)) (now (nodes .entry)) (now (links .entry)) junctions
+        heights refs) at choice) (now (shown .entry))) ⌝ }
 {
     let y = ynd_of(*ynd);
     let s = walks::shown::shown_link(y, nodes, links, at, choice);

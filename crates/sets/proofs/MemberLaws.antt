@@ -9,6 +9,7 @@ use lib.Dec.{eqb}
 use lib.ListN.{length, getD, List·getD-map}
 use borrow.Author.Tests.{eqb-true, eqb-false, eq-eqb, ne-eqb}
 use Rattle.cells.specs.Area.{belongs}
+use Rattle.cells.proofs.Lookups.AreaLaws.{belongs-own}
 use Rattle.cells.specs.Cell.{Link, Cell, numbers, firstOf}
 use Rattle.cells.specs.Lookup.{firstWith, orLater, find}
 use Rattle.cells.proofs.Sequences.Tests.{by-test, true-false}
@@ -17,12 +18,6 @@ use Rattle.walks.specs.declared.walk.End.the-variants.{NoLink, Left}
 use Rattle.sets.specs.Members.{noCell, cellAt, areaOf, areas, memberFor}
 use Rattle.sets.specs.Crossing.{Location, location, arriveIn, enter, onFrom, nextIn}
 use Rattle.sets.specs.SetRenumber.{isMember}
-
--- All that sets need of the cell's own rule, and the only place that opens it: a cell claims the links that name its area
--- in full.
-pub belongs-own : (a : ℕ) → belongs a a ≡ true
-unfolding belongs
-belongs-own a = rw (eq-eqb a a refl)
 
 never : {P : Type 0} {i : ℕ} → _≡_ {A = Option ℕ} none (some i) → P
 never e = let z : _≡_ {A = ℕ} 0 1 = cc in absurd (omega arith)

@@ -13,7 +13,8 @@ use Rattle.cells.proofs.Sequences.Tests.{by-test, true-false}
 use Rattle.walks.specs.Walk.{Next, to, stop, next, see, linkAt, bodyOf, take-link, arrive, leads, Visit, Trail, goOn, walkIn, walk}
 use Rattle.sets.specs.Members.{areaOf, areas, memberFor}
 use Rattle.sets.specs.Crossing.{Location, location, arriveIn, enter, nextIn, crossing}
-use Rattle.sets.proofs.MemberLaws.{belongs-own, takeIn, next-is}
+use Rattle.cells.proofs.Lookups.AreaLaws.{belongs-own}
+use Rattle.sets.proofs.MemberLaws.{takeIn, next-is}
 
 -- a trail with each place of another kind
 abbrev pub placedIn : {L M : Type 0} → (L → M) → Trail L → Trail M
