@@ -24,7 +24,7 @@ use Rattle.sets.specs.SetParts.{count_of, Holding, areas_of}
 use Rattle.sets.specs.RenumberMember.{correct_part, correct_parts}
 use Rattle.sets.specs.CorrectParts.{relabelled, part_corrected}
 use Rattle.sets.proofs.SetLists.{over_same, over_long}
-use Rattle.sets.proofs.SetLaws.{not_meant, meant_by_area}
+use Rattle.sets.proofs.SetLaws.{not_meant, meant_of_area}
 use Rattle.sets.proofs.PartLaws.{total_below, start_more, start_next, start_none, rest}
 use Rattle.sets.proofs.CellSetLaws.{area_there}
 
@@ -68,7 +68,7 @@ module _ (x : Change) (i c : ℕ) (part : List (List ℕ)) where
       (first : is_member x.member (first_with x.areas area) ≡ true)
       (f : eqb i x.member ≡ false) where
     by_area : (a : ℕ) → (b : Bool) → belongs (get_or x.areas i 0) area ≡ b → meant x i a ≡ not b && eqb a area
-    by_area a b e = meant_by_area x area is first i a f ∙ by_test (eqb a area)
+    by_area a b e = meant_of_area x area is first i a f ∙ by_test (eqb a area)
         (λ t. rw (eqb-true a area t, e))
         (λ g. rw g (no (not (belongs (get_or x.areas i 0) a)) ∙ sym (no (not b))))
       where

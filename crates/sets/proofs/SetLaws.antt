@@ -118,11 +118,11 @@ module _ (cs : List Cell) (j k : ℕ) (first : first_with (areas cs) (area_of (c
 
 -- where the member renumbered is the first of its area, a link in another member is meant exactly if it names that area
 -- and the own rule doesn't claim it
-pub meant_by_area : (x : Change) (area : ℕ) → area ≡ get_or x.areas x.member 0
+pub meant_of_area : (x : Change) (area : ℕ) → area ≡ get_or x.areas x.member 0
     → is_member x.member (first_with x.areas area) ≡ true
     → (i a : ℕ) → eqb i x.member ≡ false → meant x i a ≡ not (belongs (get_or x.areas i 0) a) && eqb a area
 unfolding member_for
-meant_by_area x area is first i a ne = by_test (belongs (get_or x.areas i 0) a)
+meant_of_area x area is first i a ne = by_test (belongs (get_or x.areas i 0) a)
     (λ t. rw (t, ne))
     (λ f. rw f (by_test (eqb a area)
     (λ t. let e : a ≡ area = eqb-true a area t in rw (t, e) first)
@@ -133,3 +133,8 @@ meant_by_area x area is first i a ne = by_test (belongs (get_or x.areas i 0) a)
     go (some q) e differs =
         ne_eqb q x.member (λ z.
         differs (sym (first_has x.areas a q e).1 ∙ ap (λ (n : ℕ). get_or x.areas n 0) z ∙ sym is))
+
+pub meant_by_area : (cs : List Cell) (j : ℕ) → first_with (areas cs) (area_of (cell_at cs j)) ≡ some j → (i a : ℕ)
+    → eqb i j ≡ false
+    → meant (change_of cs j) i a ≡ not (belongs (get_or (areas cs) i 0) a) && eqb a (area_of (cell_at cs j))
+meant_by_area cs j first = meant_of_area (change_of cs j) (area_of (cell_at cs j)) (sym (area_at cs j)) (ap (is_member j) first ∙ eq-eqb j j refl)
