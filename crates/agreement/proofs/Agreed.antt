@@ -8,7 +8,7 @@ use mathlib.Core.Logic.{inl, inr}
 use mathlib.Core.List.{List}
 use lib.Dec.{ltb}
 use lib.ListN.{length}
-use borrow.Author.Tests.{ltb-false, lt-ltb, ne_eqb}
+use borrow.Author.Tests.{lt-ltb, ne_eqb}
 use Rattle.std.proofs.lemmas.Bool.{false≢true}
 use Rattle.numbers.proofs.Units.{lt_or_ge}
 use Rattle.records.specs.Sections.{located, bytes_of, part_bytes, array_at}
@@ -25,7 +25,6 @@ use Rattle.cells.specs.Read.{if_found, read_arrays, read_of}
 use Rattle.cells.specs.declared.arrays.Found.{Found}
 use Rattle.cells.specs.declared.arrays.Found.TheVariants as found
 use Rattle.cells.specs.declared.count.Counted.{Counted}
-use Rattle.cells.specs.declared.count.Counted.TheVariants as counted
 use Rattle.agreement.specs.Agree.{Arrays, arrays_of, SameArrays, Agree}
 use Rattle.agreement.proofs.SameBytes.{anywhere, part_long}
 use Rattle.agreement.proofs.SameRoots.{root_same}

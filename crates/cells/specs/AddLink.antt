@@ -3,7 +3,6 @@
 use Rattle.std.specs.Prelude.{ℕ, ◌+◌, ◌-◌, ◌*◌, ◌%◌, ◌≤◌, ◌<◌, Bool, cond, List, [], ◌∷◌, ◌++◌, map, eqb, ltb, leb, length, get_or, set, take, drop}
 use Rattle.numbers.specs.Refusals.{when, decided}
 use Rattle.numbers.specs.declared.answer.Answer.{Answer}
-use Rattle.numbers.specs.declared.answer.Answer.TheVariants.{Done}
 use Rattle.cells.specs.NodeWords.{link_start, link_count}
 use Rattle.cells.specs.Words.{link_words}
 use Rattle.cells.specs.Memory.{Memory, memory, Left, unless, over_limit}

@@ -1,5 +1,5 @@
 -- What write-then-read answers, found before anything is stored: writing's checks, then those of reading back. No public function's contract cites this.
-use Rattle.std.specs.Prelude.{ℕ, Bool, cond, List, ltb, length}
+use Rattle.std.specs.Prelude.{ℕ, Bool, cond, ltb, length}
 use Rattle.numbers.specs.Refusals.{unless as otherwise}
 use Rattle.cells.specs.Memory.{Memory, short_of}
 use Rattle.cells.specs.Blocks.{written}
@@ -9,7 +9,6 @@ use Rattle.cells.specs.declared.count.Counts.{Counts}
 use Rattle.cells.specs.declared.count.Counted.{Counted}
 use Rattle.cells.specs.declared.count.Counted.TheVariants as counted
 use Rattle.numbers.specs.declared.answer.Answer.{Answer}
-use Rattle.numbers.specs.declared.answer.Answer.TheVariants as answer
 use Rattle.cells.specs.declared.write.Written.{Written}
 use Rattle.cells.specs.declared.write.Written.TheVariants.{Wrote, Refused}
 

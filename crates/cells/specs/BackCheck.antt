@@ -1,6 +1,6 @@
 -- What write-then-read has to test before it writes: whether what is written has room in the cell's own lists, by counts alone.
 -- Reading back refuses nothing else (proofs WritingBack BackCheck). No public function's contract cites this.
-use Rattle.std.specs.Prelude.{List, length}
+use Rattle.std.specs.Prelude.{length}
 use Rattle.records.specs.Put.{joined}
 use Rattle.cells.specs.Memory.{Memory}
 use Rattle.cells.specs.Read.{room_check}

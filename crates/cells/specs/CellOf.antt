@@ -1,9 +1,9 @@
 -- The cell that memory holds. Every list of numbers is some entry, and ranges that run out are cut.
 -- Assumes nothing.
-use Rattle.std.specs.Prelude.{ℕ, zero, suc, ◌+◌, ◌*◌, ◌/◌, ◌%◌, List, [], ◌∷◌, ◌++◌, map, length, get_or, take, drop}
+use Rattle.std.specs.Prelude.{ℕ, ◌/◌, ◌%◌, List, map, get_or, take, drop}
 use Rattle.cells.specs.NodeWords.{area_of, number_of, link_start, link_count, value_start, value_count}
 use Rattle.cells.specs.Memory.{Memory}
-use Rattle.cells.specs.Cell.{Position, LinkBody, Link, NodeMarks, NodeBody, Node, Junction, Ref, Cell}
+use Rattle.cells.specs.Cell.{Position, Link, NodeMarks, NodeBody, Node, Junction, Ref, Cell}
 use Rattle.std.specs.Float.{binary32}
 use Rattle.std.specs.Float.Ieee.{to_bits}
 use Rattle.numbers.specs.declared.math.Vec3.{Vec3}

@@ -1,6 +1,6 @@
 -- Section 4, other calls: entries taken out and stored by place. Causes of refusal, in their order: 13 no such place, 14 a
 -- struct over a limit, 12, 7 a list shorter than its count. What needs an entry is asked of one that is lent.
-use Rattle.std.specs.Prelude.{ℕ, ◌+◌, ◌-◌, ◌*◌, min, Bool, true, false, not, cond, ◌&&◌, List, [], ◌∷◌, eqb, ltb, leb, length, get_or, set}
+use Rattle.std.specs.Prelude.{ℕ, ◌+◌, ◌-◌, ◌*◌, min, Bool, not, cond, ◌&&◌, List, [], ◌∷◌, eqb, ltb, leb, length, get_or, set}
 use Rattle.numbers.specs.Refusals.{when, decided, unless as otherwise}
 use Rattle.cells.specs.NodeWords.{link_start, link_count, value_start, value_count}
 use Rattle.cells.specs.Words.{to_node, node_words, to_link, link_words, to_junction, junction_words, to_ref, ref_words}

@@ -7,7 +7,7 @@ use Rattle.records.specs.declared.junction_ref.NodeJunctionRef.{NodeJunctionRef}
 use Rattle.cells.specs.declared.node.PathNode.{PathNode}
 use Rattle.cells.specs.declared.junction.PathJunction.{PathJunction}
 use Rattle.cells.specs.NodeWords.{link_start, link_count, value_start, value_count}
-use Rattle.cells.specs.Cell.{Link, NodeBody, Node, Junction, Ref, Cell, node_at}
+use Rattle.cells.specs.Cell.{Link, Node, Junction, Ref, Cell, node_at}
 use Rattle.cells.specs.CellOf.{bits_of, body_from}
 use Rattle.cells.specs.AddLink.{held_at}
 

@@ -3,7 +3,7 @@ use Rattle.std.specs.Prelude.{ℕ, Bool, cond, ◌||◌, List, ltb, length}
 use Rattle.numbers.specs.Refusals.{unless as otherwise}
 use Rattle.cells.specs.declared.ynd.Ynd.{Ynd}
 use Rattle.numbers.specs.declared.answer.Answer.{Answer}
-use Rattle.numbers.specs.declared.answer.Answer.TheVariants.{Done, Refused}
+use Rattle.numbers.specs.declared.answer.Answer.TheVariants.{Refused}
 use Rattle.cells.specs.declared.ynd.Outcome.{Outcome}
 
 pub record Memory : Type 0 where

@@ -1,7 +1,7 @@
 -- Section 4, each public field's store: the lists of nodes, junctions and refs made shorter, as `Vec::truncate`.
 -- Only a count of the struct changes: entries behind it, links and values stay in the lent lists, and are no one's.
 -- Causes of refusal, in their order: 13 the cell has fewer, 14.
-use Rattle.std.specs.Prelude.{ℕ, Bool, List, [], ◌∷◌, ltb}
+use Rattle.std.specs.Prelude.{ℕ, Bool, [], ◌∷◌, ltb}
 use Rattle.numbers.specs.Refusals.{when, decided}
 use Rattle.numbers.specs.declared.answer.Answer.{Answer}
 use Rattle.cells.specs.Memory.{Memory, memory, Left, unless, over_limit}

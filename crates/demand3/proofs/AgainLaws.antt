@@ -2,7 +2,7 @@
 use Prim.Native.Nat.{ℕ, ◌<◌, ◌≤◌}
 use native.Mathlib.Omega.{arith}
 use mathlib.Core.Path.{◌≡◌, refl, ap, sym, subst, ◌∙◌}
-use mathlib.Core.Bool.{true, false, cond}
+use mathlib.Core.Bool.{true, cond}
 use mathlib.Core.List.{List, ◌++◌, map}
 use lib.Dec.{leb, ltb}
 use lib.ListN.{length, take, drop, length-map}
@@ -10,7 +10,7 @@ use lib.Seq.{take-append_seam}
 use borrow.Author.Tests.{le-leb, lt-leb, leb-false}
 use Rattle.cells.specs.Memory.{Memory, Left}
 use Rattle.cells.specs.Cell.{Cell}
-use Rattle.cells.specs.CellOf.{nodes_of, cell_of}
+use Rattle.cells.specs.CellOf.{cell_of}
 use Rattle.cells.specs.FileCell.{file_cell}
 use Rattle.cells.specs.Read.{read_of}
 use Rattle.cells.specs.Renumber.{Renumbered, renumber, scratch_left}
@@ -30,7 +30,7 @@ use Rattle.walks.specs.declared.sound.Soundness.TheVariants as soundness
 use Rattle.demand3.specs.declared.again.Walks.{Walks}
 use Rattle.demand3.specs.declared.again.Walks.TheVariants as walks
 use Rattle.walks.proofs.Routes.{move_route}
-use Rattle.walks.proofs.WalksAlike.{Lies, nodes_long, route_left, walk_left_law, read_lies}
+use Rattle.walks.proofs.WalksAlike.{nodes_long, route_left, walk_left_law, read_lies}
 use Rattle.walks.proofs.Demand.{walks_unnoticed}
 use Rattle.walks.proofs.SoundCases.{says_yes}
 

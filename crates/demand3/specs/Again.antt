@@ -10,7 +10,7 @@ use Rattle.numbers.specs.declared.answer.Answer.{Answer}
 use Rattle.numbers.specs.declared.answer.Answer.TheVariants as answer
 use Rattle.walks.specs.SoundCall.{sound_call}
 use Rattle.walks.specs.WalkCall.{walk_call}
-use Rattle.walks.specs.Calls.{Call, renumbering, write_read, moved}
+use Rattle.walks.specs.Calls.{Call, renumbering, write_read}
 use Rattle.walks.specs.declared.sound.Soundness.{Soundness}
 use Rattle.walks.specs.declared.sound.Soundness.TheVariants as soundness
 use Rattle.walks.specs.declared.walk.Walked.{Walked}

@@ -1,5 +1,5 @@
 -- In the grid the bounds of a cell are exact: n * 512 - 8192, and that of n + 1. Each by a computed test of the 32 cells. Assumes nothing.
-use Rattle.std.proofs.Common.{◌≡◌, ℕ, suc, ◌*◌, ◌<◌, Bool, true, false, T, eqb, ℤ, pos, ◌-ℤ◌, sym, ap, ◌∙◌, eqb→eq}
+use Rattle.std.proofs.Common.{◌≡◌, ℕ, suc, ◌*◌, ◌<◌, Bool, true, false, T, eqb, pos, ◌-ℤ◌, sym, ap, ◌∙◌, eqb→eq}
 use lib.Ieee.{Float, fin, binary32, to_bits, of_bits, of_int, mul, fits}
 use lib.Ieee.Bits.{of_bits-to_bits}
 use lib.Ieee.Fits.{add-fits, of_int-fits}

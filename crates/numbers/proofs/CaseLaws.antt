@@ -1,6 +1,6 @@
 -- T-04: the five cases of a stored step. Every pattern is in exactly one, and its step is what the case gives.
 -- Assumes nothing.
-use Rattle.std.proofs.Common.{◌≡◌, ℕ, ◌+◌, ◌-◌, ◌<◌, ◌≤◌, subst, inl, inr, eq-zero-or-pos, arith, le-ltb, lt-ltb, eq-eqb, ne_eqb}
+use Rattle.std.proofs.Common.{◌≡◌, ℕ, ◌-◌, ◌<◌, ◌≤◌, subst, inl, inr, eq-zero-or-pos, arith, le-ltb, lt-ltb, eq-eqb, ne_eqb}
 use lib.Ieee.{binary32, of_bits}
 use Rattle.numbers.specs.Steps.{step_of}
 use Rattle.numbers.specs.Cases.{field, fraction, StepCase, InCase, case_of, OneCase, case_step}

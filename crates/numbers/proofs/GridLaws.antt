@@ -3,7 +3,7 @@ use Rattle.std.proofs.Common.{◌≡◌, ℕ, zero, suc, ◌+◌, ◌-◌, ◌*�
 use Prim.Native.Nat.{compare}
 use native.Mathlib.Nat.{div-eq_of_lt}
 use lib.Bits.{bit_and, and_mask, and_high}
-use lib.Ieee.{Float, nan, inf, fin, binary32, up, down, fits, size, nearest, odd, units, round, div, lt, le, to_unsigned}
+use lib.Ieee.{Float, nan, inf, fin, binary32, up, down, fits, size, nearest, odd, units, round, div, le, to_unsigned}
 use lib.Ieee.Fits.{down_pos, and_l, and_r}
 use lib.Ieee.Exact.{round_exact}
 use lib.Ieee.Order.{round_mono}

@@ -1,13 +1,13 @@
 -- The thresholds by whole numbers: the comparison grows with the pattern and turns at the table's entry, one computed test for all entries; a least pattern is the
 -- table's entry, and there is no other. Assumes nothing.
-use Rattle.std.proofs.Common.{◌≡◌, ℕ, zero, suc, ◌+◌, ◌-◌, ◌*◌, ◌/◌, ◌%◌, ◌^◌, ◌<◌, ◌≤◌, Bool, true, false, not, ◌&&◌, ◌||◌, T, eqb, ltb, leb, ◌⊎◌, List, [], ◌∷◌, get_or, sym, refl, ap, ◌∙◌, subst, inl, inr, le_trans, le_of_eq, lt_of_lt_of_le, le_of_suc-le-suc, lt_of_le_of_lt, mul-le-mul_right, mod-eq_of_lt, zero-lt-suc, mul_comm, div-lt_iff_lt-mul, mul-le-mul, le_antisymm, mul-lt-mul_of_pos_right, mul-pos, pow-suc, lt_of_not-le, arith, lit<, le→leb, eqb→eq, ltb→lt, leb→le, T_not, pow_pos, pow_mono, pow-add}
+use Rattle.std.proofs.Common.{◌≡◌, ℕ, zero, suc, ◌+◌, ◌-◌, ◌*◌, ◌/◌, ◌%◌, ◌^◌, ◌<◌, ◌≤◌, Bool, true, false, not, ◌&&◌, ◌||◌, T, eqb, ltb, leb, List, [], ◌∷◌, get_or, sym, ap, ◌∙◌, subst, inl, inr, le_trans, le_of_eq, lt_of_lt_of_le, le_of_suc-le-suc, lt_of_le_of_lt, mul-le-mul_right, mod-eq_of_lt, zero-lt-suc, div-lt_iff_lt-mul, mul-le-mul, le_antisymm, mul-lt-mul_of_pos_right, mul-pos, pow-suc, lt_of_not-le, arith, lit<, le→leb, eqb→eq, ltb→lt, leb→le, T_not, pow_pos, pow_mono, pow-add}
 use native.Mathlib.Nat.{pow-succ'}
 use lib.Ieee.{size, binary32, of_bits}
 use lib.Ieee.Digits.{size-lt, size-le}
 use lib.Ieee.Fits.{and_l, and_r}
 use Rattle.numbers.specs.Lengths.{root, reaches}
 use Rattle.numbers.specs.Table.{thresholds, Least}
-use Rattle.numbers.specs.ThresholdSearch.{whole_reaches, Searched, hex_digit, hex_value, hex_before, hex_read, line_of}
+use Rattle.numbers.specs.ThresholdSearch.{whole_reaches, Searched, hex_digit, hex_value, hex_before, hex_read}
 use Rattle.numbers.proofs.Every.{at, at_number}
 use Rattle.numbers.proofs.Patterns.{number, val, val_mono}
 use Rattle.numbers.proofs.TableLaws.{entry, finite, or_split, least_entry}

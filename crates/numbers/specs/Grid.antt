@@ -5,7 +5,6 @@ use Rattle.std.specs.Float.Ieee.{up, down, add, mul, of_int}
 use Rattle.numbers.specs.declared.grid.GridCell.{GridCell}
 use Rattle.numbers.specs.declared.grid.GridArea.{GridArea}
 use Rattle.numbers.specs.declared.grid.GridArea.TheVariants as area
-use Rattle.numbers.specs.declared.grid.Bounds.{Bounds}
 use Rattle.numbers.specs.declared.grid.CellBounds.{CellBounds}
 use Rattle.numbers.specs.declared.grid.CellBounds.TheVariants as bounds
 

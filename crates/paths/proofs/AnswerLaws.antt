@@ -1,17 +1,17 @@
 -- T-06's sentences, of the call `shortest_path` itself.
-use Prim.Native.Nat.{ℕ, zero, suc, ◌*◌, ◌<◌, ◌≤◌}
+use Prim.Native.Nat.{ℕ, suc, ◌*◌, ◌<◌, ◌≤◌}
 use native.Mathlib.Omega.{arith}
 use mathlib.Core.Path.{◌≡◌, refl, ap, sym, ◌∙◌}
-use mathlib.Core.Bool.{Bool, true, false, cond}
-use mathlib.Core.List.{List, [], ◌∷◌, ◌++◌}
+use mathlib.Core.Bool.{true, cond}
+use mathlib.Core.List.{List, [], ◌∷◌}
 use mathlib.Core.Logic.{◌⊎◌, inl, inr, ⊎_elim}
-use lib.Dec.{leb, ltb}
+use lib.Dec.{ltb}
 use lib.ListN.{length, take, drop}
 use lib.Seq.{take_at}
 use borrow.Author.Tests.{lt-leb, le-ltb}
 use Rattle.numbers.specs.declared.answer.Answer.{Answer}
 use Rattle.numbers.specs.declared.answer.Answer.TheVariants as answer
-use Rattle.cells.specs.Memory.{Memory, over_limit}
+use Rattle.cells.specs.Memory.{Memory}
 use Rattle.cells.specs.Cell.{Node}
 use Rattle.cells.specs.CellOf.{nodes_of, cell_of}
 use Rattle.walks.specs.Sound.{sound}
@@ -21,7 +21,7 @@ use Rattle.walks.specs.WalkParts.{over}
 use Rattle.walks.specs.declared.walk.End.TheVariants as end
 use Rattle.walks.specs.declared.walk.Walked.TheVariants.{Ended}
 use Rattle.walks.proofs.WalksAlike.{Lies, nodes_long, run_lies}
-use Rattle.paths.specs.ShortestPath.{distance, Leads, Unreachable, ShortestPath}
+use Rattle.paths.specs.ShortestPath.{distance, Leads, ShortestPath}
 use Rattle.paths.specs.PathCall.{per_node, path_causes, asked, Searched, unreachable, short, path, PathLeft, refused, searched}
 use Rattle.paths.specs.SameDistances.{SameDistance, fits}
 use Rattle.paths.specs.declared.path.Shortest.{Shortest}

@@ -1,8 +1,8 @@
 -- The same distances after any list of calls.
-use Prim.Native.Nat.{ℕ, zero, suc, ◌+◌, ◌<◌, ◌≤◌}
+use Prim.Native.Nat.{ℕ, ◌+◌, ◌<◌, ◌≤◌}
 use native.Mathlib.Omega.{arith}
 use mathlib.Core.Path.{◌≡◌, refl, ap, sym, ◌∙◌, subst}
-use mathlib.Core.Bool.{Bool, true, false, cond, ◌&&◌}
+use mathlib.Core.Bool.{true, cond}
 use mathlib.Core.List.{List, [], ◌∷◌, map}
 use mathlib.Core.Option.{Option, none, some}
 use lib.ListN.{length, length-map}
@@ -21,7 +21,7 @@ use Rattle.cells.proofs.Reading.FileRead.{read_cell}
 use Rattle.cells.proofs.Renumbering.NewCell.{none_ped, new_at, new_length, new_node_law}
 use Rattle.cells.proofs.Renumbering.Parted.{new_apart}
 use Rattle.cells.proofs.Renumbering.CellRenumbered.{done_call, refused_call, done_few}
-use Rattle.cells.proofs.WritingBack.KeptCells.{kept_body, kept_node, kept_junction, kept_ref, kept}
+use Rattle.cells.proofs.WritingBack.KeptCells.{kept_body, kept_node, kept_junction, kept}
 use Rattle.cells.proofs.WritingBack.Kept.{both, read_kept}
 use Rattle.paths.proofs.WiringBack.{wiring_of, SameWiring, write_read_wiring}
 use Rattle.walks.specs.Sound.{sound}
@@ -29,7 +29,7 @@ use Rattle.walks.specs.Walk.{Next, to, stop, next, link_at}
 use Rattle.walks.specs.Calls.{Call, renumbering, write_read, is_done, after, run, renumbers, moved}
 use Rattle.walks.proofs.NewSound.{sound_parts, sound_new}
 use Rattle.walks.proofs.NewWalks.{move_next, next_new}
-use Rattle.paths.specs.ShortestPath.{length_of, length_at, distance, Leads, Unreachable, ShortestPath}
+use Rattle.paths.specs.ShortestPath.{length_of, length_at, distance, Leads, ShortestPath}
 use Rattle.paths.specs.SameDistances.{SameDistance, node_fits, ref_fits, fits, SameDistances}
 use Rattle.paths.proofs.EdgeLaws.{next_inside}
 use Rattle.paths.proofs.Least.{Goes, stay, go, goes_leads, leads_goes, sum_go}

@@ -1,32 +1,32 @@
 -- Where a choice leads and how long its link is, by the words in memory.
-use Prim.Native.Nat.{ℕ, zero, suc, ◌+◌, ◌/◌, ◌%◌, ◌<◌, ◌≤◌}
+use Prim.Native.Nat.{ℕ, suc, ◌+◌, ◌/◌, ◌%◌, ◌<◌, ◌≤◌}
 use native.Mathlib.Omega.{arith}
-use mathlib.Core.Path.{◌≡◌, refl, ap, sym, ◌∙◌}
+use mathlib.Core.Path.{◌≡◌, refl, ap}
 use mathlib.Core.Bool.{Bool, true, false, cond, ◌&&◌}
 use mathlib.Core.List.{List, [], ◌∷◌}
 use mathlib.Core.Option.{Option, none, some}
-use mathlib.Core.Logic.{◌⊎◌, inl, inr, ⊎_elim}
+use mathlib.Core.Logic.{⊎_elim}
 use lib.Dec.{eqb, ltb}
-use lib.ListN.{length, get_or, take, length-map}
+use lib.ListN.{length, get_or, take}
 use borrow.Author.Tests.{ltb-true}
 use Rattle.cells.specs.Memory.{Memory}
 use Rattle.cells.specs.NodeWords.{first_area, link_start, link_count}
 use Rattle.cells.specs.Area.{belongs}
 use Rattle.cells.specs.Cell.{Link, Node, numbers, first_of}
-use Rattle.cells.specs.CellOf.{link_of, nodes_of, cell_of}
+use Rattle.cells.specs.CellOf.{nodes_of, cell_of}
 use Rattle.cells.specs.Lookup.{find, first_with, or_later}
 use Rattle.cells.specs.LookupCall.{numbers_in, place_of, find_in}
-use Rattle.cells.proofs.Sequences.Tests.{and_left, by_test}
-use Rattle.walks.specs.Walk.{Next, to, stop, next, link_at, take_link, arrive}
+use Rattle.cells.proofs.Sequences.Tests.{and_left}
+use Rattle.walks.specs.Walk.{to, stop, next, link_at, take_link, arrive}
 use Rattle.walks.specs.declared.walk.End.TheVariants.{Left}
 use Rattle.walks.proofs.SoundWords.{numbers_same}
 use Rattle.walks.proofs.ScratchLaws.{numbers_long}
 use Rattle.walks.proofs.StepLaws.{link_past, link_out, link_in}
 use Rattle.cells.proofs.Lookups.LookupLaws.{area_held}
-use Rattle.paths.specs.ShortestPath.{length_of, length_at}
+use Rattle.paths.specs.ShortestPath.{length_at}
 use Rattle.paths.specs.Labels.{Links}
 use Rattle.paths.specs.Search.{edge_by, edge_of, edge_to}
-use Rattle.paths.specs.declared.search.Edge.TheVariants.{To, Stop}
+use Rattle.paths.specs.declared.search.Edge.TheVariants.{Stop}
 use Rattle.paths.proofs.SearchLaws.{lt_or}
 
 never : {P : Type 0} {i : ℕ} → ◌≡◌ {A = Option ℕ} none (some i) → P

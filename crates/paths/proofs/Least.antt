@@ -1,25 +1,24 @@
 -- Labels that no link improves are the least sums, and the links that they were remembered by are a path.
-use Prim.Native.Nat.{ℕ, zero, suc, ◌+◌, ◌*◌, ◌/◌, ◌%◌, ◌<◌, ◌≤◌}
+use Prim.Native.Nat.{ℕ, zero, suc, ◌+◌, ◌/◌, ◌%◌, ◌<◌, ◌≤◌}
 use native.Mathlib.Omega.{arith}
-use native.Mathlib.Numerals.{add-one}
 use mathlib.Core.Path.{◌≡◌, refl, ap, sym, ◌∙◌}
 use mathlib.Core.Bool.{Bool, true, false, cond}
 use mathlib.Core.List.{List, [], ◌∷◌, ◌++◌}
 use mathlib.Core.Option.{Option, none, some}
-use mathlib.Core.Logic.{◌⊎◌, ⊎_elim}
+use mathlib.Core.Logic.{⊎_elim}
 use lib.ListN.{length, get_or, length-append, get_or-append}
 use lib.Seq.{get_or_at}
 use Rattle.cells.specs.Cell.{Node, Link, numbers, first_of}
 use Rattle.cells.specs.Area.{belongs}
 use Rattle.cells.specs.Lookup.{find}
-use Rattle.walks.specs.Walk.{Next, to, stop, next, link_at, take_link, leads, arrive}
-use Rattle.walks.specs.WalkCall.{Route, route, step_on}
+use Rattle.walks.specs.Walk.{Next, to, stop, next, link_at, take_link, arrive}
+use Rattle.walks.specs.WalkCall.{route, step_on}
 use Rattle.walks.specs.declared.walk.End.{End}
-use Rattle.walks.specs.declared.walk.End.TheVariants.{Done, NoLink, Left, NoNode}
-use Rattle.paths.specs.ShortestPath.{length_at, distance_on, distance, Leads, Least, Unreachable, NoPlaceTwice, ShortestPath}
-use Rattle.paths.specs.Labels.{unlabelled, weight, lower, Remembered, Labelled, Closed, Links, choices_to, places_to, Back}
+use Rattle.walks.specs.declared.walk.End.TheVariants.{Done, Left}
+use Rattle.paths.specs.ShortestPath.{length_at, distance, Leads, Least, Unreachable, ShortestPath}
+use Rattle.paths.specs.Labels.{unlabelled, weight, Labelled, Closed, Links, choices_to, places_to, Back}
 use Rattle.paths.proofs.Counts.{same?}
-use Rattle.paths.proofs.Relabel.{label_sum, label_steps, label_on, on_sum, on_steps}
+use Rattle.paths.proofs.Relabel.{label_on, on_sum, on_steps}
 
 -- ---- walks, link by link
 

@@ -1,23 +1,23 @@
 -- What is asked before the search, and the answers after it.
-use Prim.Native.Nat.{ℕ, ◌+◌, ◌*◌, ◌/◌, ◌%◌, ◌<◌, ◌≤◌}
+use Prim.Native.Nat.{ℕ, ◌*◌, ◌/◌, ◌%◌, ◌<◌, ◌≤◌}
 use native.Mathlib.Omega.{arith}
 use mathlib.Core.Path.{◌≡◌, refl, ap, sym, ◌∙◌, subst, transport}
 use mathlib.Core.Bool.{false}
-use mathlib.Core.List.{List, []}
+use mathlib.Core.List.{List}
 use mathlib.Core.Logic.{◌⊎◌}
-use lib.ListN.{length, get_or}
+use lib.ListN.{length}
 use borrow.Author.Tests.{leb-false, ltb-false}
 use Rattle.numbers.specs.Refusals.{decided}
 use Rattle.numbers.proofs.Refusing.{passed}
 use Rattle.numbers.specs.declared.answer.Answer.TheVariants as answer
 use Rattle.cells.specs.Cell.{Node}
-use Rattle.cells.specs.Memory.{Memory, memory, over_limit}
+use Rattle.cells.specs.Memory.{memory, over_limit}
 use Rattle.cells.specs.CellOf.{nodes_of}
 use Rattle.cells.specs.declared.ynd.Ynd.{Ynd}
 use Rattle.cells.proofs.Forms.Limits.{within}
 use Rattle.walks.specs.WalkCall.{route}
 use Rattle.walks.specs.WalkParts.{lent, over}
-use Rattle.paths.specs.ShortestPath.{distance, Leads, Unreachable, ShortestPath}
+use Rattle.paths.specs.ShortestPath.{distance, Unreachable, ShortestPath}
 use Rattle.paths.specs.PathCall.{path_causes, Searched, unreachable, short, path, PathLeft, searched}
 use Rattle.paths.specs.Labels.{unlabelled, choices_to, places_to, Back}
 use Rattle.paths.specs.Scratch.{label_at, from_at, by_at}

@@ -1,17 +1,17 @@
 -- A label that falls leaves the labels as they should be.
-use Prim.Native.Nat.{ℕ, ◌+◌, ◌*◌, ◌/◌, ◌%◌, ◌<◌, ◌≤◌}
+use Prim.Native.Nat.{ℕ, ◌+◌, ◌/◌, ◌%◌, ◌<◌, ◌≤◌}
 use native.Mathlib.Omega.{arith}
-use mathlib.Core.Path.{◌≡◌, refl, ap, sym, ◌∙◌}
+use mathlib.Core.Path.{◌≡◌, refl, ap, ◌∙◌}
 use mathlib.Core.Bool.{cond}
 use mathlib.Core.List.{List}
-use mathlib.Core.Logic.{◌⊎◌, ⊎_elim}
+use mathlib.Core.Logic.{⊎_elim}
 use lib.Dec.{eqb}
 use borrow.Author.Tests.{eq-eqb, ne_eqb}
 use Rattle.cells.specs.Cell.{Node}
 use Rattle.walks.specs.Walk.{to, next}
 use Rattle.paths.specs.ShortestPath.{length_at}
-use Rattle.paths.specs.Labels.{unlabelled, weight, lower, total, Remembered, Labelled, Links}
-use Rattle.paths.proofs.Counts.{same?, lower_le, lower_lt, lower_grows, lower_more, total_falls}
+use Rattle.paths.specs.Labels.{unlabelled, weight, lower, total, Labelled, Links}
+use Rattle.paths.proofs.Counts.{same?, lower_lt, lower_grows, lower_more, total_falls}
 
 -- what is known of a label, put into numbers
 module _ (ns : List Node) (start n : ℕ) (d from by : ℕ → ℕ) (links : Links ns n) (h : Labelled ns start n d from by) where

@@ -1,9 +1,9 @@
 -- One link, and all links of a place, by what the code finds in memory.
 use Prim.Native.Nat.{ℕ, ◌+◌, ◌*◌, ◌-◌, ◌/◌, ◌%◌, ◌<◌, ◌≤◌}
 use native.Mathlib.Omega.{arith}
-use mathlib.Core.Path.{◌≡◌, refl, ap, sym, ◌∙◌}
+use mathlib.Core.Path.{◌≡◌, refl, ap, ◌∙◌}
 use mathlib.Core.List.{List, []}
-use lib.ListN.{length, get_or}
+use lib.ListN.{get_or}
 use Rattle.cells.specs.Cell.{Node}
 use Rattle.cells.specs.CellOf.{nodes_of}
 use Rattle.cells.specs.NodeWords.{link_count}

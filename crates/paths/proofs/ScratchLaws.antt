@@ -1,13 +1,13 @@
 -- What stands in the scratch after its entries were stored.
 use Prim.Native.Nat.{ℕ, ◌+◌, ◌*◌, ◌/◌, ◌%◌, ◌<◌, ◌≤◌}
 use native.Mathlib.Omega.{arith}
-use mathlib.Core.Path.{◌≡◌, refl, ap, sym, ◌∙◌, fun_ext}
+use mathlib.Core.Path.{◌≡◌, ap, sym, ◌∙◌, fun_ext}
 use mathlib.Core.List.{List}
 use mathlib.Core.Logic.{⊎_elim}
 use lib.ListN.{length, get_or, set, length-set}
 use lib.Seq.{get_or-set_same, get_or-set_other}
 use Rattle.paths.specs.Labels.{unlabelled}
-use Rattle.paths.specs.Scratch.{label_at, from_at, by_at, place_at, index_at, chain_at, placed, indexed, stood, labelled, cleared_at, Fits, Order, Kept, SameLabels, Swapped, Put, Cleared}
+use Rattle.paths.specs.Scratch.{label_at, from_at, by_at, place_at, index_at, chain_at, placed, indexed, stood, labelled, cleared_at, Order, Kept, SameLabels, Swapped, Put, Cleared}
 use Rattle.paths.proofs.Counts.{same?}
 use Rattle.paths.proofs.OrderLaws.{index_i, index_j, index_other, changed}
 

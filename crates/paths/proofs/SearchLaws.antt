@@ -1,5 +1,5 @@
 -- The steps of the search keep what holds of it.
-use Prim.Native.Nat.{ℕ, zero, suc, ◌+◌, ◌*◌, ◌-◌, ◌/◌, ◌%◌, ◌<◌, ◌≤◌}
+use Prim.Native.Nat.{ℕ, ◌+◌, ◌-◌, ◌/◌, ◌%◌, ◌<◌, ◌≤◌}
 use native.Mathlib.Omega.{arith}
 use mathlib.Core.Path.{◌≡◌, refl, ap, sym, ◌∙◌, subst₃}
 use mathlib.Core.Bool.{Bool, true, false}
@@ -10,11 +10,11 @@ use borrow.Author.Tests.{ltb-true, ltb-false}
 use Rattle.cells.specs.Cell.{Node}
 use Rattle.walks.specs.Walk.{Next, to, stop, next}
 use Rattle.walks.specs.declared.walk.End.{End}
-use Rattle.paths.specs.Labels.{unlabelled, weight, lower, total, Remembered, Labelled, Closed, Links}
-use Rattle.paths.specs.Scratch.{label_at, from_at, by_at, place_at, index_at, chain_at, Kept, SameLabels, Put, Pushed, Popped, Cleared}
+use Rattle.paths.specs.Labels.{unlabelled, weight, lower, Remembered, Labelled, Closed, Links}
+use Rattle.paths.specs.Scratch.{label_at, from_at, by_at, index_at, chain_at, Put, Pushed, Popped, Cleared}
 use Rattle.paths.specs.Search.{Taken, Offered, passed, taken, Searching, work}
 use Rattle.paths.proofs.Counts.{same?, lower_grows, total_le}
-use Rattle.paths.proofs.Relabel.{relabelled, fell, total_fell, label_on}
+use Rattle.paths.proofs.Relabel.{relabelled, fell, total_fell}
 
 pub lt_or : (a b : ℕ) → (a < b) ⊎ (b ≤ a)
 lt_or a b = go (ltb a b) refl

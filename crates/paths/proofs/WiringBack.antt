@@ -4,7 +4,7 @@
 use Prim.Native.Nat.{ℕ, zero, suc, ◌+◌, ◌*◌, ◌/◌, ◌%◌, ◌≤◌, ◌<◌}
 use native.Mathlib.Omega.{arith}
 use mathlib.Core.Path.{◌≡◌, refl, sym, ap, ◌∙◌, subst, subst₂}
-use mathlib.Core.Bool.{Bool, true, false, cond, ◌&&◌}
+use mathlib.Core.Bool.{Bool, true, false, cond}
 use mathlib.Core.List.{List, [], ◌∷◌, ◌++◌, map}
 use mathlib.Core.Option.{Option, none, some}
 use lib.Dec.{ltb}
@@ -25,7 +25,7 @@ use Rattle.cells.specs.Lists.{up_to, every}
 use Rattle.cells.specs.NodeWords.{area_of, number_of}
 use Rattle.cells.specs.Order.{Old, new_place, new_number, place_or, last_with, renamed}
 use Rattle.cells.specs.Words.{to_node, to_link}
-use Rattle.cells.specs.Memory.{Memory, unless, short}
+use Rattle.cells.specs.Memory.{Memory, unless}
 use Rattle.cells.specs.Cell.{Link, Node, Ref, Cell, numbers, ped_flags, old_nodes, relink, reref}
 use Rattle.cells.specs.CellOf.{link_of, ref_of, node_with, junction_with, nodes_of, junctions_of, refs_of, cell_of}
 use Rattle.cells.specs.Checks.{root_read, sizes_check, arrays_found}

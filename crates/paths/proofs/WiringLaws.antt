@@ -1,7 +1,6 @@
 -- Where choices lead, how long links are and whether a cell is sound goes by the nodes' areas, numbers and links and by the
 -- refs alone.
-use Prim.Native.Nat.{ℕ, ◌<◌, ◌≤◌}
-use native.Mathlib.Omega.{arith}
+use Prim.Native.Nat.{ℕ, ◌≤◌}
 use mathlib.Core.Path.{◌≡◌, refl, ap, sym, ◌∙◌}
 use mathlib.Core.Bool.{Bool, true, false, not, ◌&&◌, ◌||◌, cond}
 use mathlib.Core.List.{List, [], ◌∷◌, map}
@@ -17,8 +16,8 @@ use Rattle.cells.proofs.Sequences.Tests.{every_map, every_append, every_keep}
 use Rattle.cells.proofs.Renumbering.NewCell.{every_number}
 use Rattle.paths.proofs.WiringBack.{link_again, ref_again}
 use Rattle.paths.proofs.WiringBack.{Wiring, wiring_of, SameWiring}
-use Rattle.walks.specs.Sound.{sound, named, node_sound, ref_named, is_empty, differing}
-use Rattle.walks.specs.Walk.{Next, to, stop, link_at, arrive, take_link, next}
+use Rattle.walks.specs.Sound.{sound, node_sound, ref_named, is_empty, differing}
+use Rattle.walks.specs.Walk.{stop, link_at, arrive, take_link, next}
 use Rattle.walks.specs.declared.walk.End.TheVariants as end
 use Rattle.walks.proofs.Ranges.{every_mapped}
 use Rattle.paths.specs.ShortestPath.{length_of, length_at}

@@ -1,11 +1,11 @@
 -- T-06's words at a yard of three nodes, computed: node 0 has a link of 5 metres to node 1 and one that leaves; node 1 has one
 -- of 7 metres to node 2; node 2 has none.
-use Prim.Native.Nat.{ℕ, ◌<◌}
+use Prim.Native.Nat.{ℕ}
 use native.Mathlib.Omega.{arith}
 use mathlib.Core.Path.{◌≡◌, refl}
 use mathlib.Core.List.{List, [], ◌∷◌}
 use Rattle.cells.specs.Area.{belongs}
-use Rattle.cells.specs.Cell.{Link, Node, no_body, no_node}
+use Rattle.cells.specs.Cell.{Link, Node, no_body}
 use Rattle.cells.specs.Lookup.{find, first_with}
 use Rattle.walks.specs.Walk.{next}
 use Rattle.walks.specs.WalkCall.{route}

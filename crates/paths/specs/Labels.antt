@@ -3,7 +3,7 @@
 use Rattle.std.specs.Prelude.{ℕ, zero, suc, ◌+◌, ◌*◌, ◌/◌, ◌%◌, ◌<◌, ◌≤◌, ◌≡◌, List, [], ◌∷◌, ◌++◌, ltb}
 use Rattle.cells.specs.Cell.{Node}
 use Rattle.cells.specs.Order.{one_if}
-use Rattle.walks.specs.Walk.{Next, to, next}
+use Rattle.walks.specs.Walk.{to, next}
 use Rattle.paths.specs.ShortestPath.{length_at}
 
 -- the label of no walk: greater than every other

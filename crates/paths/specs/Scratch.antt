@@ -1,6 +1,6 @@
 -- What the search keeps in the lent scratch: four entries for each place, two halves or a number and a byte in each;
 -- Index has the fourth one. No public function's contract cites these.
-use Rattle.std.specs.Prelude.{ℕ, suc, ◌+◌, ◌*◌, ◌/◌, ◌%◌, ◌-◌, ◌<◌, ◌≤◌, ◌≡◌, List, ◌⊎◌, length, get_or, set}
+use Rattle.std.specs.Prelude.{ℕ, ◌+◌, ◌*◌, ◌/◌, ◌%◌, ◌-◌, ◌<◌, ◌≤◌, ◌≡◌, List, ◌⊎◌, length, get_or, set}
 use Rattle.paths.specs.Labels.{unlabelled}
 
 -- the first and second entries: a place's label, that is its sum (24 bits) and its number of links (16 bits)

@@ -2,11 +2,11 @@
 use Prim.Native.Nat.{ℕ, ◌+◌, ◌*◌, ◌<◌, ◌≤◌}
 use native.Mathlib.Omega.{arith}
 use mathlib.Core.Path.{◌≡◌, refl, ap, sym, ◌∙◌, subst}
-use mathlib.Core.Bool.{Bool, true, false, cond, ◌&&◌}
+use mathlib.Core.Bool.{Bool, true, false, cond}
 use mathlib.Core.Logic.{⊎_elim}
 use mathlib.Core.List.{List, [], ◌∷◌, ◌++◌}
 use mathlib.Core.Option.{Option, none, some}
-use lib.Dec.{leb, ltb}
+use lib.Dec.{ltb}
 use lib.IntN.{ℤ}
 use lib.ListN.{length, take, drop, get_or}
 use lib.Seq.{take_at, drop_at, get_or-take}
@@ -16,12 +16,10 @@ use Rattle.numbers.specs.declared.answer.Answer.{Answer}
 use Rattle.numbers.specs.declared.answer.Answer.TheVariants as answer
 use Rattle.cells.specs.declared.ynd.Ynd.{Ynd}
 use Rattle.cells.specs.Memory.{over_limit}
-use Rattle.reach.specs.Reach.{stored, distances, within, ordered, nearest_of, places_within, near, times}
+use Rattle.reach.specs.Reach.{stored, distances, within, nearest_of, places_within, near, times}
 use Rattle.reach.specs.Reach.{Precedes}
 use Rattle.reach.specs.Reach.{Left, left, within_causes, within_call, nearest_causes, nearest_answer, nearest_call}
-use Rattle.reach.specs.declared.reach.Listing.{Listing}
 use Rattle.reach.specs.declared.reach.Listing.TheVariants as listing
-use Rattle.reach.specs.declared.reach.NearestNode.{NearestNode}
 use Rattle.reach.specs.declared.reach.NearestNode.TheVariants as nearest
 use Rattle.reach.proofs.DistanceLaws.{on_spot, spot}
 use Rattle.reach.proofs.ListedLaws.{times_more, some_listed, first_listed, within_once, once_is, once_if}

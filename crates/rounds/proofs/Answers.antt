@@ -18,7 +18,7 @@ use Rattle.walks.specs.WalkCall.{route, walk_call, walk_left}
 use Rattle.walks.specs.declared.walk.End.TheVariants.{Done}
 use Rattle.walks.specs.declared.walk.Walked.TheVariants.{Ended, Refused}
 use Rattle.rounds.specs.declared.file.Version.TheVariants.{One}
-use Rattle.rounds.specs.Round.{head_bytes, rest_bytes, file_bytes, round_bytes, has_version, rest_read, round_read}
+use Rattle.rounds.specs.Round.{head_bytes, rest_bytes, file_bytes, has_version, rest_read, round_read}
 use Rattle.rounds.specs.Round.{round_left, written, written_left}
 use Rattle.rounds.specs.Follow.{follow_round}
 use Rattle.rounds.specs.declared.file.RoundRead.TheVariants as round

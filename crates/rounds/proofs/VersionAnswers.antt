@@ -2,7 +2,7 @@
 -- Assumes nothing.
 use Prim.Native.Nat.{ℕ, ◌+◌, ◌*◌}
 use mathlib.Core.Path.{◌≡◌, refl}
-use mathlib.Core.List.{List, [], ◌∷◌}
+use mathlib.Core.List.{[], ◌∷◌}
 use Rattle.records.specs.Bytes.{number_at, number_bytes}
 use Rattle.records.specs.Put.{put}
 use Rattle.cells.specs.Memory.{Memory, memory, over_limit}

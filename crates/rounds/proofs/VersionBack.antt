@@ -1,30 +1,29 @@
 -- T-11: what the reader of both versions and the writer by version say of one another. Each law over the version goes by
 -- RoundBack's law over any head.
 -- Assumes nothing.
-use Prim.Native.Nat.{ℕ, ◌+◌, ◌*◌, ◌/◌, ◌%◌, ◌≤◌, ◌<◌}
+use Prim.Native.Nat.{ℕ, ◌+◌, ◌≤◌, ◌<◌}
 use native.Mathlib.Omega.{arith}
 use mathlib.Core.Path.{◌≡◌, refl, sym, ap, ◌∙◌}
 use mathlib.Core.Bool.{Bool, true, false}
-use mathlib.Core.List.{List, [], ◌∷◌, ◌++◌}
+use mathlib.Core.List.{List, ◌++◌}
 use lib.Dec.{eqb, ltb}
-use lib.ListN.{length, take, drop, length-take}
+use lib.ListN.{length, take, length-take}
 use lib.Seq.{take-add}
 use borrow.Author.Tests.{le-ltb}
-use Rattle.records.specs.Bytes.{byte_at, le16, bytes16, number_at, number_bytes}
+use Rattle.records.specs.Bytes.{le16, number_at, number_bytes}
 use Rattle.records.specs.Put.{put}
 use Rattle.records.proofs.LittleEndian.{number_below}
-use Rattle.cells.proofs.Sequences.Tests.{by_test, true_false}
+use Rattle.cells.proofs.Sequences.Tests.{by_test}
 use Rattle.cells.specs.declared.write.Written.TheVariants as wrote
 use Rattle.rounds.specs.declared.file.Version.{Version}
 use Rattle.rounds.specs.declared.file.Version.TheVariants.{One, Two}
 use Rattle.rounds.specs.declared.file.RoundRead.{RoundRead}
 use Rattle.rounds.specs.declared.file.RoundRead.TheVariants as round
-use Rattle.rounds.specs.declared.file.VersionRead.{VersionRead}
 use Rattle.rounds.specs.declared.file.VersionRead.TheVariants as version
-use Rattle.rounds.specs.Round.{head_bytes, rest_bytes, file_bytes, RoundLeft, round_left, has_version, rest_read, round_read}
+use Rattle.rounds.specs.Round.{head_bytes, rest_bytes, file_bytes, round_left, has_version, rest_read, round_read}
 use Rattle.rounds.specs.Round.{VersionLeft, version_left, with_version, in_version, version_read, written, written_left}
 use Rattle.rounds.proofs.Files.{write_is}
-use Rattle.rounds.proofs.RoundBack.{Bytes, bytes_of, has_number, head_one, rest_back, refused_round, read_written, Accepted, accepted, chosen, chosen_is, behind_long, rest_file}
+use Rattle.rounds.proofs.RoundBack.{Bytes, bytes_of, has_number, head_one, rest_back, read_written, accepted, chosen, rest_file}
 
 -- the area of a version fits its 16 bits
 abbrev pub AreaFits : Version → Type 0

@@ -1,21 +1,21 @@
 -- A set in six lists: its members, and their areas.
-use Prim.Native.Nat.{ℕ, zero, suc, ◌+◌, ◌≤◌, ◌<◌}
+use Prim.Native.Nat.{ℕ, zero, suc, ◌<◌}
 use native.Mathlib.Omega.{arith}
 use native.Mathlib.Nat.{zero-add}
 use mathlib.Core.Path.{◌≡◌, refl, ap, sym, ◌∙◌}
 use mathlib.Core.List.{List, [], ◌∷◌}
-use mathlib.Core.Option.{Option, none, some}
+use mathlib.Core.Option.{none, some}
 use lib.ListN.{length, get_or, take, drop, length-map}
-use lib.Seq.{take-nil, ext_get_or}
+use lib.Seq.{ext_get_or}
 use borrow.Author.Tests.{eq-eqb, ne_eqb}
-use Rattle.cells.specs.Memory.{Memory, memory}
+use Rattle.cells.specs.Memory.{Memory}
 use Rattle.cells.specs.CellOf.{nodes_of, cell_of}
 use Rattle.cells.specs.Cell.{Cell, first_of}
 use Rattle.cells.specs.Lookup.{first_with}
 use Rattle.cells.specs.NodeWords.{first_area}
 use Rattle.cells.proofs.Lookups.AreaLaws.{own_first, own_none}
 use Rattle.cells.proofs.Lookups.LookupLaws.{area_held}
-use Rattle.sets.specs.Members.{areas, area_of, map_from}
+use Rattle.sets.specs.Members.{areas, area_of}
 use Rattle.sets.specs.MemberList.{no_memory, member_at, cells_of}
 use Rattle.sets.specs.CellSet.{CellSet, word, ynd_of, words_at, parts_of, parts_in, member_with, members_of}
 use Rattle.sets.specs.Leave.{start_of}

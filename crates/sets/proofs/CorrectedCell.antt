@@ -1,22 +1,20 @@
 -- A cell in which links to another member are corrected: all else is as it was, and a sound cell stays sound.
-use Prim.Native.Nat.{ℕ, ◌<◌}
+use Prim.Native.Nat.{ℕ}
 use native.Mathlib.Omega.{arith}
-use mathlib.Core.Path.{◌≡◌, refl, ap, sym, ◌∙◌}
-use mathlib.Core.Bool.{Bool, true, false, not, ◌&&◌, ◌||◌}
+use mathlib.Core.Path.{◌≡◌, refl, ap, ◌∙◌}
+use mathlib.Core.Bool.{true, false}
 use mathlib.Core.List.{List, [], ◌∷◌, map}
-use mathlib.Core.Option.{Option}
 use lib.Dec.{eqb}
 use lib.ListN.{length, get_or, length-map, get_or-map}
-use Rattle.cells.specs.Lists.{every}
 use Rattle.cells.specs.Area.{belongs}
 use Rattle.cells.specs.Cell.{Link, Node, Cell, no_node, node_at, numbers, first_of}
-use Rattle.cells.specs.Lookup.{first_with, is_some, junction_of}
+use Rattle.cells.specs.Lookup.{junction_of}
 use Rattle.cells.proofs.Sequences.Tests.{and_left, and_right, by_test, every_imp, every_map, map_at, map_option}
-use Rattle.walks.specs.Sound.{named, link_named, ref_named, node_sound, sound}
+use Rattle.walks.specs.Sound.{link_named, ref_named, node_sound, sound}
 use Rattle.walks.specs.Walk.{link_at, see}
 use Rattle.walks.proofs.NewSound.{Sound, sound_parts, parts_sound, empty_sound}
-use Rattle.sets.specs.Members.{member_for, area_of}
-use Rattle.sets.specs.SetRenumber.{Change, is_member, meant, corrected, correct_link, correct_node, correct_cell}
+use Rattle.sets.specs.Members.{area_of}
+use Rattle.sets.specs.SetRenumber.{Change, corrected, correct_link, correct_node, correct_cell}
 use Rattle.sets.proofs.MemberLaws.{member_own}
 
 module _ (x : Change) (i : ℕ) where

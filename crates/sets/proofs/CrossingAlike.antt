@@ -1,32 +1,28 @@
 -- The call of a crossing walk, after a list of calls and before it: refused alike, ending alike.
-use Prim.Native.Nat.{ℕ, zero, suc, ◌+◌, ◌≤◌, ◌<◌}
+use Prim.Native.Nat.{ℕ, suc, ◌+◌, ◌<◌}
 use native.Mathlib.Omega.{arith}
-use native.Mathlib.Nat.{zero-add}
 use mathlib.Core.Path.{◌≡◌, refl, ap, sym, ◌∙◌}
-use mathlib.Core.Bool.{Bool, true, false, not, ◌||◌}
-use mathlib.Core.List.{List, [], ◌∷◌, ◌++◌, map}
-use lib.Dec.{eqb, ltb, leb}
-use lib.ListN.{length, get_or, set, drop, length-map, length-set}
+use mathlib.Core.Bool.{Bool, false, ◌||◌}
+use mathlib.Core.List.{List, [], ◌∷◌, ◌++◌}
+use lib.Dec.{eqb, ltb}
+use lib.ListN.{length, set, drop, length-map, length-set}
 use lib.Seq.{get_or-set_same, get_or-set_other}
 use borrow.Author.Tests.{eqb-true, eqb-false, lt-leb, le-leb}
 use Rattle.numbers.specs.Refusals.{Cause, when, decided, unless}
 use Rattle.numbers.specs.declared.answer.Answer.{Answer}
 use Rattle.numbers.specs.declared.answer.Answer.TheVariants.{Done, Refused}
-use Rattle.cells.specs.Lists.{every}
-use Rattle.cells.specs.Cell.{Cell}
 use Rattle.cells.specs.Memory.{Memory}
 use Rattle.cells.specs.CellOf.{cell_of}
 use Rattle.cells.specs.Renumber.{renumber}
 use Rattle.cells.specs.WriteRead.{write_read_of}
 use Rattle.cells.proofs.Sequences.Tests.{by_test}
-use Rattle.walks.specs.Walk.{Trail}
 use Rattle.walks.specs.Calls.{Call, renumbering, write_read, after, run}
 use Rattle.walks.specs.Claim.{places, SameWalk}
 use Rattle.walks.specs.declared.walk.End.{End}
 use Rattle.walks.specs.declared.walk.Walked.{Walked}
 use Rattle.walks.specs.declared.walk.Walked.TheVariants as walked
 use Rattle.walks.proofs.WalksAlike.{Lies, nodes_long, run_lies}
-use Rattle.sets.specs.Members.{cell_at, map_from}
+use Rattle.sets.specs.Members.{map_from}
 use Rattle.sets.specs.Crossing.{Location, crossing}
 use Rattle.sets.specs.MemberList.{no_memory, member_at, cells_of, node_count, nodes_together, any_over, over_set, member_causes}
 use Rattle.sets.specs.SetRenumber.{Change, change_of, correct_words, correct_memory, members_after, renumbered_in, not_renumbered, renumber_in, both_in, not_written, write_read_in}

@@ -1,14 +1,14 @@
 -- The call `join`, by what its parts answer.
-use Prim.Native.Nat.{ℕ, zero, suc, ◌+◌, ◌-◌, ◌≤◌, ◌<◌}
+use Prim.Native.Nat.{ℕ, ◌+◌, ◌-◌, ◌≤◌}
 use native.Mathlib.Omega.{arith}
-use mathlib.Core.Path.{◌≡◌, refl, ap, sym, ◌∙◌}
-use mathlib.Core.Bool.{Bool, true, false, ◌||◌, cond}
+use mathlib.Core.Path.{◌≡◌, ap, sym, ◌∙◌}
+use mathlib.Core.Bool.{Bool, ◌||◌}
 use mathlib.Core.List.{List, [], ◌∷◌, ◌++◌}
 use lib.Dec.{ltb, leb}
 use lib.ListN.{length, set, take, drop, length-append}
 use lib.Seq.{length-take-le, take_all}
 use borrow.Author.Tests.{ltb-true, ltb-false}
-use Rattle.numbers.specs.Refusals.{Cause, when, decided, unless}
+use Rattle.numbers.specs.Refusals.{when, decided, unless}
 use Rattle.numbers.specs.declared.answer.Answer.{Answer}
 use Rattle.numbers.specs.declared.answer.Answer.TheVariants.{Done, Refused}
 use Rattle.cells.specs.Memory.{Memory, over_limit}
@@ -20,7 +20,7 @@ use Rattle.cells.proofs.Lookups.LookupLaws.{area_held}
 use Rattle.sets.specs.Members as members
 use Rattle.sets.specs.Members.{areas}
 use Rattle.sets.specs.MemberList.{cells_of, node_count, nodes_together, any_over, over_set}
-use Rattle.sets.specs.CellSet.{CellSet, cell_set, words_at, total, parts_in, member_with, members_of}
+use Rattle.sets.specs.CellSet.{CellSet, cell_set, words_at, total, parts_in, members_of}
 use Rattle.sets.specs.Leave.{SetLeft, set_left, used, start_of, first_of_area}
 use Rattle.sets.specs.Join.{entry_of, stored, lack_for, set_lengths, cell_lengths, join_causes, with_cell, join_cell}
 use Rattle.sets.specs.SetParts.{starts_of, areas_of, bare, bare_cell, counts_in, entry_causes, least}
@@ -28,7 +28,7 @@ use Rattle.sets.specs.declared.parts.PerList.{PerList}
 use Rattle.sets.proofs.PartLaws.{start_all}
 use Rattle.sets.proofs.CellSetLaws.{members_many, areas_held}
 use Rattle.sets.proofs.RoomLaws.{bare_many, from_together, from_over}
-use Rattle.sets.proofs.JoinLaws.{together_more, over_more, Fitting, AllFit, May, may}
+use Rattle.sets.proofs.JoinLaws.{together_more, over_more, AllFit, may}
 
 -- ---- the set's entries
 

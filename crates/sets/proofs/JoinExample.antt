@@ -13,7 +13,7 @@ use Rattle.cells.specs.declared.ynd.Ynd.{Ynd}
 use Rattle.sets.specs.Members.{map_from}
 use Rattle.sets.specs.MemberList.{nodes_together, any_over, over_set}
 use Rattle.sets.specs.CellSet.{CellSet, cell_set, ynd_of, words_at, total, parts_of, parts_in, members_of, holds_list}
-use Rattle.sets.specs.Leave.{SetLeft, set_left, first_of_area}
+use Rattle.sets.specs.Leave.{set_left, first_of_area}
 use Rattle.sets.specs.Join.{per_list, stored, part_fits, lack_later, lack_for, join_causes, with_cell, join_cell}
 use Rattle.sets.specs.declared.parts.PerList.{PerList}
 

@@ -1,13 +1,12 @@
 -- What a cell that joins is asked, by the entries and the lists' lengths.
-use Prim.Native.Nat.{ℕ, zero, suc, ◌+◌, ◌-◌, ◌≤◌, ◌<◌}
+use Prim.Native.Nat.{ℕ, ◌+◌, ◌-◌, ◌≤◌, ◌<◌}
 use native.Mathlib.Omega.{arith}
 use mathlib.Core.Path.{◌≡◌, refl, ap, sym, ◌∙◌}
-use mathlib.Core.Bool.{Bool, true, false, not, ◌&&◌, ◌||◌, cond}
-use mathlib.Core.List.{List, [], ◌∷◌, ◌++◌, map}
+use mathlib.Core.Bool.{Bool, true, false, ◌||◌}
+use mathlib.Core.List.{List, [], ◌∷◌, ◌++◌}
 use mathlib.Core.Option.{Option, none, some}
 use lib.Dec.{ltb, leb}
-use lib.ListN.{length, get_or, take, length-append}
-use lib.Seq.{length-take-le, take_all}
+use lib.ListN.{length, length-append}
 use borrow.Author.Tests.{lt-ltb, le-ltb, lt-leb, le-leb, leb-true, leb-false, ltb-true, ltb-false}
 use Rattle.numbers.specs.Refusals.{decided}
 use Rattle.numbers.specs.declared.answer.Answer.{Answer}
@@ -20,7 +19,7 @@ use Rattle.sets.specs.MemberList.{node_count, nodes_together, any_over, over_set
 use Rattle.cells.specs.Lists.{every}
 use Rattle.sets.specs.CellSet.{words_at, total, room_for, holds_list}
 use Rattle.sets.specs.Join.{part_fits, lack_later, lack_for}
-use Rattle.sets.specs.SetParts.{named_of, bare, bare_cell, areas_of, entry_causes, least}
+use Rattle.sets.specs.SetParts.{named_of, bare, bare_cell, areas_of, entry_causes}
 use Rattle.sets.specs.declared.parts.PerList.{PerList}
 use Rattle.sets.specs.declared.named.Named.TheVariants.{Member, Nobody}
 use Rattle.sets.proofs.RoomLaws.{bare_many, bare_together}

@@ -1,7 +1,7 @@
 -- Cells that storing keeps are kept so by the correction of links.
 use Prim.Native.Nat.{ℕ, ◌≤◌, ◌<◌}
 use native.Mathlib.Omega.{arith}
-use mathlib.Core.Path.{◌≡◌, refl, ap, ◌∙◌}
+use mathlib.Core.Path.{◌≡◌, refl}
 use mathlib.Core.Bool.{Bool, true, false, ◌&&◌, cond}
 use mathlib.Core.List.{List, map}
 use mathlib.Core.Option.{Option, none, some}
@@ -10,7 +10,7 @@ use lib.ListN.{length, length-map}
 use borrow.Author.Tests.{lt-ltb, ltb-true}
 use Rattle.cells.specs.Lists.{every}
 use Rattle.cells.specs.Order.{last_with, new_place, new_number, place_or}
-use Rattle.cells.specs.Cell.{Link, Node, Cell, old_nodes, numbers, ped_flags, renumber_cell}
+use Rattle.cells.specs.Cell.{Link, Node, Cell, old_nodes, numbers, ped_flags}
 use Rattle.cells.proofs.WritingBack.KeptCells.{kept_link, kept_body, kept_node, kept_junction, kept_ref, kept_root, kept}
 use Rattle.cells.proofs.WritingBack.Kept.{both, kept_again}
 use Rattle.cells.proofs.Renumbering.Named.{last_inside}

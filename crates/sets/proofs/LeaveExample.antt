@@ -12,7 +12,7 @@ use Rattle.cells.specs.Lookup.{first_with}
 use Rattle.sets.specs.Members.{map_from}
 use Rattle.sets.specs.MemberList.{nodes_together, any_over, over_set}
 use Rattle.sets.specs.CellSet.{CellSet, cell_set, ynd_of, words_at, total, parts_of, parts_in, members_of, holds_list, lack_of, set_causes}
-use Rattle.sets.specs.Leave.{SetLeft, set_left, closed, without, first_of_area, leave_causes, leave_area}
+use Rattle.sets.specs.Leave.{set_left, closed, without, first_of_area, leave_causes, leave_area}
 
 -- a member of so many nodes, in a part of so many entries
 abbrev entry : ℕ → ℕ → List ℕ

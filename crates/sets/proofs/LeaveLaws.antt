@@ -1,18 +1,17 @@
 -- A member that leaves: the gap closed in each list, and what the call answers.
-use Prim.Native.Nat.{ℕ, zero, suc, ◌+◌, ◌-◌, ◌≤◌, ◌<◌}
+use Prim.Native.Nat.{ℕ, suc, ◌+◌, ◌-◌, ◌≤◌, ◌<◌}
 use native.Mathlib.Omega.{arith}
 use native.Mathlib.Numerals.{add-one}
 use mathlib.Core.Path.{◌≡◌, refl, ap, sym, ◌∙◌}
-use mathlib.Core.Bool.{true, false}
-use mathlib.Core.List.{List, [], ◌∷◌}
+use mathlib.Core.List.{List}
 use mathlib.Core.Option.{Option, none, some}
 use lib.ListN.{length}
-use Rattle.numbers.specs.Refusals.{decided, unless}
+use Rattle.numbers.specs.Refusals.{unless}
 use Rattle.numbers.specs.declared.answer.Answer.{Answer}
 use Rattle.numbers.specs.declared.answer.Answer.TheVariants.{Done, Refused}
-use Rattle.cells.specs.Lookup.{first_with, is_some}
-use Rattle.sets.specs.CellSet.{CellSet, cell_set, words_at, total, set_causes}
-use Rattle.sets.specs.Leave.{set_left, SetLeft, closed, start_of, without, first_of_area, leave_causes, left_by, leave_area}
+use Rattle.cells.specs.Lookup.{first_with}
+use Rattle.sets.specs.CellSet.{CellSet, cell_set, words_at, total}
+use Rattle.sets.specs.Leave.{set_left, closed, start_of, without, first_of_area, leave_causes, left_by, leave_area}
 use Rattle.sets.specs.SetParts.{named_of, starts_of, areas_of}
 use Rattle.sets.specs.declared.parts.PerList.{PerList}
 use Rattle.sets.specs.declared.named.Named.TheVariants.{Member, Nobody}

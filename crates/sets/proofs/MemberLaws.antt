@@ -7,16 +7,16 @@ use mathlib.Core.List.{List, [], ◌∷◌}
 use mathlib.Core.Option.{Option, none, some}
 use lib.Dec.{eqb}
 use lib.ListN.{length, get_or, get_or-map}
-use borrow.Author.Tests.{eqb-true, eqb-false, eq-eqb, ne_eqb}
+use borrow.Author.Tests.{eqb-true, eq-eqb, ne_eqb}
 use Rattle.cells.specs.Area.{belongs}
 use Rattle.cells.proofs.Lookups.AreaLaws.{belongs_own}
-use Rattle.cells.specs.Cell.{Link, Cell, numbers, first_of}
+use Rattle.cells.specs.Cell.{Link, Cell, numbers}
 use Rattle.cells.specs.Lookup.{first_with, or_later, find}
 use Rattle.cells.proofs.Sequences.Tests.{by_test, true_false}
-use Rattle.walks.specs.Walk.{Next, to, stop, next, link_at, take_link, arrive, leads}
-use Rattle.walks.specs.declared.walk.End.TheVariants.{NoLink, Left}
+use Rattle.walks.specs.Walk.{Next, stop, next, link_at, take_link, arrive}
+use Rattle.walks.specs.declared.walk.End.TheVariants.{NoLink}
 use Rattle.sets.specs.Members.{no_cell, cell_at, area_of, areas, member_for}
-use Rattle.sets.specs.Crossing.{Location, location, arrive_in, enter, on_from, next_in}
+use Rattle.sets.specs.Crossing.{Location, arrive_in, enter, on_from, next_in}
 use Rattle.sets.specs.SetRenumber.{is_member}
 
 never : {P : Type 0} {i : ℕ} → ◌≡◌ {A = Option ℕ} none (some i) → P

@@ -1,19 +1,17 @@
 -- What joins stands behind the others, which are as they were, and holds the cell that was joined.
-use Prim.Native.Nat.{ℕ, zero, suc, ◌+◌, ◌-◌, ◌≤◌, ◌<◌}
+use Prim.Native.Nat.{ℕ, ◌+◌, ◌-◌, ◌≤◌, ◌<◌}
 use native.Mathlib.Omega.{arith}
 use native.Mathlib.Numerals.{add-one}
 use mathlib.Core.Path.{◌≡◌, refl, ap, sym, ◌∙◌}
-use mathlib.Core.Bool.{true, false}
 use mathlib.Core.List.{List, [], ◌∷◌, ◌++◌, map, append_assoc}
 use lib.Dec.{ltb}
 use lib.ListN.{length, get_or, set, take, drop, length-append, length-drop, take-append-drop, get_or-append}
-use lib.Seq.{length-take-le, take_all, take_at, drop_at, take-add, drop-drop, take-append-le, take-take, take-suc-set, get_or-append_seam}
+use lib.Seq.{length-take-le, take_all, take_at, drop_at, take-add, take-suc-set, get_or-append_seam}
 use borrow.Author.Tests.{ltb-true, ltb-false}
 use Rattle.numbers.specs.declared.answer.Answer.{Answer}
 use Rattle.numbers.specs.declared.answer.Answer.TheVariants.{Done, Refused}
 use Rattle.cells.specs.Memory.{Memory, memory}
 use Rattle.cells.specs.NodeWords.{first_area}
-use Rattle.cells.specs.Cell.{Cell}
 use Rattle.cells.specs.CellOf.{link_of, ref_of, node_with, junction_with, nodes_of, junctions_of, refs_of, cell_of}
 use Rattle.cells.specs.declared.ynd.Ynd.{Ynd}
 use Rattle.cells.proofs.Sequences.Tests.{by_test, map_append}
@@ -25,7 +23,7 @@ use Rattle.sets.specs.Join.{entry_of, stored, set_lengths, cell_lengths, part_of
 use Rattle.sets.specs.declared.parts.PerList.{PerList}
 use Rattle.sets.proofs.PartLaws.{words_many, parts_many}
 use Rattle.sets.proofs.CellSetLaws.{members_many, member_at_law, members_same}
-use Rattle.sets.proofs.JoinLaws.{Fitting, AllFit, May, may}
+use Rattle.sets.proofs.JoinLaws.{Fitting, AllFit, may}
 use Rattle.sets.proofs.JoinDone.{asked, left, call_is}
 
 -- ---- one list

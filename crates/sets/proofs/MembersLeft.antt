@@ -1,9 +1,7 @@
 -- What leaves is gone, and the other members are as they were, each in its place or one lower.
 use Prim.Native.Nat.{ℕ, zero, suc, ◌+◌, ◌-◌, ◌≤◌, ◌<◌}
 use native.Mathlib.Omega.{arith}
-use native.Mathlib.Numerals.{add-one}
 use mathlib.Core.Path.{◌≡◌, refl, ap, sym, ◌∙◌}
-use mathlib.Core.Bool.{true, false}
 use mathlib.Core.List.{List, [], ◌∷◌, ◌++◌, append_assoc}
 use mathlib.Core.Option.{Option, none, some}
 use lib.Dec.{ltb}
@@ -13,18 +11,18 @@ use borrow.Author.Tests.{ltb-true, ltb-false}
 use Rattle.numbers.specs.Refusals.{decided, unless}
 use Rattle.numbers.specs.declared.answer.Answer.{Answer}
 use Rattle.numbers.specs.declared.answer.Answer.TheVariants.{Done, Refused}
-use Rattle.cells.specs.Memory.{Memory, memory}
+use Rattle.cells.specs.Memory.{memory}
 use Rattle.cells.specs.CellOf.{cell_of}
 use Rattle.cells.proofs.Sequences.Tests.{by_test}
 use Rattle.sets.specs.Members.{areas, area_of}
-use Rattle.sets.specs.MemberList.{no_memory, member_at, cells_of}
+use Rattle.sets.specs.MemberList.{no_memory, cells_of}
 use Rattle.sets.specs.CellSet.{CellSet, cell_set, word, ynd_of, words_at, total, parts_of, parts_in, members_of}
 use Rattle.sets.specs.Leave.{closed, start_of, without, SetLeft, set_left, first_of_area, leave_causes, left_by, leave_area, removed, used}
 use Rattle.sets.specs.SetParts.{Holds}
-use Rattle.sets.proofs.PartLaws.{words_many, parts_many, start_all}
+use Rattle.sets.proofs.PartLaws.{words_many, start_all}
 use Rattle.sets.proofs.CellSetLaws.{members_many, member_at_law, members_same}
 use Rattle.sets.proofs.MemberLaws.{first_has}
-use Rattle.sets.proofs.RoomLaws.{lists_of, Accepted, accepted}
+use Rattle.sets.proofs.RoomLaws.{lists_of, accepted}
 use Rattle.sets.proofs.LeaveLaws.{asked_of}
 
 -- ---- one list

@@ -1,9 +1,9 @@
 -- Entries moved down or copied one by one.
-use Prim.Native.Nat.{ℕ, suc, ◌+◌, ◌-◌, ◌≤◌, ◌<◌}
+use Prim.Native.Nat.{ℕ, ◌+◌, ◌-◌, ◌≤◌, ◌<◌}
 use native.Mathlib.Omega.{arith}
 use native.Mathlib.Numerals.{add-one}
-use mathlib.Core.Path.{◌≡◌, refl, ap, sym, ◌∙◌}
-use mathlib.Core.List.{List, [], ◌∷◌, ◌++◌, append_assoc}
+use mathlib.Core.Path.{◌≡◌, ap, sym, ◌∙◌}
+use mathlib.Core.List.{List, ◌++◌, append_assoc}
 use lib.ListN.{length, get_or, set, take, drop, length-drop}
 use lib.Seq.{length-take-le, take_all, get_or-take, get_or-drop, paste, paste-suc, drop-paste}
 use Rattle.sets.specs.Join.{stored}

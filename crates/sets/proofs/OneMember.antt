@@ -1,18 +1,18 @@
 -- A set of one member is its cell: a crossing walk in it is the walk, each place in the member 0.
 use Prim.Native.Nat.{ℕ}
 use mathlib.Core.Path.{◌≡◌, refl, ap, sym, ◌∙◌}
-use mathlib.Core.Bool.{Bool, true, false}
+use mathlib.Core.Bool.{false}
 use mathlib.Core.List.{List, [], ◌∷◌, map}
 use mathlib.Core.Option.{Option, none, some}
 use lib.Dec.{eqb}
 use borrow.Author.Tests.{eqb-true}
 use Rattle.cells.specs.Area.{belongs}
 use Rattle.cells.specs.Cell.{Link, Cell, numbers}
-use Rattle.cells.specs.Lookup.{first_with, or_later, find}
+use Rattle.cells.specs.Lookup.{first_with, find}
 use Rattle.cells.proofs.Sequences.Tests.{by_test, true_false}
-use Rattle.walks.specs.Walk.{Next, to, stop, next, see, link_at, body_of, take_link, arrive, leads, Visit, Trail, go_on, walk_in, walk}
+use Rattle.walks.specs.Walk.{Next, to, stop, next, see, link_at, body_of, take_link, arrive, Visit, Trail, go_on, walk_in, walk}
 use Rattle.sets.specs.Members.{area_of, areas, member_for}
-use Rattle.sets.specs.Crossing.{Location, location, arrive_in, enter, next_in, crossing}
+use Rattle.sets.specs.Crossing.{Location, location, arrive_in, next_in, crossing}
 use Rattle.cells.proofs.Lookups.AreaLaws.{belongs_own}
 use Rattle.sets.proofs.MemberLaws.{take_in, next_is}
 

@@ -3,15 +3,14 @@ use Prim.Native.Nat.{ℕ, zero, suc, ◌+◌, ◌-◌, ◌≤◌, ◌<◌}
 use native.Mathlib.Omega.{arith}
 use native.Mathlib.Numerals.{add-one}
 use mathlib.Core.Path.{◌≡◌, refl, ap, sym, ◌∙◌}
-use mathlib.Core.Bool.{true, false}
-use mathlib.Core.List.{List, [], ◌∷◌, ◌++◌, map, append_assoc}
+use mathlib.Core.List.{List, [], ◌∷◌}
 use lib.Dec.{ltb}
 use lib.ListN.{length, get_or, take, drop, length-map, length-drop, drop_of_length-le, get_or-map}
-use lib.Seq.{length-take-le, take_all, take_at, drop_at, take-add, drop-drop}
+use lib.Seq.{take_all, drop-drop}
 use borrow.Author.Tests.{lt-ltb, le-ltb, ltb-true}
 use Rattle.cells.proofs.Sequences.Tests.{by_test}
 use Rattle.sets.specs.CellSet.{word, words_at, total, parts_of}
-use Rattle.sets.specs.Leave.{closed, start_of}
+use Rattle.sets.specs.Leave.{start_of}
 use Rattle.sets.specs.SetParts.{count_of, part_end}
 
 -- ---- sums of counts

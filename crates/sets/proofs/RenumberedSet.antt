@@ -1,29 +1,28 @@
 -- A sound set in which one member is renumbered: each crossing walk is the one before, its locations moved, and the set is sound.
-use Prim.Native.Nat.{ℕ, ◌+◌, ◌<◌}
+use Prim.Native.Nat.{ℕ, ◌<◌}
 use native.Mathlib.Omega.{arith}
 use native.Mathlib.Nat.{zero-add}
-use mathlib.Core.Path.{◌≡◌, refl, ap, sym, subst, ◌∙◌}
-use mathlib.Core.Bool.{Bool, true, false, ◌&&◌, cond}
-use mathlib.Core.List.{List, [], ◌∷◌, map}
+use mathlib.Core.Path.{◌≡◌, refl, ap, sym, ◌∙◌}
+use mathlib.Core.Bool.{Bool, true, false, cond}
+use mathlib.Core.List.{List, [], ◌∷◌}
 use mathlib.Core.Option.{Option, none, some}
 use lib.Dec.{eqb}
-use lib.ListN.{length, get_or, set, length-map, length-set}
+use lib.ListN.{length, set, length-map, length-set}
 use lib.Seq.{get_or-set_same, get_or-set_other, set-get_or}
-use borrow.Author.Tests.{eqb-true, eqb-false, eq-eqb}
+use borrow.Author.Tests.{eqb-true, eqb-false}
 use Rattle.cells.specs.Lists.{every}
-use Rattle.cells.specs.Area.{belongs}
 use Rattle.cells.specs.Order.{Old, parted, keep, new_place, new_number, renamed}
-use Rattle.cells.specs.Cell.{Link, Node, Cell, no_node, node_at, numbers, ped_flags, first_of, is_ped_node, is_vehicle_node, ordered, relink, renode, old_nodes, renumber_cell}
-use Rattle.cells.specs.Lookup.{first_with, find, is_some}
-use Rattle.cells.proofs.Sequences.Tests.{and_left, and_right, by_test, every_at, every_any, every_map, every_keep, every_append, if_any, map_at, map_option}
-use Rattle.cells.proofs.Renumbering.NewCell.{new_at, new_node_law, new_length, new_number_law, number_is, every_number}
+use Rattle.cells.specs.Cell.{Link, Node, Cell, no_node, node_at, numbers, ped_flags, first_of, is_ped_node, is_vehicle_node, ordered, relink, old_nodes, renumber_cell}
+use Rattle.cells.specs.Lookup.{first_with, find}
+use Rattle.cells.proofs.Sequences.Tests.{and_left, and_right, by_test, every_at, every_any, every_map, every_keep, every_append, if_any, map_option}
+use Rattle.cells.proofs.Renumbering.NewCell.{new_at, new_length, new_number_law, number_is, every_number}
 use Rattle.walks.specs.Sound.{differing, sound}
-use Rattle.walks.specs.Walk.{Next, to, stop, link_at, body_of, see, walk_in}
+use Rattle.walks.specs.Walk.{link_at, body_of, see}
 use Rattle.walks.proofs.Numbers.{Has, named_has, first_is, find_is, new_is}
 use Rattle.walks.proofs.NewSound.{Sound, sound_parts, sound_new, new_area, new_differ}
 use Rattle.walks.proofs.NewWalks.{move, move_next, AllNext, Simulates, walk_alike, see_new, link_new}
-use Rattle.sets.specs.Members.{no_cell, cell_at, area_of, areas, member_for, map_from, every_from}
-use Rattle.sets.specs.Crossing.{Location, location, enter, next_in, world_in, crossing}
+use Rattle.sets.specs.Members.{no_cell, cell_at, area_of, areas, member_for, map_from}
+use Rattle.sets.specs.Crossing.{Location, enter, world_in, crossing}
 use Rattle.sets.specs.SetSound.{has_node, link_arrives, node_arrives, member_arrives, set_sound}
 use Rattle.sets.specs.SetRenumber.{Change, is_member, corrected, correct_link, correct_node, correct_cell, change_of, renumber_cells}
 use Rattle.sets.specs.SetCalls.{moves_to}

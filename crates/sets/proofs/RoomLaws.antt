@@ -2,16 +2,16 @@
 use Prim.Native.Nat.{ℕ, zero, suc, ◌+◌, ◌≤◌, ◌<◌}
 use native.Mathlib.Omega.{arith}
 use mathlib.Core.Path.{◌≡◌, refl, ap, sym, ◌∙◌}
-use mathlib.Core.Bool.{Bool, true, false, not, ◌&&◌, ◌||◌}
-use mathlib.Core.List.{List, [], ◌∷◌, map}
+use mathlib.Core.Bool.{Bool, true, false, ◌||◌}
+use mathlib.Core.List.{List, [], ◌∷◌}
 use lib.Dec.{ltb, leb}
 use lib.ListN.{length, get_or, length-map}
-use borrow.Author.Tests.{lt-ltb, le-ltb, leb-true, ltb-true, ltb-false}
+use borrow.Author.Tests.{lt-ltb, le-ltb, leb-true, ltb-false}
 use Rattle.numbers.specs.Refusals.{decided}
 use Rattle.numbers.specs.declared.answer.Answer.{Answer}
 use Rattle.numbers.specs.declared.answer.Answer.TheVariants.{Done, Refused}
 use Rattle.cells.specs.Lists.{every}
-use Rattle.cells.specs.Memory.{Memory, memory, over_limit}
+use Rattle.cells.specs.Memory.{memory, over_limit}
 use Rattle.cells.proofs.Sequences.Tests.{by_test, and_left, and_right, every_at, true_false}
 use Rattle.sets.specs.Members.{map_from}
 use Rattle.sets.specs.MemberList.{nodes_together, any_over, over_set}

@@ -1,24 +1,19 @@
 -- The claim of T-09: a sound set, each of its members a cell as read.
-use Prim.Native.Nat.{ℕ, ◌<◌}
-use mathlib.Core.Path.{◌≡◌, refl, ap, sym, ◌∙◌}
-use mathlib.Core.Bool.{true}
-use mathlib.Core.List.{List, map}
+use Prim.Native.Nat.{ℕ}
+use mathlib.Core.Path.{◌≡◌, ap, sym, ◌∙◌}
+use mathlib.Core.List.{List}
 use lib.ListN.{length, length-map}
 use Rattle.numbers.specs.declared.answer.Answer.TheVariants.{Done}
-use Rattle.cells.specs.Lists.{every}
 use Rattle.cells.specs.Memory.{Memory}
 use Rattle.cells.specs.Read.{read_of}
-use Rattle.cells.specs.Cell.{Cell}
 use Rattle.cells.specs.CellOf.{cell_of}
-use Rattle.cells.specs.FileCell.{file_cell}
 use Rattle.cells.proofs.WritingBack.KeptCells.{kept}
 use Rattle.cells.proofs.Reading.FileRead.{read_cell}
 use Rattle.cells.proofs.WritingBack.Kept.{read_kept}
 use Rattle.walks.proofs.Routes.{same_walk}
 use Rattle.walks.proofs.WalksAlike.{nodes_long, read_lies}
 use Rattle.sets.specs.Members.{no_cell}
-use Rattle.sets.specs.Crossing.{Location, crossing}
-use Rattle.sets.specs.SetSound.{set_sound}
+use Rattle.sets.specs.Crossing.{crossing}
 use Rattle.sets.specs.MemberList.{member_at, cells_of, over_set}
 use Rattle.sets.specs.SetCalls.{SetCall, run_in, moved_in}
 use Rattle.sets.specs.SetClaim.{CellAsRead, SetUnnoticed, SetUnnoticedTheorem}

@@ -1,7 +1,7 @@
 -- The claim speaks of something: a sound set of two members that link into each other, one of which is renumbered. All of it is computed.
 use Prim.Native.Nat.{ℕ, ◌+◌, ◌*◌}
 use mathlib.Core.Path.{◌≡◌, refl}
-use mathlib.Core.Bool.{Bool, true, false}
+use mathlib.Core.Bool.{true, false}
 use mathlib.Core.List.{List, [], ◌∷◌, map}
 use mathlib.Core.Option.{some}
 use lib.ListN.{replicate, get_or}
@@ -11,20 +11,19 @@ use Rattle.cells.specs.Words.{to_node}
 use Rattle.cells.specs.Area.{belongs}
 use Rattle.cells.specs.Order.{keep, rank, parted, new_place, listed, new_places, last_with, new_number, renamed}
 use Rattle.cells.specs.NodeWords.{area_of, number_of, is_ped, numbered, number_from, reordered, first_area, old_of, relinked}
-use Rattle.cells.specs.Cell.{no_node, no_body}
 use Rattle.cells.specs.CellOf.{body_of, nodes_of, junctions_of, refs_of, cell_of}
-use Rattle.cells.specs.Lookup.{first_with, find, ref_of, junction_of}
+use Rattle.cells.specs.Lookup.{first_with, find}
 use Rattle.cells.specs.Renumber.{vehicles, peds, renumber_lists, recounted, answer_of, new_lists, renumber_memory, renumber}
 use Rattle.cells.specs.declared.ynd.Ynd.{Ynd}
 use Rattle.walks.specs.Sound.{differing, sound}
-use Rattle.walks.specs.Walk.{next, see, walk_in}
-use Rattle.walks.specs.Calls.{Call, renumbering}
+use Rattle.walks.specs.Walk.{next, walk_in}
+use Rattle.walks.specs.Calls.{renumbering}
 use Rattle.walks.specs.Claim.{places}
 use Rattle.sets.specs.Members.{member_for, map_from, every_from}
-use Rattle.sets.specs.Crossing.{Location, location, next_in, crossing}
+use Rattle.sets.specs.Crossing.{location, next_in, crossing}
 use Rattle.sets.specs.SetSound.{set_sound}
 use Rattle.sets.specs.MemberList.{no_memory, member_at, cells_of, nodes_together, any_over, over_set, member_causes}
-use Rattle.sets.specs.SetRenumber.{corrected, correct_words, correct_memory, renumber_in}
+use Rattle.sets.specs.SetRenumber.{correct_words, correct_memory, renumber_in}
 use Rattle.sets.specs.SetCalls.{SetCall, after_in, run_in, renumbers_in, moved_in}
 
 -- a node of this area and number with one link

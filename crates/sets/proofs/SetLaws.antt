@@ -1,8 +1,8 @@
 -- Other sentences of T-09 about renumbering and writing one member.
-use Prim.Native.Nat.{ℕ, ◌<◌}
+use Prim.Native.Nat.{ℕ}
 use native.Mathlib.Omega.{arith}
 use mathlib.Core.Path.{◌≡◌, refl, ap, sym, ◌∙◌}
-use mathlib.Core.Bool.{Bool, true, false, not, ◌&&◌}
+use mathlib.Core.Bool.{true, false, not, ◌&&◌}
 use mathlib.Core.List.{List, []}
 use mathlib.Core.Option.{Option, none, some}
 use lib.Dec.{eqb}
@@ -24,7 +24,7 @@ use Rattle.cells.specs.declared.write.Written.{Written}
 use Rattle.cells.specs.declared.write.Written.TheVariants as written
 use Rattle.cells.proofs.Sequences.Tests.{by_test, true_false}
 use Rattle.sets.specs.Members.{cell_at, area_of, areas, member_for}
-use Rattle.sets.specs.MemberList.{member_at, cells_of, member_causes}
+use Rattle.sets.specs.MemberList.{member_at, member_causes}
 use Rattle.sets.specs.SetRenumber.{Change, is_member, meant, change_of, correct_words, correct_memory, members_after, SetRenumbered, renumbered_in, not_renumbered, renumber_in, SetBoth, both_in, not_written, write_read_in}
 use Rattle.sets.proofs.SetLists.{over_same}
 use Rattle.sets.proofs.MemberLaws.{first_has, area_at}

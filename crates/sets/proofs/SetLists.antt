@@ -1,11 +1,11 @@
 -- Lists whose elements are changed and asked by their place.
-use Prim.Native.Nat.{ℕ, zero, suc, ◌+◌, ◌≤◌, ◌<◌}
+use Prim.Native.Nat.{ℕ, zero, suc, ◌+◌, ◌<◌}
 use native.Mathlib.Omega.{arith}
 use native.Mathlib.Nat.{add-zero, suc-add, add-suc}
-use mathlib.Core.Path.{◌≡◌, refl, ap, sym, ◌∙◌}
+use mathlib.Core.Path.{◌≡◌, refl, ap, ◌∙◌}
 use mathlib.Core.Bool.{Bool, true}
-use mathlib.Core.List.{List, [], ◌∷◌, ◌++◌, map}
-use lib.ListN.{length, get_or, set, take, drop}
+use mathlib.Core.List.{List, [], ◌∷◌, map}
+use lib.ListN.{length, get_or, set, take}
 use Rattle.cells.specs.Lists.{every}
 use Rattle.cells.proofs.Sequences.Tests.{and_left, and_right}
 use Rattle.cells.specs.Renumber.{over}

@@ -1,8 +1,6 @@
 -- Correcting the links in memory corrects the links of the cell that it holds.
-use Prim.Native.Nat.{ℕ, ◌≤◌, ◌<◌}
-use native.Mathlib.Omega.{arith}
+use Prim.Native.Nat.{ℕ, ◌<◌}
 use mathlib.Core.Path.{◌≡◌, refl, ap, sym, ◌∙◌}
-use mathlib.Core.Bool.{Bool, true, false}
 use mathlib.Core.List.{List, [], ◌∷◌, map}
 use lib.ListN.{length, get_or, set, take, drop, get_or-map}
 use lib.Seq.{map-set_same}
@@ -12,7 +10,7 @@ use Rattle.numbers.proofs.Refusing.{passed}
 use Rattle.numbers.specs.declared.answer.Answer.TheVariants.{Done}
 use Rattle.cells.specs.NodeWords.{link_start, link_count}
 use Rattle.cells.specs.Memory.{Memory}
-use Rattle.cells.specs.Cell.{Link, Node, Cell, renumber_cell}
+use Rattle.cells.specs.Cell.{Link, Cell, renumber_cell}
 use Rattle.cells.specs.CellOf.{link_of, node_with, nodes_of, junctions_of, refs_of, cell_of}
 use Rattle.cells.specs.Renumber.{over, renumber}
 use Rattle.cells.proofs.Sequences.Tests.{by_test, map_take, map_drop}

@@ -6,12 +6,11 @@ use mathlib.Core.Bool.{true}
 use mathlib.Core.List.{List, [], ◌∷◌, ◌++◌}
 use lib.IntN.{pos}
 use lib.ListN.{length}
-use Rattle.numbers.specs.Steps.{unstep}
 use Rattle.numbers.specs.declared.answer.Answer.TheVariants.{Done}
-use Rattle.records.specs.Bytes.{number_at, number_bytes, signed16, bits16}
-use Rattle.records.specs.Sections.{located, extent, bytes_of, array_at}
+use Rattle.records.specs.Bytes.{number_at, number_bytes, bits16}
+use Rattle.records.specs.Sections.{located, extent, bytes_of}
 use Rattle.records.specs.Root.{unknowns_of, root_of, root_bytes}
-use Rattle.records.specs.Records.{node_at, node_bytes, link_at, link_bytes, junction_at, ref_at}
+use Rattle.records.specs.Records.{node_at, node_bytes, link_at, link_bytes, junction_at}
 use Rattle.cells.specs.Lists.{up_to, join_to, sum_to, every}
 use Rattle.cells.specs.Words.{path_node, path_link, node_words, link_words}
 use Rattle.cells.specs.Checks.{sizes_check, arrays_found, scan, arrays_check}

@@ -1,9 +1,8 @@
 -- Whatever list of calls the members of a sound set have been through, its crossing walks are those that it had, each location moved.
 use Prim.Native.Nat.{ℕ, ◌≤◌, ◌<◌}
-use native.Mathlib.Omega.{arith}
 use mathlib.Core.Path.{◌≡◌, refl, ap, sym, ◌∙◌}
-use mathlib.Core.Bool.{Bool, true, false, ◌&&◌, ◌||◌, cond}
-use mathlib.Core.List.{List, [], ◌∷◌, map}
+use mathlib.Core.Bool.{Bool, true, false, cond}
+use mathlib.Core.List.{List, [], ◌∷◌}
 use lib.Dec.{eqb}
 use lib.ListN.{length, length-map}
 use borrow.Author.Tests.{eqb-true}
@@ -17,15 +16,14 @@ use Rattle.cells.specs.CellOf.{cell_of}
 use Rattle.cells.specs.Renumber.{renumber}
 use Rattle.cells.specs.WriteRead.{write_read_of}
 use Rattle.cells.proofs.WritingBack.KeptCells.{kept}
-use Rattle.cells.proofs.Sequences.Tests.{and_left, by_test, true_false, every_at}
+use Rattle.cells.proofs.Sequences.Tests.{by_test, true_false, every_at}
 use Rattle.cells.proofs.Renumbering.CellRenumbered.{done_few}
 use Rattle.cells.proofs.WritingBack.WrittenBack.{write_read_same}
-use Rattle.walks.specs.Walk.{Trail}
 use Rattle.walks.specs.Calls.{Call, renumbering, write_read, is_done}
 use Rattle.walks.proofs.NewWalks.{move}
 use Rattle.walks.proofs.CallLists.{move_id, move_move}
 use Rattle.sets.specs.Members.{no_cell, cell_at}
-use Rattle.sets.specs.Crossing.{Location, location, crossing}
+use Rattle.sets.specs.Crossing.{Location, crossing}
 use Rattle.sets.specs.SetSound.{set_sound}
 use Rattle.sets.specs.MemberList.{member_at, cells_of, member_causes}
 use Rattle.sets.specs.SetRenumber.{renumber_cells, members_after, SetRenumbered, renumbered_in, not_renumbered, renumber_in, both_in, not_written, write_read_in}

@@ -4,7 +4,6 @@ use Rattle.std.proofs.Math.Option.{Option, none, some}
 use Rattle.cells.specs.Cell.{Cell, numbers}
 use Rattle.cells.specs.Lookup.{first_with, find}
 use Rattle.walks.specs.Walk.{Next, to, stop, next, see, link_at, body_of, World, Trail, walk_in}
-use Rattle.walks.specs.declared.walk.End.{End}
 use Rattle.walks.specs.declared.walk.End.TheVariants.{Done, NoLink, Left, NoNode}
 use Rattle.sets.specs.Members.{cell_at, areas}
 

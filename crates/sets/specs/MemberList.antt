@@ -4,7 +4,6 @@ use Rattle.numbers.specs.Refusals.{Cause, when}
 use Rattle.cells.specs.Memory.{Memory, memory, over_limit}
 use Rattle.cells.specs.Cell.{Cell}
 use Rattle.cells.specs.CellOf.{cell_of}
-use Rattle.cells.specs.declared.ynd.Ynd.{Ynd}
 
 -- what stands at a number that no member has
 unfoldable pub no_memory : Memory

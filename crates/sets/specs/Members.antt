@@ -1,6 +1,6 @@
 -- T-09: a set of cells, its members in the order of joining, counted from 0; and which of them a link names.
 use Rattle.std.specs.Prelude.{ℕ, suc, Bool, true, ◌&&◌, cond, List, [], ◌∷◌, map, get_or}
-use Rattle.std.proofs.Math.Option.{Option, none, some}
+use Rattle.std.proofs.Math.Option.{Option, some}
 use Rattle.cells.specs.Area.{belongs}
 use Rattle.cells.specs.Cell.{Cell, first_of}
 use Rattle.cells.specs.Lookup.{first_with}

@@ -1,22 +1,21 @@
 -- What the words of demand 3's claim give at the bytes of Example: a definition in it that said less would make one of
 -- these false. Computed, but for the two that take the claim itself apart.
 use Prim.Native.Nat.{ℕ, ◌+◌, ◌<◌}
-use native.Mathlib.Omega.{arith}
 use mathlib.Core.Path.{◌≡◌, refl, ap}
-use mathlib.Core.Bool.{Bool, true, false}
-use mathlib.Core.List.{List, [], ◌∷◌, ◌++◌, map}
+use mathlib.Core.Bool.{true, false}
+use mathlib.Core.List.{List, [], ◌∷◌}
 use mathlib.Core.Option.{Option, none, some}
 use lib.IntN.{pos}
 use lib.ListN.{length, replicate}
 use lib.Ieee.{binary32, to_bits}
-use Rattle.numbers.specs.Steps.{unstep, step_of}
+use Rattle.numbers.specs.Steps.{unstep}
 use Rattle.records.specs.Bytes.{number_at, number_bytes, signed16, bits16}
 use Rattle.records.specs.Sections.{located, extent, bytes_of, array_at}
 use Rattle.records.specs.Root.{unknowns_of, root_of, root_bytes}
 use Rattle.records.specs.Records.{node_at, node_bytes, link_at, link_bytes, junction_at, junction_bytes, ref_at, ref_bytes}
 use Rattle.cells.specs.Area.{belongs, ref_for}
 use Rattle.cells.specs.Lists.{up_to, join_to, sum_to, every}
-use Rattle.cells.specs.Words.{path_node, path_link, path_junction, node_words, link_words, junction_words, ref_words, to_node, to_link, to_junction, to_ref}
+use Rattle.cells.specs.Words.{path_node, path_link, path_junction, node_words, link_words, junction_words, ref_words, to_node}
 use Rattle.cells.specs.Cell.{LinkBody, Junction, Node, Cell, no_body}
 use Rattle.cells.specs.Cell as held-cell
 use Rattle.cells.specs.Memory.{Memory, memory, over_limit, short_of}
@@ -26,7 +25,7 @@ use Rattle.cells.specs.Lookup.{first_with, find, ref_of, junction_of}
 use Rattle.cells.specs.Renumber.{renumber, vehicles, peds, renumber_lists, recounted, answer_of, new_lists, renumber_memory}
 use Rattle.cells.specs.WriteRead.{write_read_of}
 use Rattle.walks.specs.Walk.{Seen, next, see, walk_in, walk}
-use Rattle.walks.specs.Calls.{Call, after, run, any_renumbers, renumbering, write_read, renumbers, moved}
+use Rattle.walks.specs.Calls.{Call, after, run, any_renumbers, renumbers, moved}
 use Rattle.walks.specs.WalkCall.{route, walk_left, walk_call}
 use Rattle.walks.specs.declared.walk.Walked.TheVariants.{Ended}
 use Rattle.walks.specs.Shown.{values_at, values_left, shown_values}
@@ -35,21 +34,12 @@ use Rattle.walks.specs.Claim.{shown, followed, SameWalk, Unnoticed}
 use Rattle.walks.specs.declared.walk.End.TheVariants.{NoLink}
 use Rattle.walks.proofs.Demand.{demand_3}
 use Rattle.walks.proofs.Example.{bytes, room, reads, is_sound, first, accepted, refused, stored_read}
-use Rattle.numbers.specs.declared.answer.Answer.TheVariants.{Done}
-use Rattle.records.specs.Put.{joined, put}
-use Rattle.records.specs.Layout.{pages, header_bytes, gap_for, padded, start_of, lay, offset, total, address, places_of, section_bytes}
+use Rattle.records.specs.Put.{put}
 use Rattle.cells.specs.Checks.{sizes_check, arrays_found, scan, arrays_check}
 use Rattle.cells.specs.Read.{links_from, node_in, links_in, values_from, junction_in, values_in, ref_in, room_check, cell_read, filled, read_arrays, read_of}
 use Rattle.cells.specs.Order.{keep, rank, parted, new_place, listed, new_places, last_with, new_number, renamed}
 use Rattle.cells.specs.NodeWords.{area_of, number_of, is_ped, numbered, number_from, reordered, first_area, old_of, relinked}
-use Rattle.cells.specs.Entries.{file_node, file_link, file_junction}
-use Rattle.cells.specs.WriteChecks.{check_nodes, check_junctions}
-use Rattle.cells.specs.Blocks.{laid, arrays, root_for, written}
-use Rattle.cells.specs.Write.{held, stored, write_held, write_call}
-use Rattle.cells.specs.declared.write.Written.{Written}
 use Rattle.walks.specs.Sound.{differing, sound}
-use Rattle.cells.specs.Entries as entries
-use Rattle.cells.specs.declared.write.Written.TheVariants as answer
 
 -- what is shown of a node of the bytes, by its number, its steps, its flags1 and its junction
 abbrev seen_at : ℕ → ℕ → ℕ → Option Junction → Seen

@@ -8,7 +8,7 @@ use lib.Dec.{eqb}
 use lib.ListN.{length, length-map}
 use borrow.Author.Tests.{eqb-true, eqb-false, eq-eqb, ne_eqb}
 use Rattle.cells.specs.Cell.{Link, Node, Ref, Cell, node_at, no_node, numbers, ped_flags, first_of, relink, reref, renumber_cell, old_nodes}
-use Rattle.cells.specs.Area.{belongs, ref_for}
+use Rattle.cells.specs.Area.{belongs}
 use Rattle.cells.proofs.Lookups.AreaLaws.{ref_own}
 use Rattle.cells.specs.Order.{new_place, Old, renamed}
 use Rattle.cells.specs.Lookup.{ref_of, junction_of}

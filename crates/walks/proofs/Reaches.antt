@@ -15,7 +15,6 @@ use Rattle.cells.specs.Area.{belongs}
 use Rattle.cells.specs.Cell.{Node, Link, numbers, first_of}
 use Rattle.cells.specs.CellOf.{nodes_of, cell_of}
 use Rattle.cells.specs.Lookup.{find, first_with, or_later}
-use Rattle.cells.specs.LookupCall.{numbers_in}
 use Rattle.cells.proofs.Sequences.Tests.{and_left, by_test}
 use Rattle.walks.specs.Walk.{Next, to, stop, next, link_at, take_link, arrive}
 use Rattle.walks.specs.WalkCall.{Route, step_on, route}

@@ -1,16 +1,14 @@
 -- The scratch as a map from numbers to places. It is never cleared: an entry counts if the node there has the number.
-use Prim.Native.Nat.{ℕ, zero, suc, ◌+◌, ◌≤◌, ◌<◌}
+use Prim.Native.Nat.{ℕ, suc, ◌+◌, ◌≤◌, ◌<◌}
 use native.Mathlib.Omega.{arith}
 use native.Mathlib.Numerals.{add-one}
 use native.Mathlib.Nat.{zero-add, suc-add, add-suc, add-zero}
 use mathlib.Core.Path.{◌≡◌, refl, ap, sym, ◌∙◌}
-use mathlib.Core.Bool.{Bool, true, false, not, ◌&&◌}
+use mathlib.Core.Bool.{true, false}
 use mathlib.Core.List.{List, [], ◌∷◌, ◌++◌, map}
-use mathlib.Core.Option.{none, some}
 use lib.ListN.{length, get_or, set, take, length-map, get_or-map}
 use lib.Seq.{get_or-take, take-suc, length-take-le}
 use Rattle.cells.specs.NodeWords.{number_of}
-use Rattle.cells.specs.Order.{last_with}
 use Rattle.cells.specs.Lookup.{first_with, is_some}
 use Rattle.cells.specs.LookupCall.{numbers_in}
 use Rattle.cells.specs.RenumberParts.{Indexed}
@@ -19,7 +17,7 @@ use Rattle.cells.proofs.Sequences.Tests.{by_test}
 use Rattle.walks.specs.Sound.{differing}
 use Rattle.walks.specs.SoundCall.{indexed}
 use Rattle.walks.specs.SoundParts.{Ready}
-use Rattle.walks.proofs.Numbers.{Has, named_has, first_last, last_is}
+use Rattle.walks.proofs.Numbers.{named_has, first_last, last_is}
 
 -- ---- the scratch, number by number
 

@@ -1,10 +1,10 @@
 -- What a walk shows, by the words in memory.
-use Prim.Native.Nat.{ℕ, ◌+◌, ◌-◌, ◌*◌, ◌<◌, ◌≤◌, min}
+use Prim.Native.Nat.{ℕ, ◌+◌, ◌-◌, ◌<◌, ◌≤◌, min}
 use native.Mathlib.Omega.{arith}
 use native.Mathlib.Nat.{min-eq_left, min-eq_right, min-le_right, le-min}
 use mathlib.Core.Path.{◌≡◌, refl, ap, sym, ◌∙◌}
 use mathlib.Core.Bool.{true, false}
-use mathlib.Core.List.{List, [], ◌∷◌, map}
+use mathlib.Core.List.{List, [], map}
 use mathlib.Core.Option.{Option, none, some}
 use lib.Dec.{ltb}
 use lib.ListN.{length, get_or, get_elem?, take, drop, length-map, length-drop, length-take, drop_of_length-le}
@@ -13,16 +13,16 @@ use borrow.Author.Tests.{le-leb, lt-leb, lt-ltb, le-ltb, ltb-true, ltb-false}
 use Rattle.records.specs.Put.{put_in}
 use Rattle.records.proofs.Puts.{put_fits}
 use Rattle.cells.specs.Memory.{Memory, over_limit}
-use Rattle.cells.specs.NodeWords.{area_of, number_of, link_start, link_count, value_start, value_count, first_area}
-use Rattle.cells.specs.Cell.{Link, LinkBody, Node, Junction, Cell, node_at, first_of}
-use Rattle.cells.specs.CellOf.{link_of, node_with, junction_with, nodes_of, junctions_of, refs_of, cell_of}
+use Rattle.cells.specs.NodeWords.{area_of, number_of, link_start, link_count, value_start, value_count}
+use Rattle.cells.specs.Cell.{Link, Node, Cell, node_at, first_of}
+use Rattle.cells.specs.CellOf.{link_of, junction_with, nodes_of, junctions_of, refs_of, cell_of}
 use Rattle.cells.specs.Lookup.{ref_of, junction_at, junction_of}
 use Rattle.cells.specs.LookupCall.{place_of, ref_in, below, junction_of_call}
 use Rattle.cells.specs.declared.lookup.Place.{Place}
 use Rattle.cells.proofs.Sequences.Tests.{by_test}
 use Rattle.cells.proofs.Lookups.LookupLaws.{area_held}
 use Rattle.walks.specs.Walk.{see, link_at, body_of}
-use Rattle.walks.specs.Shown.{seen_by, inside, junction_place, seen_node, shown_node, seen_junction, or_none, shown_junction, values_of, values_at, values_left, shown_values, seen_link, or_no_link, shown_link}
+use Rattle.walks.specs.Shown.{seen_by, inside, junction_place, seen_node, shown_node, seen_junction, shown_junction, values_at, values_left, shown_values, seen_link, or_no_link, shown_link}
 use Rattle.walks.specs.ShownParts.{seen_of}
 use Rattle.walks.specs.declared.shown.SeenNode.{SeenNode}
 use Rattle.walks.specs.declared.shown.SeenJunction.{SeenJunction}

@@ -8,7 +8,7 @@ use lib.Dec.{ltb}
 use lib.ListN.{length}
 use borrow.Author.Tests.{lt-ltb, le-ltb}
 use Rattle.cells.specs.Memory.{Memory, over_limit}
-use Rattle.cells.specs.Cell.{Cell, numbers}
+use Rattle.cells.specs.Cell.{numbers}
 use Rattle.cells.specs.CellOf.{cell_of}
 use Rattle.cells.specs.LookupCall.{numbers_in}
 use Rattle.cells.proofs.Sequences.Tests.{by_test}

@@ -8,7 +8,7 @@ use lib.Dec.{eqb}
 use lib.ListN.{length, get_or, take, drop, length-map}
 use lib.Seq.{length-take-le}
 use borrow.Author.Tests.{eq-eqb, ne_eqb}
-use Rattle.cells.specs.NodeWords.{area_of, first_area, number_of, link_start, link_count}
+use Rattle.cells.specs.NodeWords.{area_of, first_area, link_start, link_count}
 use Rattle.cells.proofs.Lookups.LookupLaws.{area_held}
 use Rattle.cells.specs.Lists.{every}
 use Rattle.cells.specs.Area.{belongs}

@@ -13,7 +13,7 @@ use Rattle.cells.specs.Memory.{Memory, over_limit}
 use Rattle.cells.specs.NodeWords.{first_area, link_start, link_count}
 use Rattle.cells.proofs.Lookups.LookupLaws.{area_held}
 use Rattle.cells.specs.Area.{belongs}
-use Rattle.cells.specs.Cell.{Link, Node, no_node, node_at, numbers, first_of}
+use Rattle.cells.specs.Cell.{Link, Node, no_node, node_at, numbers}
 use Rattle.cells.specs.CellOf.{link_of, node_with, nodes_of, cell_of}
 use Rattle.cells.specs.Lookup.{find}
 use Rattle.cells.specs.LookupCall.{numbers_in, place_of, find_in, node_call}

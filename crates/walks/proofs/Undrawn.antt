@@ -1,6 +1,6 @@
 -- T-02: a yard not drawn yet is sound, so that demand 3 speaks of it too.
 use Prim.Native.Nat.{ℕ}
-use mathlib.Core.Path.{◌≡◌, refl, ap, ◌∙◌}
+use mathlib.Core.Path.{◌≡◌, ap}
 use mathlib.Core.Bool.{true}
 use mathlib.Core.List.{List, []}
 use Rattle.cells.specs.Lists.{every}

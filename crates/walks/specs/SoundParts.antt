@@ -1,5 +1,5 @@
 -- What the parts of the call `sound` go by, over the words in memory. No public function's contract cites them.
-use Rattle.std.specs.Prelude.{ℕ, zero, suc, ◌≤◌, Bool, true, not, ◌&&◌, ◌||◌, List, [], eqb, length, get_or, take, drop}
+use Rattle.std.specs.Prelude.{ℕ, zero, suc, ◌≤◌, Bool, true, not, ◌&&◌, ◌||◌, List, eqb, length, get_or, take, drop}
 use Rattle.cells.specs.Lists.{every}
 use Rattle.cells.specs.Area.{belongs}
 use Rattle.cells.specs.NodeWords.{area_of, first_area, link_start, link_count}

@@ -1,19 +1,18 @@
 -- The cell's own words, shorter lists, all links of a node and a heightmap, stored in memory, are stored in the cell
 -- that the memory holds.
-use Prim.Native.Nat.{ℕ, ◌+◌, ◌*◌, ◌/◌, ◌%◌, ◌≤◌, ◌<◌}
+use Prim.Native.Nat.{ℕ, ◌*◌, ◌≤◌, ◌<◌}
 use native.Mathlib.Omega.{arith}
 use mathlib.Core.Path.{◌≡◌, refl, ap, sym, ◌∙◌}
 use mathlib.Core.List.{List, [], map}
-use lib.ListN.{length, get_or, set, take, drop, length-map}
+use lib.ListN.{length, get_or, set, take, length-map}
 use lib.Seq.{take-take, length-take-le}
 use Rattle.numbers.specs.declared.answer.Answer.TheVariants.{Done}
-use Rattle.records.specs.Put.{put}
-use Rattle.cells.specs.NodeWords.{area_of, number_of, link_start, link_count, value_start, value_count}
-use Rattle.cells.specs.Cell.{Link, Node, Junction, no_node, node_at}
-use Rattle.cells.specs.CellOf.{link_of, body_of, ref_of, node_with, junction_with, nodes_of, junctions_of, refs_of}
+use Rattle.cells.specs.NodeWords.{link_start, link_count, value_start, value_count}
+use Rattle.cells.specs.Cell.{Link, no_node, node_at}
+use Rattle.cells.specs.CellOf.{link_of, ref_of, node_with, junction_with, nodes_of, junctions_of, refs_of}
 use Rattle.cells.specs.CellOf.{cell_of}
 use Rattle.cells.specs.Memory.{Memory, over_limit}
-use Rattle.cells.specs.Edit.{held_in, value_range}
+use Rattle.cells.specs.Edit.{value_range}
 use Rattle.cells.specs.Add.{with_counts}
 use Rattle.cells.specs.AddLink.{held_at, ranged}
 use Rattle.cells.specs.EditedCell.{with_nodes, with_junctions, with_refs, Apart}

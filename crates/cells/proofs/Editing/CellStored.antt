@@ -5,7 +5,6 @@ use mathlib.Core.Path.{◌≡◌, refl, ap, sym, ◌∙◌}
 use mathlib.Core.Bool.{Bool, true, false, not, ◌&&◌}
 use mathlib.Core.List.{List, [], ◌∷◌, map}
 use lib.Dec.{eqb, ltb, leb}
-use lib.Ieee.{binary32, to_bits}
 use lib.ListN.{length, get_or, set, take, drop}
 use lib.Seq.{take-set-lt, length-take-le, get_or-take}
 use borrow.Author.Tests.{ltb-false, leb-false, eqb-true}

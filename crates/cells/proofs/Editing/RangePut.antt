@@ -2,7 +2,7 @@
 use Prim.Native.Nat.{ℕ, zero, suc, ◌+◌, ◌-◌, ◌≤◌, ◌<◌}
 use native.Mathlib.Omega.{arith}
 use mathlib.Core.Path.{◌≡◌, refl, ap, sym, ◌∙◌}
-use mathlib.Core.Logic.{◌⊎◌, ⊎_elim}
+use mathlib.Core.Logic.{⊎_elim}
 use mathlib.Core.List.{List, [], ◌∷◌, ◌++◌, map, append_assoc}
 use lib.Dec.{eqb, leb}
 use lib.ListN.{length, get_or, set, take, drop, length-append, length-drop, length-map, take-append-drop}
@@ -18,7 +18,7 @@ use Rattle.cells.proofs.Sequences.Tests.{by_test, map_take, map_drop, map_append
 use Rattle.cells.proofs.Editing.EditLaws.{held_bound}
 use Rattle.cells.proofs.Editing.CellStored.{set_held}
 use Rattle.cells.proofs.Editing.PoolStored.{change_one}
-use Rattle.cells.proofs.Editing.Replacing.{cleared, in_place, behind_all, same_pool, more_pool, placing}
+use Rattle.cells.proofs.Editing.Replacing.{in_place, behind_all, same_pool, more_pool, placing}
 
 module _ {A : Type 0} where
   -- the front, with what is put

@@ -10,7 +10,7 @@ use lib.ListN.{length, get_or, take}
 use borrow.Author.Tests.{eqb-true, eq-eqb}
 use Rattle.numbers.specs.Grid.{is_island_area}
 use Rattle.cells.specs.Area.{belongs, ref_for}
-use Rattle.cells.specs.Order.{Old, renamed}
+use Rattle.cells.specs.Order.{Old}
 use Rattle.cells.specs.Cell.{Link, Ref, relink, reref}
 use Rattle.cells.specs.NodeWords.{area_of, first_area, relinked}
 use Rattle.cells.proofs.Sequences.Tests.{by_test, true_false}

@@ -1,6 +1,6 @@
 -- An accepted reading leaves in memory the cell that document 01 defines for the two sections.
 -- Assumes nothing: no law needs a bound on the bytes.
-use Prim.Native.Nat.{ℕ, zero, suc, ◌+◌, ◌-◌, ◌*◌, ◌/◌, ◌%◌, ◌<◌}
+use Prim.Native.Nat.{ℕ, zero, suc, ◌+◌, ◌*◌, ◌/◌, ◌%◌, ◌<◌}
 use native.Mathlib.Omega.{arith}
 use mathlib.Core.Path.{◌≡◌, refl, sym, ap, ◌∙◌, subst}
 use mathlib.Core.List.{List, [], ◌∷◌, ◌++◌, map, append-nil}
@@ -15,10 +15,10 @@ use Rattle.records.specs.Records.{node_at, link_at, junction_at, ref_at}
 use Rattle.cells.specs.Lists.{up_to, join_to, sum_to}
 use Rattle.cells.specs.Words.{path_node, path_link, path_junction, node_words, link_words, junction_words, ref_words}
 use Rattle.cells.specs.Checks.{root_read, sizes_check, opened, arrays_found, arrays_check, counts_of, links_at, values_at}
-use Rattle.cells.specs.Memory.{Memory, memory, Left, unless}
+use Rattle.cells.specs.Memory.{Memory, Left, unless}
 use Rattle.cells.specs.Read.{links_from, values_from, node_in, links_in, junction_in, values_in, ref_in, room_check, cell_read, filled, if_held, if_found, read_arrays, read_of}
 use Rattle.cells.specs.NodeWords.{area_of, number_of}
-use Rattle.cells.specs.Cell.{Link, Node}
+use Rattle.cells.specs.Cell.{Link}
 use Rattle.cells.specs.CellOf.{link_of, ref_of, body_of, node_with, junction_with, nodes_of, junctions_of, refs_of, cell_of}
 use Rattle.cells.specs.Words.{to_node}
 use Rattle.cells.specs.CellOf.{bits_of, marks_of}

@@ -3,14 +3,14 @@
 use Prim.Native.Nat.{ℕ, suc, ◌+◌, ◌*◌, ◌/◌, ◌%◌, ◌≤◌, ◌<◌}
 use native.Mathlib.Omega.{arith}
 use mathlib.Core.Path.{◌≡◌, refl, ap, sym, ◌∙◌}
-use mathlib.Core.Bool.{Bool, true, false, not}
-use mathlib.Core.List.{List, [], ◌∷◌, ◌++◌, map}
+use mathlib.Core.Bool.{Bool}
+use mathlib.Core.List.{List, [], ◌∷◌, map}
 use lib.ListN.{length, get_or, take, drop, length-map}
 use lib.Seq.{take_at, length-take-le}
 use lib.ListN.{get_or-append}
-use Rattle.cells.specs.Order.{keep, parted, renamed, Old, new_place, new_places}
+use Rattle.cells.specs.Order.{keep, parted, Old, new_place, new_places}
 use Rattle.cells.specs.NodeWords.{area_of, number_of, is_ped, numbered, number_from, reordered, first_area, old_of, relinked}
-use Rattle.cells.specs.Renumber.{Lists, Renumbered, over, vehicles, peds, renumber_lists, recounted, new_lists, renumber_memory, answer_of, left_by, renumber}
+use Rattle.cells.specs.Renumber.{over, vehicles, peds, renumber_lists, recounted, new_lists, renumber_memory, answer_of, left_by, renumber}
 use Rattle.cells.specs.RenumberParts.{Room}
 use Rattle.numbers.specs.declared.answer.Answer.{Answer}
 use Rattle.numbers.specs.declared.answer.Answer.TheVariants.{Done, Refused}
@@ -18,10 +18,10 @@ use lib.Dec.{ltb}
 use borrow.Author.Tests.{ltb-false}
 use Rattle.cells.proofs.Sequences.Tests.{by_test, map_take, map_drop, map_append, map_keep}
 use Rattle.cells.proofs.Forms.Limits.{within}
-use Rattle.cells.proofs.Reading.Fits.{Whole, whole}
+use Rattle.cells.proofs.Reading.Fits.{whole}
 use Rattle.cells.proofs.Renumbering.Parted.{places_length, places_at}
 use Rattle.cells.proofs.Renumbering.Parted as any
-use Rattle.cells.specs.Cell.{Link, Node, Junction, Ref, Cell, is_ped_node, is_vehicle_node, first_of, old_nodes, relink, reref, renode, number_nodes, ordered, renumber_cell, ped_flags}
+use Rattle.cells.specs.Cell.{Link, Node, is_ped_node, is_vehicle_node, first_of, old_nodes, relink, reref, renode, number_nodes, renumber_cell, ped_flags}
 use Rattle.cells.specs.Memory.{Memory, over_limit, short}
 use Rattle.cells.specs.CellOf.{link_of, ref_of, body_of, node_with, nodes_of, junctions_of, refs_of, cell_of}
 use Rattle.cells.specs.Words.{to_node}

@@ -1,16 +1,16 @@
 -- A number looked up through the scratch and the new places.
 -- Assumes nothing.
-use Prim.Native.Nat.{ℕ, zero, suc, ◌≤◌, ◌<◌}
+use Prim.Native.Nat.{ℕ, ◌<◌}
 use native.Mathlib.Omega.{arith}
-use mathlib.Core.Path.{◌≡◌, refl, ap, sym, ◌∙◌}
+use mathlib.Core.Path.{◌≡◌, ap, sym, ◌∙◌}
 use mathlib.Core.Bool.{true, false}
-use mathlib.Core.List.{List, [], ◌∷◌, map}
+use mathlib.Core.List.{List, [], map}
 use mathlib.Core.Option.{Option}
 use lib.ListN.{length, get_or, take, length-map, get_or-map}
 use lib.Seq.{length-take-le, get_or-take}
 use Rattle.cells.specs.Area.{belongs}
 use Rattle.cells.specs.Order.{new_number, place_or, renamed}
-use Rattle.cells.specs.NodeWords.{area_of, number_of, is_ped, first_area, old_of}
+use Rattle.cells.specs.NodeWords.{number_of, is_ped, first_area, old_of}
 use Rattle.cells.specs.RenumberParts.{Ready}
 use Rattle.cells.proofs.Renumbering.Placed.{new_at}
 use Rattle.cells.proofs.Renumbering.Named.{named, unnamed}

@@ -4,7 +4,7 @@ use Prim.Native.Nat.{ℕ, ◌*◌, ◌+◌}
 use mathlib.Core.Path.{◌≡◌, refl}
 use mathlib.Core.List.{List, [], ◌∷◌}
 use lib.ListN.{replicate}
-use Rattle.numbers.specs.declared.answer.Answer.TheVariants.{Done, Refused}
+use Rattle.numbers.specs.declared.answer.Answer.TheVariants.{Refused}
 use Rattle.records.specs.Put.{put}
 use Rattle.cells.specs.Memory.{Memory, memory, refuse, over_limit}
 use Rattle.cells.specs.Edit.{held_in}

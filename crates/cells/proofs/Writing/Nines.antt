@@ -17,7 +17,6 @@ use Rattle.cells.specs.Write.{WriteLeft, left, refuse, or_else, after, held, sto
 use Rattle.cells.specs.Blocks.{written}
 use Rattle.cells.specs.declared.count.Total.{Total}
 use Rattle.cells.specs.declared.count.Total.TheVariants.{Sum, Refused}
-use Rattle.cells.specs.declared.write.Written.{Written}
 use Rattle.cells.specs.declared.write.Written.TheVariants as answer
 use Rattle.cells.proofs.Sequences.Tests.{by_test}
 use Rattle.cells.proofs.Writing.Starts.{start_some, over_some, over_behind, not_over}

@@ -4,14 +4,14 @@ use native.Mathlib.Omega.{arith}
 use native.Mathlib.Nat.{zero-add}
 use mathlib.Core.Path.{◌≡◌, refl, ap, ◌∙◌}
 use mathlib.Core.Bool.{Bool, true, false}
-use mathlib.Core.List.{List, [], ◌∷◌, map}
+use mathlib.Core.List.{List, [], ◌∷◌}
 use lib.Dec.{ltb}
 use lib.ListN.{length, get_or, take, length-append}
-use borrow.Author.Tests.{le-ltb, ltb-false}
+use borrow.Author.Tests.{le-ltb}
 use Rattle.records.specs.Sections.{located, bytes_of}
-use Rattle.records.specs.Records.{node_at, node_bytes, junction_at, junction_bytes}
+use Rattle.records.specs.Records.{node_at, junction_at, junction_bytes}
 use Rattle.records.specs.Put.{joined}
-use Rattle.records.proofs.RecordBack.{node_back, node_length, junction_back, junction_length}
+use Rattle.records.proofs.RecordBack.{junction_back, junction_length}
 use Rattle.records.specs.declared.section.Part.{Part}
 use Rattle.records.specs.declared.section.Located.{Located}
 use Rattle.records.specs.declared.root.Root.{Root}
@@ -22,12 +22,12 @@ use Rattle.cells.specs.Words.{to_node, to_junction}
 use Rattle.cells.specs.Checks.{root_read, refuse_if, too_few, sizes_check, opened, arrays_found, scan, links_at, values_at, bad_node, bad_junction, refuse_more, after, nodes_scan, junctions_scan, counts_of, arrays_check}
 use Rattle.cells.specs.Memory.{Memory, Left, unless}
 use Rattle.cells.specs.Read.{filled, room_check, if_held, if_found, read_arrays, read_of}
-use Rattle.cells.specs.Entries.{links_in, values_in, stored_start, file_node, file_junction}
+use Rattle.cells.specs.Entries.{links_in, values_in, file_node, file_junction}
 use Rattle.cells.specs.NodeWords.{value_count}
 use Rattle.cells.specs.WriteChecks.{values_within, maps_cut, accepted, check_nodes, check_junctions}
 use Rattle.cells.proofs.Writing.CheckTurns.{maps_at}
 use Rattle.cells.proofs.Writing.Ranges.{value_count_law}
-use Rattle.cells.specs.Blocks.{refs_block, heights_block, junction_record, junctions_block, node_record, links_block, nodes_block, written}
+use Rattle.cells.specs.Blocks.{refs_block, heights_block, junction_record, junctions_block, links_block, nodes_block, written}
 use Rattle.cells.specs.Write.{held, write_call}
 use Rattle.cells.specs.WriteRead.{if_read, if_written, write_read_of}
 use Rattle.cells.specs.BackCheck.{held_counts, lengths, back_tests, back_check}

@@ -14,9 +14,9 @@ use Rattle.numbers.specs.Steps.{step_of, unstep}
 use Rattle.numbers.proofs.StepLaws.{step_in}
 use Rattle.records.specs.Bytes.{byte_at}
 use Rattle.records.specs.Put.{joined}
-use Rattle.records.specs.Records.{node_at, node_bytes, link_at, junction_at, junction_bytes, ref_at}
+use Rattle.records.specs.Records.{node_at, link_at, junction_at, junction_bytes, ref_at}
 use Rattle.records.proofs.LittleEndian.{Stands, stands_taken}
-use Rattle.records.proofs.RecordBack.{NodeFits, node_back, node_length, LinkFits, link_back, link_length_law, JunctionFits, junction_back, junction_length, RefFits, ref_back, ref_length}
+use Rattle.records.proofs.RecordBack.{NodeFits, node_back, LinkFits, link_back, link_length_law, JunctionFits, junction_back, junction_length, RefFits, ref_back, ref_length}
 use Rattle.cells.specs.Lists.{up_to, every}
 use Rattle.cells.specs.NodeWords.{area_of, number_of}
 use Rattle.cells.specs.Words.{to_node, to_link, to_junction, to_ref}

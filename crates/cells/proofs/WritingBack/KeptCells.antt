@@ -1,8 +1,7 @@
 -- The cells that storing keeps: coordinates in whole steps, flags5 in three bits, numbers that fit their fields, whole heightmaps.
 -- Every cell that was read is one, and renumbering gives one again.
 use Prim.Native.Nat.{ℕ, ◌*◌, ◌%◌}
-use mathlib.Core.Bool.{Bool, true, false, ◌&&◌}
-use mathlib.Core.List.{List}
+use mathlib.Core.Bool.{Bool, ◌&&◌}
 use lib.Dec.{eqb, ltb}
 use lib.ListN.{length}
 use lib.Ieee.{binary32, of_bits, to_bits}

@@ -15,7 +15,6 @@ use Rattle.cells.specs.Cell.{Node, Cell, ped_flags}
 use Rattle.cells.specs.Cell as held-cell
 use Rattle.cells.specs.CellOf.{cell_of}
 use Rattle.cells.specs.FileCell.{file_node_of, file_nodes, cell_from, cell_by, file_cell}
-use Rattle.cells.specs.Order.{new_place}
 use Rattle.cells.specs.Renumber.{renumber}
 use Rattle.cells.specs.Unused.{unused_of, unused_in}
 use Rattle.cells.specs.Write.{held, write_call}

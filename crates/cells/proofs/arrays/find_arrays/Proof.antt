@@ -1,4 +1,4 @@
-use mathlib.Core.Path.{◌≡◌, sym, ◌∙◌}
+use mathlib.Core.Path.{sym, ◌∙◌}
 use Rattle.cells.specs.Checks.{arrays_found}
 use borrow.Author.Rules.{rules}
 use Rattle.cells.proofs.arrays.find_arrays.Statement.{statement}

@@ -1,11 +1,9 @@
-use Prim.Native.Nat.{ℕ, ◌/◌, ◌≤◌, ◌<◌}
-use mathlib.Core.Path.{◌≡◌, sym, ap, ◌∙◌}
-use native.Mathlib.Omega.{arith}
+use Prim.Native.Nat.{◌/◌}
+use mathlib.Core.Path.{sym, ◌∙◌}
 use borrow.Author.Tests.{lt-ltb, le-ltb}
 use lib.ListN.{length}
 use Rattle.cells.specs.Lists.{sum_to}
 use Rattle.cells.specs.Checks.{arrays_check, nodes_scan, junctions_scan, counts_of, after, links_at, values_at}
-use Rattle.cells.specs.declared.count.Counted.{Counted}
 use Rattle.cells.specs.declared.count.Counted.TheVariants.{Held}
 use Rattle.cells.proofs.Reading.ReadLaws.{after_refused, after_sum, sum_is, within_limits}
 use borrow.Author.Rules.{rules}

@@ -1,10 +1,7 @@
-use mathlib.Core.Path.{◌≡◌, sym, ap, ◌∙◌}
+use mathlib.Core.Path.{sym, ap, ◌∙◌}
 use lib.ListN.{length}
 use Rattle.records.specs.declared.root.Root.{Root}
-use Rattle.records.specs.Root.{root_of}
-use Rattle.cells.specs.Checks.{count_of, counted_of, found_answer, arrays_found, arrays_check, in_arrays, after, sizes_check}
-use Rattle.numbers.specs.declared.answer.Answer.{Answer}
-use Rattle.cells.specs.declared.arrays.Found.{Found}
+use Rattle.cells.specs.Checks.{count_of, counted_of, found_answer, arrays_found, arrays_check}
 use borrow.Author.Rules.{rules}
 use Rattle.cells.proofs.count.count.Statement.{statement}
 use Rattle.cells.proofs.count.count.Tie as tie

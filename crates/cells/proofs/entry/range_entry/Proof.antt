@@ -1,9 +1,9 @@
 use native.Mathlib.Omega.{arith}
 use Prim.Native.Nat.{◌<◌}
-use borrow.Author.Tests.{lt-ltb, leb-false}
+use borrow.Author.Tests.{leb-false}
 use lib.Dec.{leb}
 use mathlib.Core.Path.{sym, ◌∙◌}
-use Rattle.cells.specs.Edit.{range_entry, held_in}
+use Rattle.cells.specs.Edit.{range_entry}
 use Rattle.numbers.proofs.Refusing.{tests, tested}
 use Rattle.cells.proofs.Editing.EditLaws.{held_bound, lent_false}
 use Rattle.cells.proofs.entry.range_entry.Statement.{statement}

@@ -1,17 +1,15 @@
 use borrow.Author.Rules.{rules}
-use Prim.Native.Nat.{ℕ, ◌+◌, ◌*◌, ◌-◌, ◌≤◌, ◌<◌}
-use mathlib.Core.Path.{◌≡◌, refl, sym, ap, ◌∙◌}
-use mathlib.Core.List.{List, [], ◌++◌}
+use Prim.Native.Nat.{ℕ, ◌*◌, ◌-◌, ◌≤◌}
+use mathlib.Core.Path.{◌≡◌, refl, ap, ◌∙◌}
+use mathlib.Core.List.{[], ◌++◌}
 use native.Mathlib.Omega.{arith}
-use lib.ListN.{length, get_or, set, take, drop, length-set}
-use Rattle.records.specs.Records.{node_at, junction_at}
-use Rattle.records.specs.declared.node.Node.{Node}
-use Rattle.records.specs.declared.junction.NodeJunction.{NodeJunction}
+use lib.ListN.{length, drop}
+use Rattle.records.specs.Records.{junction_at}
 use Rattle.cells.specs.Lists.{up_to, join_to, sum_to}
-use Rattle.cells.specs.Checks.{links_at, values_at}
+use Rattle.cells.specs.Checks.{values_at}
 use Rattle.cells.specs.Words.{path_junction, junction_words}
-use Rattle.cells.specs.Read.{links_from, values_from, node_in, links_in, junction_in, values_in}
-use Rattle.cells.proofs.Reading.ReadLaws.{length_links, length_values, sum_next, sum_room, fill_turn, join_turn}
+use Rattle.cells.specs.Read.{junction_in, values_in}
+use Rattle.cells.proofs.Reading.ReadLaws.{length_values, sum_next, sum_room, fill_turn, join_turn}
 use Rattle.cells.proofs.fill.fill_junctions.Statement.{statement}
 use Rattle.cells.proofs.fill.fill_junctions.Tie as tie
 

@@ -1,16 +1,11 @@
-use Prim.Native.Nat.{ℕ, ◌+◌, ◌*◌, ◌-◌, ◌≤◌, ◌<◌}
-use mathlib.Core.Path.{◌≡◌, refl, sym, ap, ◌∙◌}
-use mathlib.Core.List.{List, [], ◌++◌}
+use Prim.Native.Nat.{◌+◌}
+use mathlib.Core.Path.{ap, ◌∙◌}
+use mathlib.Core.List.{◌++◌}
 use native.Mathlib.Omega.{arith}
-use lib.ListN.{length, get_or, set, take, drop, length-set}
-use Rattle.records.specs.Records.{node_at, junction_at}
+use lib.ListN.{set, take, drop}
 use Rattle.records.specs.declared.node.Node.{Node}
-use Rattle.records.specs.declared.junction.NodeJunction.{NodeJunction}
-use Rattle.cells.specs.Lists.{up_to, join_to, sum_to}
-use Rattle.cells.specs.Checks.{links_at, values_at}
-use Rattle.cells.specs.Words.{path_node, node_words, junction_words}
-use Rattle.cells.specs.Read.{links_from, values_from, node_in, links_in, junction_in, values_in}
-use Rattle.cells.proofs.Reading.ReadLaws.{length_links, length_values, sum_next, sum_room, fill_turn, join_turn}
+use Rattle.cells.specs.Words.{path_node, node_words}
+use Rattle.cells.specs.Read.{links_from, links_in}
 use borrow.Author.Rules.{rules}
 use Rattle.cells.proofs.fill.fill_node.Statement.{statement}
 use Rattle.cells.proofs.fill.fill_node.Tie as tie

@@ -1,10 +1,9 @@
-use Prim.Native.Nat.{ℕ, ◌+◌, ◌*◌, ◌-◌, ◌≤◌, ◌<◌}
-use mathlib.Core.Path.{◌≡◌, refl, sym, ap, ◌∙◌}
-use mathlib.Core.List.{List, [], ◌++◌}
+use Prim.Native.Nat.{◌-◌, ◌≤◌}
+use mathlib.Core.Path.{◌≡◌, refl, ap, ◌∙◌}
+use mathlib.Core.List.{[], ◌++◌}
 use native.Mathlib.Omega.{arith}
 use borrow.Author.Rules.{rules}
-use lib.ListN.{length, get_or, set, take, drop, length-set}
-use Rattle.records.specs.Records.{ref_at}
+use lib.ListN.{length, drop, length-set}
 use Rattle.cells.specs.Lists.{up_to}
 use Rattle.cells.specs.Words.{ref_words}
 use Rattle.cells.specs.Read.{ref_in}

@@ -1,5 +1,4 @@
-use mathlib.Core.List.{[]}
-use lib.ListN.{get_or, set}
+use lib.ListN.{set}
 use borrow.Author.Rules.{rules}
 use Rattle.cells.proofs.put_links.place_links.Statement.{statement}
 use Rattle.cells.proofs.put_links.place_links.Tie as tie

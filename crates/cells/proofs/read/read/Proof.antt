@@ -1,5 +1,4 @@
 -- Each refusal is what `read_of` says there, and behind the checks `read_arrays` does the rest.
-use Prim.Native.Nat.{ℕ, ◌≤◌}
 use mathlib.Core.Path.{◌≡◌, sym, ap, ◌∙◌}
 use lib.ListN.{length}
 use Rattle.records.specs.declared.root.Root.{Root}

@@ -1,11 +1,11 @@
-use Prim.Native.Nat.{ℕ, ◌+◌, ◌≤◌, ◌<◌}
-use mathlib.Core.Path.{◌≡◌, refl, sym, ap, ◌∙◌}
-use mathlib.Core.List.{List, ◌++◌}
+use Prim.Native.Nat.{◌≤◌, ◌<◌}
+use mathlib.Core.Path.{sym, ap, ◌∙◌}
+use mathlib.Core.List.{◌++◌}
 use native.Mathlib.Omega.{arith}
 use lib.ListN.{length, drop}
-use Rattle.cells.specs.Lists.{up_to, join_to, sum_to}
+use Rattle.cells.specs.Lists.{join_to, sum_to}
 use Rattle.cells.specs.Checks.{counted_answer, links_at, values_at}
-use Rattle.cells.specs.Memory.{Memory, memory}
+use Rattle.cells.specs.Memory.{memory}
 use Rattle.cells.specs.Read.{links_in, values_in, read_arrays, filled}
 use Rattle.cells.specs.declared.count.Counts.{Counts}
 use Rattle.numbers.specs.declared.answer.Answer.TheVariants.{Done}

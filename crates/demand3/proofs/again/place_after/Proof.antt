@@ -1,6 +1,5 @@
 use native.Mathlib.Omega.{arith}
 use mathlib.Core.Path.{sym, ap, ◌∙◌}
-use Prim.Native.Nat.{ℕ}
 use lib.ListN.{get_or-eq_default}
 use Rattle.numbers.specs.declared.answer.Answer.{Answer}
 use Rattle.demand3.specs.Again.{place_after}

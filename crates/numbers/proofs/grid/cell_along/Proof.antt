@@ -1,6 +1,6 @@
 -- `numbers::grid::cell_along` meets its contract. Assumes nothing.
 use Rattle.std.proofs.Common.{◌≡◌, ℕ, ◌^◌, ◌<◌, ◌≤◌, min, false, pos, sym, ◌∙◌, arith, lit<, lit≤}
-use lib.Ieee.{Float, binary32, fin, of_bits, add, div, le}
+use lib.Ieee.{Float, binary32, fin, of_bits, add, div}
 use lib.Ieee.Fits.{add-fits}
 use Rattle.numbers.specs.Grid.{cell_along}
 use Rattle.numbers.proofs.Cuts.{cut, at_least, less_than, cut_asks}

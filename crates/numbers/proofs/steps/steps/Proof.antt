@@ -1,5 +1,5 @@
 -- `numbers::steps::steps` meets its contract. Assumes nothing.
-use Rattle.std.proofs.Common.{T, sym, ap, ◌∙◌, subst, w16, rules}
+use Rattle.std.proofs.Common.{T, sym, ap, ◌∙◌, subst, w16}
 use lib.Ieee.{binary32, fits}
 use lib.Ieee.Bits.{of_bits-to_bits}
 use mir.ValLaws.{to_z-of_z}

@@ -1,5 +1,5 @@
 -- `numbers::whole::digits_below` meets its contract. The invariant: p is 2 ^ j, and it is below twice k. Assumes nothing.
-use Rattle.std.proofs.Common.{◌≡◌, ℕ, suc, ◌+◌, ◌-◌, ◌*◌, ◌^◌, ◌<◌, ◌≤◌, sym, refl, ap, ◌∙◌, subst, le_trans, le_of_eq, lt_of_le_of_lt, pow-suc, add-one, arith}
+use Rattle.std.proofs.Common.{◌≡◌, ℕ, ◌-◌, ◌*◌, ◌^◌, ◌<◌, sym, refl, ap, ◌∙◌, le_trans, le_of_eq, lt_of_le_of_lt, pow-suc, add-one, arith}
 use lib.Ieee.{size}
 use Rattle.numbers.proofs.SearchedThresholds.{digits_are, few}
 use Rattle.numbers.proofs.threshold_search.digits_below.Statement.{statement}

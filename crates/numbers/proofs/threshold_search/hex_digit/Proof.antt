@@ -1,5 +1,5 @@
 -- `numbers::whole::hex_digit` meets its contract. Assumes nothing.
-use Rattle.std.proofs.Common.{Bool, cond, sym, ap, rules, le-ltb, lt-ltb}
+use Rattle.std.proofs.Common.{rules, le-ltb, lt-ltb}
 use Rattle.numbers.proofs.threshold_search.hex_digit.Statement.{statement}
 use Rattle.numbers.proofs.threshold_search.hex_digit.Tie as tie
 

@@ -1,9 +1,8 @@
 -- `numbers::whole::threshold` meets its contract: a search between two patterns, `lo` below the table's entry and `hi` at it or above; the entry is the least.
 -- Assumes nothing.
-use Rattle.std.proofs.Common.{◌≡◌, ℕ, suc, ◌+◌, ◌-◌, ◌*◌, ◌/◌, ◌<◌, ◌≤◌, sym, ap, ◌∙◌, subst, le_antisymm, arith, rules}
+use Rattle.std.proofs.Common.{◌≡◌, ℕ, ◌+◌, ◌-◌, ◌*◌, ◌<◌, ◌≤◌, sym, ap, ◌∙◌, subst, le_antisymm, arith}
 use lib.Ieee.{size}
 use Rattle.numbers.specs.Table.{thresholds, Least}
-use Rattle.numbers.specs.ThresholdSearch.{Searched}
 use Rattle.numbers.proofs.TableLaws.{entry, least_entry}
 use Rattle.numbers.proofs.SearchedThresholds.{turning, at_or_above, below_it}
 use Rattle.numbers.proofs.threshold_search.threshold.Statement.{statement}

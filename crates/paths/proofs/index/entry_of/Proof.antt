@@ -1,9 +1,9 @@
 use native.Mathlib.Omega.{arith}
 use native.Mathlib.Nat.{mod-lt}
-use Prim.Native.Nat.{ℕ, ◌+◌, ◌*◌, ◌%◌}
-use mathlib.Core.Path.{◌≡◌, refl, sym, ◌∙◌}
+use Prim.Native.Nat.{◌+◌, ◌*◌}
+use mathlib.Core.Path.{refl, sym, ◌∙◌}
 use Rattle.paths.specs.Scratch.{chain_at}
-use Rattle.paths.specs.Index.{number_at, head_at, next_at, Index}
+use Rattle.paths.specs.Index.{number_at, head_at, next_at}
 use Rattle.paths.proofs.IndexLaws.{Seeking, seek_start, seek_inside, seek_found, seek_on, seek_first, seek_none}
 use borrow.Author.Rules.{rules}
 use Rattle.paths.proofs.index.entry_of.Statement.{statement}

@@ -1,4 +1,4 @@
-use mathlib.Core.Path.{◌≡◌, sym, ◌∙◌}
+use mathlib.Core.Path.{sym, ◌∙◌}
 use lib.ListN.{length}
 use Rattle.paths.specs.PathCall.{refused}
 use Rattle.paths.proofs.PathLaws.{accepted, lent_so, answered}

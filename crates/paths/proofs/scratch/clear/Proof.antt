@@ -1,7 +1,6 @@
 use mathlib.Core.Path.{◌≡◌, refl, ◌∙◌}
 use Prim.Native.Nat.{◌-◌}
 use lib.ListN.{length}
-use native.Mathlib.Omega.{arith}
 use Rattle.paths.specs.Scratch.{chain_at}
 use Rattle.paths.proofs.ScratchLaws.{Clearing, clear_none, clear_turn, clear_same, cleared}
 use borrow.Author.Rules.{rules}

@@ -1,7 +1,7 @@
 use native.Mathlib.Omega.{arith}
-use Prim.Native.Nat.{ℕ, ◌+◌, ◌/◌, ◌%◌}
-use mathlib.Core.Path.{◌≡◌, sym, ap₂, ◌∙◌}
-use mathlib.Core.List.{List, []}
+use Prim.Native.Nat.{◌+◌, ◌/◌, ◌%◌}
+use mathlib.Core.Path.{sym, ap₂, ◌∙◌}
+use mathlib.Core.List.{[]}
 use lib.ListN.{get_or, take}
 use Rattle.cells.specs.NodeWords.{first_area}
 use Rattle.cells.specs.Area.{belongs}

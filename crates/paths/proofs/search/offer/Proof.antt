@@ -1,5 +1,5 @@
 use native.Mathlib.Omega.{arith}
-use mathlib.Core.Path.{refl, sym}
+use mathlib.Core.Path.{refl}
 use Rattle.paths.specs.Search.{passed, taken}
 use Rattle.paths.proofs.SearchLaws.{taken_by}
 use borrow.Author.Rules.{rules}

@@ -1,9 +1,9 @@
-use Prim.Native.Nat.{ℕ, ◌+◌, ◌≤◌}
+use Prim.Native.Nat.{◌+◌, ◌≤◌}
 use native.Mathlib.Omega.{arith}
-use mathlib.Core.Path.{◌≡◌, sym, ap, ◌∙◌}
+use mathlib.Core.Path.{◌≡◌, sym, ◌∙◌}
 use Rattle.cells.specs.Words.{to_node}
 use Rattle.reach.specs.Reach.{stored}
-use Rattle.reach.specs.Parts.{far_from, bounded}
+use Rattle.reach.specs.Parts.{far_from}
 use Rattle.reach.proofs.TurnLaws.{bounded_under, bounded_over}
 use borrow.Author.Rules.{rules}
 use Rattle.reach.proofs.distance.distance_up_to.Statement.{statement}

@@ -1,15 +1,13 @@
 -- The square by signed words: the difference fits 32 bits, its square 64. Assumes nothing.
 use Prim.Native.Nat.{ℕ, ◌≤◌}
 use native.Mathlib.Omega.{arith}
-use mathlib.Core.Path.{◌≡◌, sym, ap, ◌∙◌, subst}
+use mathlib.Core.Path.{sym, ap, ◌∙◌, subst}
 use lib.Dec.{T}
-use lib.Ieee.{binary32, of_bits}
-use lib.IntN.{ℤ, pos, nat_abs}
+use lib.IntN.{ℤ, nat_abs}
 use lib.Signed.{non_neg}
-use mir.Syntax.{w16, w32, w64}
-use mir.Val.{Fits, SFits, to_z}
+use mir.Syntax.{w16, w64}
+use mir.Val.{Fits, SFits}
 use borrow.Author.Rules.{rules}
-use Rattle.numbers.specs.Steps.{step_of}
 use Rattle.reach.specs.Parts.{raised_step, square_apart}
 use Rattle.reach.proofs.DistanceLaws.{up, up_small, raised_up, apart_small}
 use Rattle.reach.proofs.Casts.{wide_fits, sum_fits, stored_sum}

@@ -1,5 +1,4 @@
 -- `rounds::file::read_rest` meets its contract: one law of Files a return.
-use Prim.Native.Nat.{ℕ}
 use Rattle.rounds.proofs.Files.{rest_under, rest_other, rest_short, rest_held}
 use borrow.Author.Rules.{rules}
 use Rattle.rounds.proofs.file.read_rest.Statement.{statement}

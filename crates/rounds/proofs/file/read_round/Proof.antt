@@ -1,8 +1,5 @@
 -- `rounds::file::read_round` meets its contract: 15, or what is read behind the head.
-use mathlib.Core.Bool.{not}
-use Prim.Native.Nat.{ℕ}
-use mathlib.Core.Path.{sym, ◌∙◌, ap}
-use borrow.Author.Tests.{not-true, not-false}
+use mathlib.Core.Path.{sym, ◌∙◌}
 use Rattle.rounds.specs.Round.{round_read}
 use borrow.Author.Rules.{rules}
 use Rattle.rounds.proofs.file.read_round.Statement.{statement}

@@ -1,6 +1,6 @@
 -- `rounds::file::read_version`: the rest of the file is read by `rest_read`, behind the head of the version found.
 use mathlib.Core.Path.{sym, ap, ◌∙◌}
-use Rattle.rounds.specs.Round.{has_version, in_version, version_left, with_version, rest_read, version_read}
+use Rattle.rounds.specs.Round.{in_version, version_left, rest_read, version_read}
 use Rattle.rounds.specs.declared.file.Version.TheVariants.{One, Two}
 use Rattle.rounds.proofs.file.read_version.Goals as goal
 

@@ -1,5 +1,4 @@
-use mathlib.Core.Path.{◌≡◌, sym, ◌∙◌}
-use mathlib.Core.Bool.{false}
+use mathlib.Core.Path.{sym, ◌∙◌}
 use native.Mathlib.Omega.{arith}
 use Rattle.sets.proofs.JoinLaws.{few_of, area_there, limit_passed, list_short, list_full, may_join}
 use borrow.Author.Rules.{rules}

@@ -1,6 +1,4 @@
-use mathlib.Core.Bool.{not}
-use mathlib.Core.Path.{◌≡◌, sym, ◌∙◌, ap}
-use borrow.Author.Tests.{not-true, not-false}
+use mathlib.Core.Path.{sym, ◌∙◌}
 use Rattle.sets.proofs.JoinLaws.{for_nodes, for_links, for_later}
 use borrow.Author.Rules.{rules}
 use Rattle.sets.proofs.join.lacking_for.Statement.{statement}

@@ -1,6 +1,4 @@
-use mathlib.Core.Bool.{not}
-use mathlib.Core.Path.{◌≡◌, sym, ◌∙◌, ap}
-use borrow.Author.Tests.{not-true, not-false}
+use mathlib.Core.Path.{sym, ◌∙◌}
 use Rattle.sets.proofs.JoinLaws.{later_junctions, later_heights, later_refs, later_none}
 use borrow.Author.Rules.{rules}
 use Rattle.sets.proofs.join.lacking_later.Statement.{statement}

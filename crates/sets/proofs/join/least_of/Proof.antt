@@ -1,5 +1,4 @@
 use borrow.Author.Tests.{lt-ltb, le-ltb}
-use borrow.Author.Rules.{rules}
 use Rattle.sets.proofs.join.least_of.Statement.{statement}
 use Rattle.sets.proofs.join.least_of.Tie as tie
 

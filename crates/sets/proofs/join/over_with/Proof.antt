@@ -1,4 +1,4 @@
-use mathlib.Core.Path.{◌≡◌, refl, sym, ◌∙◌}
+use mathlib.Core.Path.{refl, sym, ◌∙◌}
 use native.Mathlib.Omega.{arith}
 use Rattle.sets.proofs.JoinLaws.{tenth, beyond, member_over, cell_over}
 use borrow.Author.Rules.{rules}

@@ -1,7 +1,6 @@
-use mathlib.Core.Path.{◌≡◌, sym, ◌∙◌, ap}
-use mathlib.Core.Bool.{true, not}
+use mathlib.Core.Path.{◌≡◌, sym, ◌∙◌}
+use mathlib.Core.Bool.{true}
 use native.Mathlib.Omega.{arith}
-use borrow.Author.Tests.{not-true, not-false}
 use Rattle.sets.specs.CellSet.{holds_list}
 use Rattle.sets.proofs.JoinLaws.{not_held, list_held, cell_short, part_small, part_large, part_behind}
 use borrow.Author.Rules.{rules}

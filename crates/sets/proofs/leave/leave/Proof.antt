@@ -1,4 +1,4 @@
-use mathlib.Core.Path.{◌≡◌, sym, ◌∙◌}
+use mathlib.Core.Path.{sym, ◌∙◌}
 use native.Mathlib.Omega.{arith}
 use Rattle.sets.specs.CellSet.{CellSet, cell_set}
 use Rattle.sets.proofs.RoomLaws.{Accepted, accepted}

@@ -1,8 +1,7 @@
-use Prim.Native.Nat.{ℕ, ◌+◌, ◌-◌, ◌≤◌, ◌<◌}
-use mathlib.Core.Path.{◌≡◌, refl, ap, sym, ◌∙◌}
-use mathlib.Core.List.{List, []}
+use Prim.Native.Nat.{◌<◌}
+use mathlib.Core.Path.{ap}
 use native.Mathlib.Omega.{arith}
-use lib.ListN.{length, take, drop}
+use lib.ListN.{length}
 use Rattle.sets.specs.CellSet.{CellSet, cell_set}
 use Rattle.sets.specs.declared.parts.PerList.{PerList}
 use Rattle.sets.proofs.LeaveLaws.{closes, taken_out}

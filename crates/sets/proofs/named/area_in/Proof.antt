@@ -1,5 +1,5 @@
 use Prim.Native.Nat.{ℕ}
-use mathlib.Core.Path.{◌≡◌, refl, ap, sym, ◌∙◌}
+use mathlib.Core.Path.{ap, sym, ◌∙◌}
 use mathlib.Core.List.{List}
 use lib.ListN.{length, take, drop}
 use Rattle.cells.specs.NodeWords.{first_area}

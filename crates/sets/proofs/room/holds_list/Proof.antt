@@ -1,6 +1,4 @@
-use mathlib.Core.Bool.{not}
-use mathlib.Core.Path.{◌≡◌, sym, ◌∙◌, ap}
-use borrow.Author.Tests.{not-true, not-false}
+use mathlib.Core.Path.{sym, ◌∙◌}
 use Rattle.sets.proofs.RoomLaws.{held_no, held_yes}
 use borrow.Author.Rules.{rules}
 use Rattle.sets.proofs.room.holds_list.Statement.{statement}

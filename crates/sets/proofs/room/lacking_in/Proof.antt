@@ -1,6 +1,4 @@
-use mathlib.Core.Bool.{not}
-use mathlib.Core.Path.{◌≡◌, sym, ◌∙◌, ap}
-use borrow.Author.Tests.{not-true, not-false}
+use mathlib.Core.Path.{sym, ◌∙◌}
 use Rattle.sets.proofs.RoomLaws.{lacks_nodes, lacks_links, lacks_junctions, lacks_heights, lacks_refs, lacks_none}
 use borrow.Author.Rules.{rules}
 use Rattle.sets.proofs.room.lacking_in.Statement.{statement}

@@ -1,4 +1,4 @@
-use mathlib.Core.Path.{◌≡◌, sym, ◌∙◌}
+use mathlib.Core.Path.{sym, ◌∙◌}
 use Rattle.sets.proofs.RoomLaws.{few_members, answer_14, answer_7, answer_done}
 use borrow.Author.Rules.{rules}
 use Rattle.sets.proofs.room.set_answer.Statement.{statement}

@@ -1,13 +1,12 @@
 use Prim.Native.Nat.{ℕ, ◌+◌, ◌-◌, ◌≤◌, ◌<◌}
-use mathlib.Core.Path.{◌≡◌, sym, ◌∙◌, ap}
-use mathlib.Core.Bool.{true, not}
+use mathlib.Core.Path.{◌≡◌, sym, ◌∙◌}
+use mathlib.Core.Bool.{true}
 use mathlib.Core.List.{[]}
 use native.Mathlib.Omega.{arith}
 use borrow.Author.Count.{below_more}
 use lib.ListN.{get_or}
 use Rattle.cells.specs.LookupCall.{numbers_in}
 use Rattle.walks.specs.SoundParts.{word_named}
-use borrow.Author.Tests.{not-true, not-false}
 use Rattle.walks.proofs.Ranges.{part_all, part_not}
 use borrow.Author.Rules.{rules}
 use Rattle.walks.proofs.sound.all_named.Statement.{statement}

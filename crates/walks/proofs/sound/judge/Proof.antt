@@ -1,7 +1,5 @@
-use mathlib.Core.Bool.{not}
-use mathlib.Core.Path.{sym, ◌∙◌, ap}
+use mathlib.Core.Path.{sym, ◌∙◌}
 use native.Mathlib.Omega.{arith}
-use borrow.Author.Tests.{not-true, not-false}
 use Rattle.walks.proofs.SoundWords.{judged_none, no_nodes, no_differ, refs_left_law}
 use Rattle.walks.specs.SoundParts.{words_sound}
 use borrow.Author.Rules.{rules}

@@ -1,13 +1,12 @@
 use Prim.Native.Nat.{ℕ, ◌-◌, ◌≤◌, ◌<◌}
-use mathlib.Core.Path.{◌≡◌, sym, ◌∙◌, ap}
-use mathlib.Core.Bool.{true, not}
+use mathlib.Core.Path.{◌≡◌, sym, ◌∙◌}
+use mathlib.Core.Bool.{true}
 use mathlib.Core.List.{[]}
 use native.Mathlib.Omega.{arith}
 use borrow.Author.Count.{below_more}
 use lib.ListN.{get_or, take}
 use Rattle.cells.specs.LookupCall.{numbers_in}
 use Rattle.walks.specs.SoundParts.{word_sound}
-use borrow.Author.Tests.{not-true, not-false}
 use Rattle.walks.proofs.Ranges.{front_all, front_not}
 use borrow.Author.Rules.{rules}
 use Rattle.walks.proofs.sound.nodes_sound.Statement.{statement}

@@ -1,6 +1,4 @@
-use Prim.Native.Nat.{◌≤◌}
 use mathlib.Core.Path.{sym, ◌∙◌}
-use lib.ListN.{length}
 use Rattle.walks.proofs.SoundCases.{limit_passed, nodes_short, links_short, refs_short, scratch_short, judged_call}
 use borrow.Author.Rules.{rules}
 use Rattle.walks.proofs.sound.sound.Statement.{statement}

@@ -1,9 +1,9 @@
-use mathlib.Core.Path.{◌≡◌, sym, ◌∙◌, ap}
+use mathlib.Core.Path.{◌≡◌, sym, ◌∙◌}
 use native.Mathlib.Omega.{arith}
-use mathlib.Core.Bool.{false, not}
+use mathlib.Core.Bool.{false}
 use Rattle.cells.specs.Memory.{over_limit}
 use Rattle.cells.proofs.Forms.Limits.{within as limits}
-use borrow.Author.Tests.{leb-true, leb-false, not-true, not-false}
+use borrow.Author.Tests.{leb-true, leb-false}
 use Rattle.walks.proofs.WalkCases.{no_place, limit_passed, nodes_short, links_short, visited_short, ends}
 use borrow.Author.Rules.{rules}
 use Rattle.walks.proofs.walk.walk.Statement.{statement}
