@@ -1,5 +1,5 @@
 -- T-03, T-11: a round followed in a cell.
-use Rattle.std.specs.Prelude.{ℕ, List, cond, eqb}
+use Rattle.std.specs.Prelude.{ℕ, ◌%◌, List, cond, eqb}
 use Rattle.numbers.specs.Refusals.{unless}
 use Rattle.numbers.specs.declared.answer.Answer.{Answer}
 use Rattle.numbers.specs.declared.answer.Answer.TheVariants as answer
