@@ -89,9 +89,9 @@ module _ (all : List ℕ) (ws nodes links : List (List ℕ)) (h : Lent all ws no
     unfolding cells_in
     cells_long = length-map (members_of (walked_set ws nodes links)) cell_of ∙ members_many (walked_set ws nodes links)
 
-    pub nodes-count : (i : ℕ) → i < length ws → length (cell_at cs i).nodes ≡ count_of 10 ws i
+    pub nodes_count : (i : ℕ) → i < length ws → length (cell_at cs i).nodes ≡ count_of 10 ws i
     unfolding cells_in cell_of ynd_of
-    nodes-count i lt =
+    nodes_count i lt =
         let y = walked_set ws nodes links in
         ap length (nodes_at y i lt (h.nodes_hold.held i lt) (hl.held i lt))
         ∙ nodes_long (from_start y i lt) (record {
@@ -150,7 +150,7 @@ module _ (all : List ℕ) (ws nodes links : List (List ℕ)) (h : Lent all ws no
             (let z : i < length cs = omega (arith, cells_long) in z) y in
             let lj : j < length ws = omega (arith, cells_long, st.in_set) in (
               lj,
-              omega (arith, nodes-count j lj, st.in_cell),
+              omega (arith, nodes_count j lj, st.in_cell),
               reached_step (world_in cs) bs s k (location i p) r (location j q) lt y,
             )
 

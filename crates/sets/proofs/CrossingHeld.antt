@@ -86,10 +86,10 @@ module _ (y : CellSet) (hn : Holding 10 15 y.members (length y.nodes)) (hl : Hol
       links_held_law,
     ) refl
 
-    pub crossing-held : (choices : List ℕ) (s : Location) (visited : List (List ℕ)) → cross_member y choices s visited
+    pub crossing_held : (choices : List ℕ) (s : Location) (visited : List (List ℕ)) → cross_member y choices s visited
         ≡ crossing_call (members_of y) choices s visited
     unfolding cross_member crossing_call
-    crossing-held choices s visited =
+    crossing_held choices s visited =
         let t = crossing (cells_of (members_of y)) choices s in
         ap (λ (a : Answer). crossed_by a t visited) (same_causes s (length (places t)) (length visited))
 
@@ -221,6 +221,6 @@ pub one_crossing : (y : CellSet) (m : Memory) → members_of y ≡ m ∷ [] → 
     → (choices : List ℕ) (p : ℕ) (visited : List ℕ) → cross_member y choices (location 0 p) (in_first visited)
     ≡ placed_call (walk_call m choices p visited)
 one_crossing y m e hn hl choices p visited =
-    crossing-held y hn hl choices (location 0 p) (in_first visited)
+    crossing_held y hn hl choices (location 0 p) (in_first visited)
     ∙ ap (λ (ms : List Memory). crossing_call ms choices (location 0 p) (in_first visited)) e
     ∙ one_walk m choices p visited

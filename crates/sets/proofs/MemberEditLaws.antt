@@ -70,9 +70,9 @@ module _ (ws : List (List ℕ)) (j : ℕ) (a b : PerList) (n : Alike 15 ws a.nod
     unfolding lack_of holds_list
     lack_same few = rw (n few, l few, i few, h few, r few)
 
-    pub ask-same : decided (entry_ask ws a j) ≡ decided (entry_ask ws b j)
+    pub ask_same : decided (entry_ask ws a j) ≡ decided (entry_ask ws b j)
     unfolding entry_ask list_causes
-    ask-same =
+    ask_same =
         by_test (leb (length ws) j) (λ t. rw t) (λ f.
         by_test (over_set (bare ws)) (λ t. rw (f, t)) (λ o. rw (f, o, lack_same (few_members ws o))))
 
@@ -217,54 +217,54 @@ module _ (ws : List (List ℕ)) (t : PerList) (et : t ≡ held_by ws) where
     pub lent_nodes : Lies 16 ws L → Lies 17 ws J → Lies 18 ws H → Lies 19 ws R
         → Asked (per_list (length N) t.links t.junctions t.heights t.refs)
     lent_nodes hL hJ hH hR =
-        ask-same ws j _ (set_lengths y) (alike_same 15 ws _) (lie_links L hL) (lie_junctions J hJ) (lie_heights H hH)
+        ask_same ws j _ (set_lengths y) (alike_same 15 ws _) (lie_links L hL) (lie_junctions J hJ) (lie_heights H hH)
         (lie_refs R hR)
         ∙ ask_held y j
 
     pub lent_links : Lies 17 ws J → Lies 18 ws H → Lies 19 ws R
         → Asked (per_list (length N) (length L) t.junctions t.heights t.refs)
     lent_links hJ hH hR =
-        ask-same ws j _ (set_lengths y) (alike_same 15 ws _) (alike_same 16 ws _) (lie_junctions J hJ)
+        ask_same ws j _ (set_lengths y) (alike_same 15 ws _) (alike_same 16 ws _) (lie_junctions J hJ)
         (lie_heights H hH) (lie_refs R hR)
         ∙ ask_held y j
 
     pub lent_node_refs : Lies 16 ws L → Lies 17 ws J → Lies 18 ws H
         → Asked (per_list (length N) t.links t.junctions t.heights (length R))
     lent_node_refs hL hJ hH =
-        ask-same ws j _ (set_lengths y) (alike_same 15 ws _) (lie_links L hL) (lie_junctions J hJ) (lie_heights H hH)
+        ask_same ws j _ (set_lengths y) (alike_same 15 ws _) (lie_links L hL) (lie_junctions J hJ) (lie_heights H hH)
         (alike_same 19 ws _)
         ∙ ask_held y j
 
     pub lent_shown : Lies 18 ws H → Asked (per_list (length N) (length L) (length J) t.heights (length R))
     lent_shown hH =
-        ask-same ws j _ (set_lengths y) (alike_same 15 ws _) (alike_same 16 ws _) (alike_same 17 ws _) (lie_heights H hH)
+        ask_same ws j _ (set_lengths y) (alike_same 15 ws _) (alike_same 16 ws _) (alike_same 17 ws _) (lie_heights H hH)
         (alike_same 19 ws _)
         ∙ ask_held y j
 
     pub lent_junctions : Lies 15 ws N → Lies 16 ws L → Lies 18 ws H → Lies 19 ws R
         → Asked (per_list t.nodes t.links (length J) t.heights t.refs)
     lent_junctions hN hL hH hR =
-        ask-same ws j _ (set_lengths y) (lie_nodes N hN) (lie_links L hL) (alike_same 17 ws _) (lie_heights H hH)
+        ask_same ws j _ (set_lengths y) (lie_nodes N hN) (lie_links L hL) (alike_same 17 ws _) (lie_heights H hH)
         (lie_refs R hR)
         ∙ ask_held y j
 
     pub lent_heights : Lies 15 ws N → Lies 16 ws L → Lies 19 ws R
         → Asked (per_list t.nodes t.links (length J) (length H) t.refs)
     lent_heights hN hL hR =
-        ask-same ws j _ (set_lengths y) (lie_nodes N hN) (lie_links L hL) (alike_same 17 ws _) (alike_same 18 ws _)
+        ask_same ws j _ (set_lengths y) (lie_nodes N hN) (lie_links L hL) (alike_same 17 ws _) (alike_same 18 ws _)
         (lie_refs R hR)
         ∙ ask_held y j
 
     pub lent_refs : Lies 15 ws N → Lies 16 ws L → Lies 17 ws J → Lies 18 ws H
         → Asked (per_list t.nodes t.links t.junctions t.heights (length R))
     lent_refs hN hL hJ hH =
-        ask-same ws j _ (set_lengths y) (lie_nodes N hN) (lie_links L hL) (lie_junctions J hJ) (lie_heights H hH)
+        ask_same ws j _ (set_lengths y) (lie_nodes N hN) (lie_links L hL) (lie_junctions J hJ) (lie_heights H hH)
         (alike_same 19 ws _)
         ∙ ask_held y j
 
     pub lent_nothing : Lies 15 ws N → Lies 16 ws L → Lies 17 ws J → Lies 18 ws H → Lies 19 ws R → Asked t
     lent_nothing hN hL hJ hH hR =
-        ask-same ws j _ (set_lengths y) (lie_nodes N hN) (lie_links L hL) (lie_junctions J hJ) (lie_heights H hH)
+        ask_same ws j _ (set_lengths y) (lie_nodes N hN) (lie_links L hL) (lie_junctions J hJ) (lie_heights H hH)
         (lie_refs R hR)
         ∙ ask_held y j
 

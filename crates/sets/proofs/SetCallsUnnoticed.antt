@@ -36,7 +36,7 @@ use Rattle.cells.specs.declared.write.Written.TheVariants as written
 use Rattle.sets.specs.SetRun.{after_on, run_set, renumbers_on, moved_on, any_renumbers_on}
 use Rattle.sets.specs.SetCallsClaim.{cells_in, CallsUnnoticed, CallsUnnoticedTheorem}
 use Rattle.sets.proofs.CellSetLaws.{members_many}
-use Rattle.sets.proofs.CrossingHeld.{crossing-held}
+use Rattle.sets.proofs.CrossingHeld.{crossing_held}
 use Rattle.sets.proofs.SetDemand.{set_unnoticed}
 use Rattle.sets.proofs.SetKept.{Usable, usable, may_be_used}
 use Rattle.sets.proofs.SetCalled.{As, after_as, renumbers_as, run_as, moved_as}
@@ -46,7 +46,7 @@ use Rattle.sets.proofs.SetCalled.{As, after_as, renumbers_as, run_as, moved_as}
 -- of a set that may be used it is the call over the members
 crossed_alike : (y : CellSet) → Usable y → (choices : List ℕ) (s : Location) (visited : List (List ℕ))
     → cross_member y choices s visited ≡ crossing_call (members_of y) choices s visited
-crossed_alike y u = crossing-held y u.whole.nodes_hold u.whole.links_hold
+crossed_alike y u = crossing_held y u.whole.nodes_hold u.whole.links_hold
 
 -- what an accepted call stores
 record Stored (t : Trail Location) (left : CrossingLeft) (end : End) (n : ℕ) : Type 0 where

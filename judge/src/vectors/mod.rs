@@ -22,7 +22,19 @@ pub struct Records {
     count: usize,
 }
 
+/// Records of an earlier file that today's seeds no longer give: what was held once stays held.
+const KEPT: &[u8] = include_bytes!("kept.bin");
+
 impl Records {
+    fn keep(&mut self, file: &[u8]) {
+        let mut at = 0;
+        while at < file.len() {
+            at += 3 + usize::from(u16::from_le_bytes([file[at + 1], file[at + 2]]));
+            self.count += 1;
+        }
+        self.bytes.extend(file);
+    }
+
     pub fn add(&mut self, kind: u8, fields: &[Field]) {
         let mut body = Vec::new();
         for f in fields { f.put(&mut body); }
@@ -59,6 +71,7 @@ pub fn write(path: &str) {
     rounds::add(&mut records);
     paths::add(&mut records);
     cells::add(&mut records);
+    records.keep(KEPT);
     assert!(records.bytes.len() <= MOST, "{} bytes of vectors", records.bytes.len());
     fs::write(path, &records.bytes).expect("the vectors file");
     let said = format!("{} of {} vectors agree\n", records.count, records.count);
