@@ -13,8 +13,8 @@ left_out k = (leb 4 k && leb k 15) || (eqb k 88 || eqb k 89)
 
 -- ---- the arrays
 
--- The bytes of the five arrays of a pair of sections, where its root says. An array that is empty or bad has none (`array_at`), so that of each
--- array that lies inside its section, and of no other, there are bytes to agree on.
+-- The bytes of the five arrays of a pair of sections, where its root says. An array that is empty or bad has none
+-- (`array_at`), so that of each array that lies inside its section, and of no other, there are bytes to agree on.
 pub record Arrays : Type 0 where
   pub nodes : List ℕ
   pub links : List ℕ
@@ -45,13 +45,14 @@ pub record InSomeJunction (j : List ℕ) (k : ℕ) : Type 0 where
   pub from : (junction_at j (junction * 12)).heightmap_ptr ≤ k
   pub before : k < (junction_at j (junction * 12)).heightmap_ptr + values_at j junction
 
--- "on each array that lies inside its section. Of links only those in some node's range need agree, of heightmap bytes only those in some
--- junction's." Byte k of the links is one of link k / 8.
+-- "on each array that lies inside its section. Of links only those in some node's range need agree, of heightmap
+-- bytes only those in some junction's." Byte k of the links is one of link k / 8.
 pub record SameArrays (a b : Arrays) : Type 0 where
   pub nodes : (k : ℕ) → k < length a.nodes → byte_at a.nodes k ≡ byte_at b.nodes k
   pub links : (k : ℕ) → k < length a.links → InSomeNode a.nodes (k / 8) → byte_at a.links k ≡ byte_at b.links k
   pub junctions : (k : ℕ) → k < length a.junctions → byte_at a.junctions k ≡ byte_at b.junctions k
-  pub heights : (k : ℕ) → k < length a.heights → InSomeJunction a.junctions k → byte_at a.heights k ≡ byte_at b.heights k
+  pub heights : (k : ℕ) → k < length a.heights → InSomeJunction a.junctions k
+      → byte_at a.heights k ≡ byte_at b.heights k
   pub refs : (k : ℕ) → k < length a.refs → byte_at a.refs k ≡ byte_at b.refs k
 
 -- ---- both

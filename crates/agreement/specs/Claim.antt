@@ -23,7 +23,8 @@ use Rattle.sets.specs.declared.parts.PerList.{PerList}
 use Rattle.agreement.specs.Agree.{Agree}
 
 -- The words of the claim:
---   read_of system graphics lent     what reading two sections answers, and the memory that it leaves of the memory lent
+--   read_of system graphics lent     what reading two sections answers, and the memory that it leaves of the memory
+-- lent
 --   file_cell system graphics        the cell that sections 1 to 4 define for the two sections
 --   write_call m section             what writing answers, and the lent section after it
 --   run m calls                     the memory after the calls; cell_of is the cell that a memory holds
@@ -34,16 +35,20 @@ use Rattle.agreement.specs.Agree.{Agree}
 pub record SameRounds (m m' : Memory) : Type 0 where
   -- "the same written section or refusal to write", and where it is refused the section lent as it was
   pub same_written : (section : List ℕ) → write_call m section ≡ write_call m' section
-  -- "after every list of renumberings and write-then-read calls that are lent the same on both sides, the same walks": ends, places and what is
-  -- shown; the call's answer and the visited list it leaves, refusals too; and the same places to start from
-  pub same_walks : (calls : List Call) (choices : List ℕ) (p : ℕ) → walk (cell_of (run m calls)) choices p ≡ walk (cell_of (run m' calls)) choices p
+  -- "after every list of renumberings and write-then-read calls that are lent the same on both sides, the same
+  -- walks": ends, places and what is shown; the call's answer and the visited list it leaves, refusals too; and the
+  -- same places to start from
+  pub same_walks : (calls : List Call) (choices : List ℕ) (p : ℕ)
+      → walk (cell_of (run m calls)) choices p ≡ walk (cell_of (run m' calls)) choices p
   pub same_walk_calls : (calls : List Call) (choices : List ℕ) (p : ℕ) (visited : List ℕ)
       → walk_call (run m calls) choices p visited ≡ walk_call (run m' calls) choices p visited
   pub same_moves : (calls : List Call) (p : ℕ) → moved m calls p ≡ moved m' calls p
   -- the same written section after the calls, too
-  pub same_written_after : (calls : List Call) (section : List ℕ) → write_call (run m calls) section ≡ write_call (run m' calls) section
+  pub same_written_after : (calls : List Call) (section : List ℕ)
+      → write_call (run m calls) section ≡ write_call (run m' calls) section
 
--- What has come since walks: nodes within reach (T-01, T-08), rounds followed (T-03), shortest paths (T-06), sets (T-09).
+-- What has come since walks: nodes within reach (T-01, T-08), rounds followed (T-03), shortest paths (T-06), sets
+-- (T-09).
 pub record SameLater (m m' : Memory) : Type 0 where
   pub same_listing : (x y : ℤ) (radius : ℕ) (places : List ℕ)
       → within_call m.ynd m.nodes x y radius places ≡ within_call m'.ynd m'.nodes x y radius places

@@ -1,5 +1,5 @@
--- Section 4, other calls: adding nodes, refs and junctions. Causes of refusal, in their order: 14 the cell is at a limit, or
--- its struct over one, 12, 7 a list has no room.
+-- Section 4, other calls: adding nodes, refs and junctions. Causes of refusal, in their order: 14 the cell is at a
+-- limit, or its struct over one, 12, 7 a list has no room.
 -- Lists that a call is not lent stay as they are.
 use Rattle.std.specs.Prelude.{ℕ, ◌+◌, ◌*◌, Bool, not, List, [], ◌∷◌, eqb, ltb, leb, length, set}
 use Rattle.numbers.specs.Refusals.{when, decided}
@@ -37,7 +37,8 @@ abbrev pub more_links : Ynd → Ynd
 more_links y = with_counts y y.node_count (y.link_count + 1) y.junction_count y.heightmap_count y.ref_count
 
 abbrev pub more_junctions : Ynd → ℕ → Ynd
-more_junctions y values = with_counts y y.node_count y.link_count (y.junction_count + 1) (y.heightmap_count + values) y.ref_count
+more_junctions y values =
+    with_counts y y.node_count y.link_count (y.junction_count + 1) (y.heightmap_count + values) y.ref_count
 
 abbrev pub more_refs : Ynd → Ynd
 more_refs y = with_counts y y.node_count y.link_count y.junction_count y.heightmap_count (y.ref_count + 1)

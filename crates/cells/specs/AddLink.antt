@@ -1,6 +1,7 @@
--- Section 4, other calls: adding a link. It comes last of its node's links; the entries behind it move up by one, and so do the ranges there.
--- Causes of refusal, in their order: 13, 14, 7.
-use Rattle.std.specs.Prelude.{ℕ, ◌+◌, ◌-◌, ◌*◌, ◌%◌, ◌≤◌, ◌<◌, Bool, cond, List, [], ◌∷◌, ◌++◌, map, eqb, ltb, leb, length, get_or, set, take, drop}
+-- Section 4, other calls: adding a link. It comes last of its node's links; the entries behind it move up by one, and
+-- so do the ranges there. Causes of refusal, in their order: 13, 14, 7.
+use Rattle.std.specs.Prelude.{ℕ, ◌+◌, ◌-◌, ◌*◌, ◌%◌, ◌≤◌, ◌<◌, Bool, cond, List, [], ◌∷◌, ◌++◌, map, eqb, ltb, leb}
+use Rattle.std.specs.Prelude.{length, get_or, set, take, drop}
 use Rattle.numbers.specs.Refusals.{when, decided}
 use Rattle.numbers.specs.declared.answer.Answer.{Answer}
 use Rattle.cells.specs.NodeWords.{link_start, link_count}
@@ -27,11 +28,13 @@ inserted at l x xs = (take at (take l xs) ++ (x ∷ drop at (take l xs))) ++ dro
 
 -- the node, with c links from s
 unfoldable pub ranged : ℕ → ℕ → List ℕ → List ℕ
-ranged s c w = get_or w 0 0 ∷ get_or w 1 0 ∷ get_or w 2 0 ∷ get_or w 3 0 ∷ get_or w 4 0 ∷ get_or w 5 0 ∷ (get_or w 6 0 % 65536 + c * 65536) ∷ s ∷ drop 8 w
+ranged s c w = get_or w 0 0 ∷ get_or w 1 0 ∷ get_or w 2 0 ∷ get_or w 3 0 ∷ get_or w 4 0 ∷ get_or w 5 0
+    ∷ (get_or w 6 0 % 65536 + c * 65536) ∷ s ∷ drop 8 w
 
 -- a node whose range starts at or behind the new link; a start that no link has stays
 unfoldable pub shifted : ℕ → ℕ → List ℕ → List ℕ
-shifted at l w = cond (ltb (link_start w) at) w (cond (leb l (link_start w)) w (ranged (link_start w + 1) (link_count w) w))
+shifted at l w =
+    cond (ltb (link_start w) at) w (cond (leb l (link_start w)) w (ranged (link_start w + 1) (link_count w) w))
 
 unfoldable pub nodes_after : ℕ → ℕ → ℕ → List (List ℕ) → List (List ℕ)
 nodes_after n l p nodes =

@@ -1,4 +1,5 @@
--- What write-then-read answers, found before anything is stored: writing's checks, then those of reading back. No public function's contract cites this.
+-- What write-then-read answers, found before anything is stored: writing's checks, then those of reading back. No
+-- public function's contract cites this.
 use Rattle.std.specs.Prelude.{ℕ, Bool, cond, ltb, length}
 use Rattle.numbers.specs.Refusals.{unless as otherwise}
 use Rattle.cells.specs.Memory.{Memory, short_of}

@@ -1,5 +1,6 @@
--- What write-then-read has to test before it writes: whether what is written has room in the cell's own lists, by counts alone.
--- Reading back refuses nothing else (proofs WritingBack BackCheck). No public function's contract cites this.
+-- What write-then-read has to test before it writes: whether what is written has room in the cell's own lists, by
+-- counts alone. Reading back refuses nothing else (proofs WritingBack BackCheck). No public function's contract cites
+-- this.
 use Rattle.std.specs.Prelude.{length}
 use Rattle.records.specs.Put.{joined}
 use Rattle.cells.specs.Memory.{Memory}
@@ -21,7 +22,13 @@ held_counts h = record {
 
 -- how many entries the lists have
 abbrev pub lengths : Memory → Counts
-lengths m = record { nodes = length m.nodes; links = length m.links; junctions = length m.junctions; heights = length m.heights; refs = length m.refs }
+lengths m = record {
+  nodes = length m.nodes;
+  links = length m.links;
+  junctions = length m.junctions;
+  heights = length m.heights;
+  refs = length m.refs;
+}
 
 -- 7: k entries, read into lists of so many
 abbrev pub back_tests : Counts → Counts → Answer

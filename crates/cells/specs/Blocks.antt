@@ -55,7 +55,8 @@ nodes_block links nodes = laid (links_in links) (node_record links) 0 nodes
 -- refs, heightmap bytes, junctions, links, nodes
 unfoldable pub arrays : List (List ℕ) → List (List ℕ) → List (List ℕ) → List ℕ → List (List ℕ) → List (List ℕ)
 arrays nodes links junctions heights refs =
-    refs_block refs ∷ heights_block heights junctions ∷ junctions_block heights junctions ∷ links_block links nodes ∷ nodes_block links nodes ∷ []
+    refs_block refs ∷ heights_block heights junctions ∷ junctions_block heights junctions
+    ∷ links_block links nodes ∷ nodes_block links nodes ∷ []
 
 abbrev pub blocks : Memory → List (List ℕ)
 blocks m = arrays m.nodes m.links m.junctions m.heights m.refs

@@ -11,7 +11,16 @@ use Rattle.cells.specs.declared.node.PathNode.{PathNode}
 use Rattle.cells.specs.Words.{to_node}
 
 abbrev pub link_of : List ℕ → Link
-link_of w = record { area = get_or w 0 0; number = get_or w 1 0; body = record { flags0 = get_or w 2 0 % 256; flags1 = get_or w 2 0 / 256 % 256; flags2 = get_or w 3 0 % 256; len = get_or w 3 0 / 256 % 256 } }
+link_of w = record {
+  area = get_or w 0 0;
+  number = get_or w 1 0;
+  body = record {
+    flags0 = get_or w 2 0 % 256;
+    flags1 = get_or w 2 0 / 256 % 256;
+    flags2 = get_or w 3 0 % 256;
+    len = get_or w 3 0 / 256 % 256;
+  };
+}
 
 abbrev pub ref_of : List ℕ → Ref
 ref_of w = record { area = get_or w 0 0; number = get_or w 1 0; junction = get_or w 2 0; unk0 = get_or w 3 0 }
@@ -47,7 +56,12 @@ body_from n = record { position = bits_of n.position; marks = marks_of n }
 
 -- a node with its own copy of its links: as many as a byte of word 6 says, from where word 7 says
 abbrev pub node_with : List Link → List ℕ → Node
-node_with ls w = record { area = area_of w; number = number_of w; links = take (link_count w) (drop (link_start w) ls); body = body_of w }
+node_with ls w = record {
+  area = area_of w;
+  number = number_of w;
+  links = take (link_count w) (drop (link_start w) ls);
+  body = body_of w;
+}
 
 -- a junction with its own copy of its values: width × height of them, from where word 5 says
 abbrev pub junction_with : List ℕ → List ℕ → Junction

@@ -1,5 +1,7 @@
--- Reading's checks, in their order: 2, 1, 3, 6, 4, 5. Lists are bytes: of the sections s and g, and of the five arrays n, l, j, h, r.
-use Rattle.std.specs.Prelude.{ℕ, zero, suc, ◌+◌, ◌*◌, ◌/◌, Bool, true, false, not, ◌&&◌, cond, List, [], ◌∷◌, ltb, eqb, length}
+-- Reading's checks, in their order: 2, 1, 3, 6, 4, 5. Lists are bytes: of the sections s and g, and of the five
+-- arrays n, l, j, h, r.
+use Rattle.std.specs.Prelude.{ℕ, zero, suc, ◌+◌, ◌*◌, ◌/◌, Bool, true, false, not, ◌&&◌, cond, List, [], ◌∷◌, ltb}
+use Rattle.std.specs.Prelude.{eqb, length}
 use Rattle.numbers.specs.Refusals.{when, decided, unless as otherwise}
 use Rattle.records.specs.declared.section.Part.{Part}
 use Rattle.records.specs.declared.section.Located.{Located}

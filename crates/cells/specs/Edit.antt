@@ -1,6 +1,7 @@
--- Section 4, other calls: entries taken out and stored by place. Causes of refusal, in their order: 13 no such place, 14 a
--- struct over a limit, 12, 7 a list shorter than its count. What needs an entry is asked of one that is lent.
-use Rattle.std.specs.Prelude.{ℕ, ◌+◌, ◌-◌, ◌*◌, min, Bool, not, cond, ◌&&◌, List, [], ◌∷◌, eqb, ltb, leb, length, get_or, set}
+-- Section 4, other calls: entries taken out and stored by place. Causes of refusal, in their order: 13 no such place,
+-- 14 a struct over a limit, 12, 7 a list shorter than its count. What needs an entry is asked of one that is lent.
+use Rattle.std.specs.Prelude.{ℕ, ◌+◌, ◌-◌, ◌*◌, min, Bool, not, cond, ◌&&◌, List, [], ◌∷◌, eqb, ltb, leb, length}
+use Rattle.std.specs.Prelude.{get_or, set}
 use Rattle.numbers.specs.Refusals.{when, decided, unless as otherwise}
 use Rattle.cells.specs.NodeWords.{link_start, link_count, value_start, value_count}
 use Rattle.cells.specs.Words.{to_node, node_words, to_link, link_words, to_junction, junction_words, to_ref, ref_words}
@@ -34,22 +35,28 @@ use Rattle.cells.specs.declared.get.GotHeight.TheVariants as got-height
 abbrev pub entry_if : Bool → ℕ → ℕ → Entry → Entry
 entry_if b cause place next = cond b (Refused cause place) next
 
--- the entry at the place p of n, in a list of this length, whose own place is `list`; `over` says that a limit is passed
+-- the entry at the place p of n, in a list of this length, whose own place is `list`; `over` says that a limit is
+-- passed
 unfoldable pub entry_at : Bool → ℕ → ℕ → ℕ → ℕ → Entry
-entry_at over n len list p = otherwise (decided (when (leb n p) 13 0 ∷ when over 14 0 ∷ when (ltb len n) 7 list ∷ [])) Refused (At p)
+entry_at over n len list p =
+    otherwise (decided (when (leb n p) 13 0 ∷ when over 14 0 ∷ when (ltb len n) 7 list ∷ [])) Refused (At p)
 
 -- Section 4: a node's range of links, a junction's range of values; none at a place that the list has not
 abbrev pub link_range : List (List ℕ) → ℕ → Range
 link_range nodes p = record { start = link_start (get_or nodes p []); count = link_count (get_or nodes p []) }
 
 abbrev pub value_range : List (List ℕ) → ℕ → Range
-value_range junctions p = record { start = value_start (get_or junctions p []); count = value_count (get_or junctions p []) }
+value_range junctions p = record {
+  start = value_start (get_or junctions p []);
+  count = value_count (get_or junctions p []);
+}
 
 -- how many of a range are among the first l: a range that leaves the list is cut
 unfoldable pub held_in : Range → ℕ → ℕ
 held_in r l = min r.count (l - r.start)
 
--- entry k of the range r, which belongs to the place p of n and lies among l entries of a pool; both lists' lengths, and their own places a and b
+-- entry k of the range r, which belongs to the place p of n and lies among l entries of a pool; both lists' lengths,
+-- and their own places a and b
 unfoldable pub range_entry : Bool → ℕ → ℕ → ℕ → ℕ → ℕ → ℕ → ℕ → Range → ℕ → Entry
 range_entry over n len a l pool b p r k =
     otherwise
@@ -77,7 +84,8 @@ junction_entry y junctions p = entry_at (over_limit y) y.junction_count (length 
 
 unfoldable pub height_entry : Ynd → List (List ℕ) → ℕ → ℕ → ℕ → Entry
 height_entry y junctions heights p k =
-    range_entry (over_limit y) y.junction_count (length junctions) 2 y.heightmap_count heights 3 p (value_range junctions p) k
+    range_entry (over_limit y) y.junction_count (length junctions) 2 y.heightmap_count heights 3 p
+    (value_range junctions p) k
 
 -- ---- taken out
 
@@ -125,7 +133,8 @@ put_node y nodes p n = change_at (node_entry y nodes p) (λ w. node_words (range
 
 -- as `PathNode::set_position`: section 3's stored position
 unfoldable pub set_position : Ynd → List (List ℕ) → ℕ → Vec3 → Stored (List ℕ)
-set_position y nodes p at = change_at (node_entry y nodes p) (λ w. node_words (with_position (to_node w) (dequantised (quantised at)))) [] nodes
+set_position y nodes p at = change_at (node_entry y nodes p)
+    (λ w. node_words (with_position (to_node w) (dequantised (quantised at)))) [] nodes
 
 unfoldable pub put_link : Ynd → List (List ℕ) → List (List ℕ) → ℕ → ℕ → PathLink → Stored (List ℕ)
 put_link y nodes links p k l = change_at (link_entry y nodes (length links) p k) (λ w. link_words l) [] links
@@ -158,7 +167,8 @@ sized_entry over n len p values held =
 
 unfoldable pub put_junction : Ynd → List (List ℕ) → ℕ → PathJunction → Stored (List ℕ)
 put_junction y junctions p j =
-    change_at (sized_entry (over_limit y) y.junction_count (length junctions) p (j.width * j.height) (value_range junctions p).count)
+    change_at (sized_entry (over_limit y) y.junction_count (length junctions) p (j.width * j.height)
+    (value_range junctions p).count)
     (λ w. junction_words (start_at j (value_start w))) [] junctions
 
 unfoldable pub put_height : Ynd → List (List ℕ) → List ℕ → ℕ → ℕ → ℕ → Stored ℕ

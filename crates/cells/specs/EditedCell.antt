@@ -18,7 +18,12 @@ node_from ls n = record { area = n.area_id; number = n.node_id; links = ls; body
 
 -- the node at another position
 abbrev pub node_moved : Vec3 → Node → Node
-node_moved at n = record { area = n.area; number = n.number; links = n.links; body = record { position = bits_of at; marks = n.body.marks } }
+node_moved at n = record {
+  area = n.area;
+  number = n.number;
+  links = n.links;
+  body = record { position = bits_of at; marks = n.body.marks };
+}
 
 abbrev pub ref_from : NodeJunctionRef → Ref
 ref_from r = record { area = r.area_id; number = r.node_id; junction = r.junction_id; unk0 = r.unk0 }
@@ -37,13 +42,37 @@ junction_from vs j = record {
 -- ---- the cell with other nodes, refs or junctions
 
 abbrev pub with_nodes : List Node → Cell → Cell
-with_nodes ns c = record { nodes = ns; junctions = c.junctions; refs = c.refs; vehicles = c.vehicles; peds = c.peds; vft = c.vft; words = c.words }
+with_nodes ns c = record {
+  nodes = ns;
+  junctions = c.junctions;
+  refs = c.refs;
+  vehicles = c.vehicles;
+  peds = c.peds;
+  vft = c.vft;
+  words = c.words;
+}
 
 abbrev pub with_refs : List Ref → Cell → Cell
-with_refs rs c = record { nodes = c.nodes; junctions = c.junctions; refs = rs; vehicles = c.vehicles; peds = c.peds; vft = c.vft; words = c.words }
+with_refs rs c = record {
+  nodes = c.nodes;
+  junctions = c.junctions;
+  refs = rs;
+  vehicles = c.vehicles;
+  peds = c.peds;
+  vft = c.vft;
+  words = c.words;
+}
 
 abbrev pub with_junctions : List Junction → Cell → Cell
-with_junctions js c = record { nodes = c.nodes; junctions = js; refs = c.refs; vehicles = c.vehicles; peds = c.peds; vft = c.vft; words = c.words }
+with_junctions js c = record {
+  nodes = c.nodes;
+  junctions = js;
+  refs = c.refs;
+  vehicles = c.vehicles;
+  peds = c.peds;
+  vft = c.vft;
+  words = c.words;
+}
 
 -- ---- adding a link
 
@@ -59,17 +88,21 @@ add_to p x ns = set ns p (with_link x (node_at ns p))
 abbrev pub link_to : ℕ → Link → Cell → Cell
 link_to p x c = with_nodes (add_to p x c.nodes) c
 
--- of n nodes and l links: the ranges of the other nodes that have links are inside, and apart from that of the node at p, if it has links
+-- of n nodes and l links: the ranges of the other nodes that have links are inside, and apart from that of the node
+-- at p, if it has links
 pub record Apart (n l p : ℕ) (nodes : List (List ℕ)) : Type 0 where
-  pub inside : (q : ℕ) → q < n → (q ≡ p → ⊥) → 0 < link_count (get_or nodes q []) → link_start (get_or nodes q []) + link_count (get_or nodes q []) ≤ l
+  pub inside : (q : ℕ) → q < n → (q ≡ p → ⊥) → 0 < link_count (get_or nodes q [])
+      → link_start (get_or nodes q []) + link_count (get_or nodes q []) ≤ l
   pub apart : (q : ℕ) → q < n → (q ≡ p → ⊥) → 0 < link_count (get_or nodes q []) → 0 < held_at nodes p l
-      → (link_start (get_or nodes q []) + link_count (get_or nodes q []) ≤ link_start (get_or nodes p [])) ⊎ (link_start (get_or nodes p []) + held_at nodes p l ≤ link_start (get_or nodes q []))
+      → (link_start (get_or nodes q []) + link_count (get_or nodes q []) ≤ link_start (get_or nodes p [])) ⊎
+      (link_start (get_or nodes p []) + held_at nodes p l ≤ link_start (get_or nodes q []))
 
 -- ---- adding a junction
 
 -- of n junctions and h values: the ranges of junctions that have values are inside
 pub record Inside (n h : ℕ) (junctions : List (List ℕ)) : Type 0 where
-  pub inside : (q : ℕ) → q < n → 0 < value_count (get_or junctions q []) → value_start (get_or junctions q []) + value_count (get_or junctions q []) ≤ h
+  pub inside : (q : ℕ) → q < n → 0 < value_count (get_or junctions q [])
+      → value_start (get_or junctions q []) + value_count (get_or junctions q []) ≤ h
 
 -- ---- storing a link or a heightmap value
 
@@ -77,8 +110,17 @@ abbrev pub link_changed : ℕ → Link → Node → Node
 link_changed k x n = record { area = n.area; number = n.number; links = set n.links k x; body = n.body }
 
 abbrev pub height_changed : ℕ → ℕ → Junction → Junction
-height_changed k v j = record { x = j.x; y = j.y; low = j.low; high = j.high; width = j.width; height = j.height; values = set j.values k v }
+height_changed k v j = record {
+  x = j.x;
+  y = j.y;
+  low = j.low;
+  high = j.high;
+  width = j.width;
+  height = j.height;
+  values = set j.values k v;
+}
 
 -- of n ranges, none but that of p has the entry i
 pub record Alone (start count : List ℕ → ℕ) (n i p : ℕ) (owners : List (List ℕ)) : Type 0 where
-  pub alone : (q : ℕ) → q < n → (q ≡ p → ⊥) → (start (get_or owners q []) + count (get_or owners q []) ≤ i) ⊎ (i < start (get_or owners q []))
+  pub alone : (q : ℕ) → q < n → (q ≡ p → ⊥)
+      → (start (get_or owners q []) + count (get_or owners q []) ≤ i) ⊎ (i < start (get_or owners q []))

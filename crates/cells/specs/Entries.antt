@@ -1,4 +1,5 @@
--- Section 4, writing: the file's records that the entries in memory become, and each node's links and each junction's heightmap.
+-- Section 4, writing: the file's records that the entries in memory become, and each node's links and each junction's
+-- heightmap.
 use Rattle.std.specs.Prelude.{ℕ, ◌+◌, ◌*◌, ◌%◌, cond, List, eqb, take, drop}
 use Rattle.numbers.specs.Steps.{step_of}
 use Rattle.records.specs.declared.node.Node as raw-node
@@ -17,13 +18,13 @@ links_in links n = take (link_count n) (drop (link_start n) links)
 unfoldable pub values_in : List ℕ → List ℕ → List ℕ
 values_in heights j = take (value_count j) (drop (value_start j) heights)
 
--- Where the file says that a node's links start, with so many links before its own, and so many of its own. T-05: a node
--- without links stores 0.
+-- Where the file says that a node's links start, with so many links before its own, and so many of its own. T-05: a
+-- node without links stores 0.
 abbrev pub stored_start : ℕ → ℕ → ℕ
 stored_start before count = cond (eqb count 0) 0 before
 
--- A node with `count` links, stored from `start` on. T-10: the unused fields are stored as they are kept. Section 4: of
--- flags5 the low three bits are stored. Section 3: coordinates are stored as steps.
+-- A node with `count` links, stored from `start` on. T-10: the unused fields are stored as they are kept. Section 4:
+-- of flags5 the low three bits are stored. Section 3: coordinates are stored as steps.
 unfoldable pub file_node : ℕ → ℕ → PathNode → raw-node.Node
 file_node start count n = record {
   unused0 = n.unused0;
@@ -47,7 +48,14 @@ file_node start count n = record {
 }
 
 unfoldable pub file_link : PathLink → NodeLink
-file_link l = record { area_id = l.area_id; node_id = l.node_id; flags0 = l.flags0; flags1 = l.flags1; flags2 = l.flags2; link_length = l.length }
+file_link l = record {
+  area_id = l.area_id;
+  node_id = l.node_id;
+  flags0 = l.flags0;
+  flags1 = l.flags1;
+  flags2 = l.flags2;
+  link_length = l.length;
+}
 
 unfoldable pub file_junction : ℕ → PathJunction → NodeJunction
 file_junction start j = record {

@@ -20,7 +20,11 @@ use Rattle.records.specs.declared.junction_ref.NodeJunctionRef.{NodeJunctionRef}
 -- ---- records. T-10: a node's unused fields are kept. Section 3: coordinates are read from their steps.
 
 abbrev pub file_link_of : NodeLink → Link
-file_link_of l = record { area = l.area_id; number = l.node_id; body = record { flags0 = l.flags0; flags1 = l.flags1; flags2 = l.flags2; len = l.link_length } }
+file_link_of l = record {
+  area = l.area_id;
+  number = l.node_id;
+  body = record { flags0 = l.flags0; flags1 = l.flags1; flags2 = l.flags2; len = l.link_length };
+}
 
 abbrev pub file_ref_of : NodeJunctionRef → Ref
 file_ref_of r = record { area = r.area_id; number = r.node_id; junction = r.junction_id; unk0 = r.unk0 }
@@ -28,7 +32,8 @@ file_ref_of r = record { area = r.area_id; number = r.node_id; junction = r.junc
 abbrev pub file_body : raw-node.Node → NodeBody
 file_body n = body_from (path_node n 0)
 
--- Section 4: its links are those of the array l from `link_id` on, as many as the top five bits of `link_count_flags` say. Each node gets its copy.
+-- Section 4: its links are those of the array l from `link_id` on, as many as the top five bits of `link_count_flags`
+-- say. Each node gets its copy.
 abbrev pub file_node_of : List ℕ → raw-node.Node → Node
 file_node_of l n = record {
   area = n.area_id;
@@ -76,7 +81,8 @@ cell_from root n l j h r = record {
 unfoldable pub cell_by : Root → List ℕ → List ℕ → Cell
 cell_by r s g =
     cell_from r (array_at r.nodes r.node_count 40 s g) (array_at r.links r.link_count 8 s g)
-    (array_at r.junctions r.junction_count 12 s g) (array_at r.heightmap r.heightmap_count 1 s g) (array_at r.refs r.ref_count 8 s g)
+    (array_at r.junctions r.junction_count 12 s g) (array_at r.heightmap r.heightmap_count 1 s g)
+    (array_at r.refs r.ref_count 8 s g)
 
 unfoldable pub file_cell : List ℕ → List ℕ → Cell
 file_cell s g = cell_by (root_read s) s g

@@ -1,5 +1,5 @@
--- Section 4, other calls: what the lookups answer over lent lists. A struct over a limit is refused (14), then a list shorter
--- than its count (7).
+-- Section 4, other calls: what the lookups answer over lent lists. A struct over a limit is refused (14), then a list
+-- shorter than its count (7).
 use Rattle.std.specs.Prelude.{ℕ, cond, List, [], ◌∷◌, map, ltb, length, take}
 use Rattle.std.proofs.Math.Option.{Option, none, some}
 use Rattle.std.proofs.Math.ListN.{get_elem?}

@@ -34,7 +34,8 @@ refuse cause place m = record { answer = Refused cause place; memory = m }
 abbrev pub unless : Answer → Memory → Left → Left
 unless a m next = otherwise a (λ cause place. refuse cause place m) next
 
--- Section 4's limits: 65,536 nodes, 4,096 junctions. A struct that is over one of them was made by hand: 14, in every call
+-- Section 4's limits: 65,536 nodes, 4,096 junctions. A struct that is over one of them was made by hand: 14, in every
+-- call
 unfoldable pub over_limit : Ynd → Bool
 over_limit y = ltb 65536 y.node_count || ltb 4096 y.junction_count
 

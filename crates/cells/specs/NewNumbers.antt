@@ -1,5 +1,5 @@
--- Which number each number becomes where a cell is renumbered (section 4, T-09): for links that lead into the cell from
--- others, whose numbers are changed before its nodes move.
+-- Which number each number becomes where a cell is renumbered (section 4, T-09): for links that lead into the cell
+-- from others, whose numbers are changed before its nodes move.
 use Rattle.std.specs.Prelude.{ℕ, List, [], ◌∷◌, ◌++◌, map, ltb, length, take, drop}
 use Rattle.numbers.specs.Refusals.{Cause, when, decided, unless}
 use Rattle.numbers.specs.declared.answer.Answer.{Answer}

@@ -41,7 +41,8 @@ with_value_count y h = with_counts y y.node_count y.link_count y.junction_count 
 
 -- the junction, with a map of this size from s on
 unfoldable pub mapped : ℕ → ℕ → ℕ → List ℕ → List ℕ
-mapped width height s w = get_or w 0 0 ∷ get_or w 1 0 ∷ get_or w 2 0 ∷ get_or w 3 0 ∷ (width + height * 256) ∷ s ∷ drop 6 w
+mapped width height s w =
+    get_or w 0 0 ∷ get_or w 1 0 ∷ get_or w 2 0 ∷ get_or w 3 0 ∷ (width + height * 256) ∷ s ∷ drop 6 w
 
 abbrev pub map_call : Memory → ℕ → ℕ → ℕ → Answer
 map_call m p c size =

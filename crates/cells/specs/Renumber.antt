@@ -16,7 +16,8 @@ pub record Renumbered : Type 0 where
   pub memory : Memory
   pub places : List ℕ
 
-abbrev pub renumbered_by : Outcome → List (List ℕ) → List (List ℕ) → List (List ℕ) → List ℕ → List (List ℕ) → List ℕ → Renumbered
+abbrev pub renumbered_by : Outcome → List (List ℕ) → List (List ℕ) → List (List ℕ) → List ℕ
+    → List (List ℕ) → List ℕ → Renumbered
 renumbered_by r nodes links junctions heights refs places =
     record { answer = r.answer; memory = memory r.ynd nodes links junctions heights refs; places = places }
 
@@ -63,7 +64,8 @@ recounted y v p = record {
   ref_count = y.ref_count;
 }
 
--- over a limit (14); a list shorter than its count (7, its place); scratch and new places too short (7, places 6 and 7)
+-- over a limit (14); a list shorter than its count (7, its place); scratch and new places too short (7, places 6 and
+-- 7)
 unfoldable pub answer_of : Bool → ℕ → ℕ → ℕ → ℕ → Answer
 answer_of over n lack scratch places =
     decided
@@ -75,7 +77,8 @@ answer_of over n lack scratch places =
 
 -- the lists of the cell m, with a list of new places, renumbered
 unfoldable pub new_lists : Memory → List ℕ → Lists
-new_lists m places = renumber_lists m.ynd.node_count m.ynd.link_count m.ynd.ref_count (lists m.nodes m.links m.refs places)
+new_lists m places =
+    renumber_lists m.ynd.node_count m.ynd.link_count m.ynd.ref_count (lists m.nodes m.links m.refs places)
 
 -- the memory of an accepted call
 unfoldable pub renumber_memory : Memory → List ℕ → Memory
@@ -85,15 +88,20 @@ renumber_memory m places =
 
 -- a refusal leaves all as it was
 abbrev pub left_by : Answer → Memory → List ℕ → Renumbered
-left_by Done m places = record { answer = Done; memory = renumber_memory m places; places = (new_lists m places).places }
+left_by Done m places = record {
+  answer = Done;
+  memory = renumber_memory m places;
+  places = (new_lists m places).places;
+}
 left_by (Refused cause place) m places = record { answer = Refused cause place; memory = m; places = places }
 
 -- the whole call, with a scratch of this many entries and a list for the new places
 unfoldable pub renumber : Memory → ℕ → List ℕ → Renumbered
-renumber m scratch places = left_by (answer_of (over_limit m.ynd) m.ynd.node_count (short m) scratch (length places)) m places
+renumber m scratch places =
+    left_by (answer_of (over_limit m.ynd) m.ynd.node_count (short m) scratch (length places)) m places
 
--- The scratch: a refused call leaves it as it was. After an accepted one it is free (section 4, "Contracts and their sham
--- rivals"): it is as long as it was, and may hold anything.
+-- The scratch: a refused call leaves it as it was. After an accepted one it is free (section 4, "Contracts and their
+-- sham rivals"): it is as long as it was, and may hold anything.
 abbrev pub scratch_left : Answer → List ℕ → List ℕ → Type 0
 scratch_left Done before after = length after ≡ length before
 scratch_left (Refused cause place) before after = after ≡ before

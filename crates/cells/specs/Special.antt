@@ -1,7 +1,10 @@
 -- Section 4, accessors: the kinds of node that the top five bits of flags1 name, and the speeds of flags5.
 use Rattle.std.specs.Prelude.{ℕ, Bool, true, false, cond, eqb}
 use Rattle.cells.specs.declared.special.NodeSpecial.{NodeSpecial}
-use Rattle.cells.specs.declared.special.NodeSpecial.TheVariants.{None, ParkingSpace, PedNodeRoadCrossing, PedNodeAssistedMovement, TrafficLightJunctionStop, StopSign, Caution, PedRoadCrossingNoWait, EmergencyVehiclesOnly, OffRoadJunction, Other}
+use Rattle.cells.specs.declared.special.NodeSpecial.TheVariants.{None, ParkingSpace, PedNodeRoadCrossing}
+use Rattle.cells.specs.declared.special.NodeSpecial.TheVariants.{PedNodeAssistedMovement, TrafficLightJunctionStop}
+use Rattle.cells.specs.declared.special.NodeSpecial.TheVariants.{StopSign, Caution, PedRoadCrossingNoWait}
+use Rattle.cells.specs.declared.special.NodeSpecial.TheVariants.{EmergencyVehiclesOnly, OffRoadJunction, Other}
 use Rattle.cells.specs.declared.special.NodeSpeed.{NodeSpeed}
 use Rattle.cells.specs.declared.special.NodeSpeed.TheVariants.{Slow, Normal, Fast, Faster}
 

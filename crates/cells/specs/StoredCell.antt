@@ -87,6 +87,7 @@ held start count l w = held_in (record { start = start w; count = count w }) l
 pub record Beside (start count : List ℕ → ℕ) (n l p : ℕ) (owners : List (List ℕ)) : Type 0 where
   pub inside : (q : ℕ) → q < n → (q ≡ p → ⊥) → 0 < count (get_or owners q [])
       → start (get_or owners q []) + count (get_or owners q []) ≤ l
-  pub apart : (q : ℕ) → q < n → (q ≡ p → ⊥) → 0 < count (get_or owners q []) → 0 < held start count l (get_or owners p [])
+  pub apart : (q : ℕ) → q < n → (q ≡ p → ⊥) → 0 < count (get_or owners q [])
+      → 0 < held start count l (get_or owners p [])
       → (start (get_or owners q []) + count (get_or owners q []) ≤ start (get_or owners p []))
       ⊎ (start (get_or owners p []) + held start count l (get_or owners p []) ≤ start (get_or owners q []))

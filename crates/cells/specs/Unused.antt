@@ -1,5 +1,5 @@
--- T-10: the five unused fields of a node, `unused0` to `unused4` in this order: of a node in the cell, of a record in a
--- file, and of a file's nodes one after the other.
+-- T-10: the five unused fields of a node, `unused0` to `unused4` in this order: of a node in the cell, of a record in
+-- a file, and of a file's nodes one after the other.
 use Rattle.std.specs.Prelude.{ℕ, ◌*◌, ◌/◌, List, [], ◌∷◌, length}
 use Rattle.records.specs.Sections.{array_at}
 use Rattle.records.specs.Records.{node_at}
@@ -10,7 +10,8 @@ use Rattle.cells.specs.Cell.{Node}
 
 abbrev pub unused_of : Node → List ℕ
 unused_of n =
-    n.body.marks.unused0 ∷ n.body.marks.unused1 ∷ n.body.marks.unused2 ∷ n.body.marks.unused3 ∷ n.body.marks.unused4 ∷ []
+    n.body.marks.unused0 ∷ n.body.marks.unused1 ∷ n.body.marks.unused2 ∷ n.body.marks.unused3
+    ∷ n.body.marks.unused4 ∷ []
 
 abbrev pub file_unused : raw-node.Node → List ℕ
 file_unused n = n.unused0 ∷ n.unused1 ∷ n.unused2 ∷ n.unused3 ∷ n.unused4 ∷ []

@@ -1,5 +1,5 @@
--- Section 4: what stands in memory for each record. A node is thirteen words, a link and a ref four numbers of 16 bits,
--- a junction six words.
+-- Section 4: what stands in memory for each record. A node is thirteen words, a link and a ref four numbers of 16
+-- bits, a junction six words.
 --   node: area and number; street; the bits of x, y, z; flags0 to flags3; flags4, flags5, link count; where its links
 --     start; and, T-10, the record's five unused fields, a word each
 --   link: area; number; flags0 and flags1; flags2 and length        ref: area; number; junction; unk0
@@ -17,7 +17,8 @@ use Rattle.cells.specs.declared.node.PathNode.{PathNode}
 use Rattle.cells.specs.declared.link.PathLink.{PathLink}
 use Rattle.cells.specs.declared.junction.PathJunction.{PathJunction}
 
--- ---- from the file's records. Sections 3 and 4: coordinates are read from their steps; the low three bits of the link count's byte are flags5
+-- ---- from the file's records. Sections 3 and 4: coordinates are read from their steps; the low three bits of the
+-- link count's byte are flags5
 
 -- T-10: the unused fields are kept as they are. The node's links stand from `first` on in memory.
 unfoldable pub path_node : raw-node.Node → ℕ → PathNode
@@ -42,7 +43,14 @@ path_node n first = record {
 }
 
 unfoldable pub path_link : NodeLink → PathLink
-path_link l = record { area_id = l.area_id; node_id = l.node_id; flags0 = l.flags0; flags1 = l.flags1; flags2 = l.flags2; length = l.link_length }
+path_link l = record {
+  area_id = l.area_id;
+  node_id = l.node_id;
+  flags0 = l.flags0;
+  flags1 = l.flags1;
+  flags2 = l.flags2;
+  length = l.link_length;
+}
 
 -- its heightmap stands from `first` on in memory
 unfoldable pub path_junction : NodeJunction → ℕ → PathJunction
@@ -97,7 +105,11 @@ to_node w = record {
   area_id = get_or w 0 0 % 65536;
   node_id = get_or w 0 0 / 65536 % 65536;
   street_name = get_or w 1 0 % 4294967296;
-  position = record { x = of_bits binary32 (get_or w 2 0); y = of_bits binary32 (get_or w 3 0); z = of_bits binary32 (get_or w 4 0) };
+  position = record {
+    x = of_bits binary32 (get_or w 2 0);
+    y = of_bits binary32 (get_or w 3 0);
+    z = of_bits binary32 (get_or w 4 0);
+  };
   flags0 = get_or w 5 0 % 256;
   flags1 = get_or w 5 0 / 256 % 256;
   flags2 = get_or w 5 0 / 65536 % 256;
@@ -134,4 +146,9 @@ to_junction w = record {
 }
 
 unfoldable pub to_ref : List ℕ → NodeJunctionRef
-to_ref w = record { area_id = get_or w 0 0 % 65536; node_id = get_or w 1 0 % 65536; junction_id = get_or w 2 0 % 65536; unk0 = get_or w 3 0 % 65536 }
+to_ref w = record {
+  area_id = get_or w 0 0 % 65536;
+  node_id = get_or w 1 0 % 65536;
+  junction_id = get_or w 2 0 % 65536;
+  unk0 = get_or w 3 0 % 65536;
+}

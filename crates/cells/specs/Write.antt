@@ -1,5 +1,5 @@
--- The call: refusals in their order (14, 12, 8 to 11, 7), then the section. Refs are counted by the struct, and so are the values
--- that heightmaps lie in.
+-- The call: refusals in their order (14, 12, 8 to 11, 7), then the section. Refs are counted by the struct, and so
+-- are the values that heightmaps lie in.
 use Rattle.std.specs.Prelude.{ℕ, Bool, cond, List, ◌++◌, ltb, length, take, drop}
 use Rattle.cells.specs.Entries.{links_in, values_in}
 use Rattle.cells.specs.WriteChecks.{maps_cut, check_nodes, check_junctions}
@@ -31,7 +31,8 @@ after (Sum n) s next = next
 
 -- the cell: the lists, cut to the counts
 unfoldable pub held : Memory → Memory
-held m = memory m.ynd (take m.ynd.node_count m.nodes) (take m.ynd.link_count m.links) (take m.ynd.junction_count m.junctions)
+held m = memory m.ynd (take m.ynd.node_count m.nodes) (take m.ynd.link_count m.links)
+    (take m.ynd.junction_count m.junctions)
     (take m.ynd.heightmap_count m.heights) (take m.ynd.ref_count m.refs)
 
 -- the section if it has room

@@ -1,5 +1,5 @@
--- Causes of refusal, the cell being written: 12 where a heightmap is cut, 8 and 9 node by node, 8 first, then 10 junction by
--- junction.
+-- Causes of refusal, the cell being written: 12 where a heightmap is cut, 8 and 9 node by node, 8 first, then 10
+-- junction by junction.
 use Rattle.std.specs.Prelude.{ℕ, ◌+◌, ◌-◌, min, Bool, true, false, cond, ◌||◌, List, [], ◌∷◌, ltb}
 use Rattle.cells.specs.Entries.{stored_start}
 use Rattle.cells.specs.NodeWords.{link_start, link_count, value_start, value_count}
@@ -25,7 +25,8 @@ unfoldable pub maps_cut : ℕ → List (List ℕ) → Bool
 maps_cut pool [] = false
 maps_cut pool (j ∷ js) = ltb (values_within pool j) (value_count j) || maps_cut pool js
 
--- 9: the start that this node stores over 65,535. T-05: so only for a node with links, whose start is what stands before it.
+-- 9: the start that this node stores over 65,535. T-05: so only for a node with links, whose start is what stands
+-- before it.
 abbrev pub start_over : ℕ → ℕ → Bool
 start_over before count = ltb 65535 (stored_start before count)
 

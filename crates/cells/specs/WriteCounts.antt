@@ -1,4 +1,5 @@
--- What checks 14, 12 and 8 to 11 give together: a refusal, or how much there is to write. No public function's contract cites this.
+-- What checks 14, 12 and 8 to 11 give together: a refusal, or how much there is to write. No public function's
+-- contract cites this.
 use Rattle.std.specs.Prelude.{ℕ, ◌≤◌, List, ltb, length}
 use Rattle.cells.specs.Checks.{refuse_more}
 use Rattle.cells.specs.Memory.{Memory, over_limit}
@@ -24,7 +25,13 @@ write_counts y nodes links junctions heights refs =
     (if_sum (check_nodes (λ n. length (links_in links n)) 0 0 nodes) λ l.
     if_sum (check_junctions (λ j. length (values_in heights j)) 0 0 junctions) λ v.
     refuse_more (ltb 65535 y.ref_count) 11 0
-    (counted.Held (record { nodes = length nodes; links = l; junctions = length junctions; heights = v; refs = length refs }))))
+    (counted.Held (record {
+      nodes = length nodes;
+      links = l;
+      junctions = length junctions;
+      heights = v;
+      refs = length refs;
+    }))))
 
 -- the lists are no longer than the struct's counts
 pub record Cut (h : Memory) : Type 0 where

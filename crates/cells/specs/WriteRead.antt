@@ -18,7 +18,11 @@ pub record Both : Type 0 where
 
 -- what the call answers and leaves
 abbrev pub both : WroteRead → List (List ℕ) → List (List ℕ) → List (List ℕ) → List ℕ → List (List ℕ) → List ℕ → Both
-both r nodes links junctions heights refs section = record { answer = r.answer; memory = memory r.ynd nodes links junctions heights refs; section = section }
+both r nodes links junctions heights refs section = record {
+  answer = r.answer;
+  memory = memory r.ynd nodes links junctions heights refs;
+  section = section;
+}
 
 -- n bytes were written to the section t; what reading them answers and leaves
 abbrev pub if_read : ℕ → List ℕ → Answer → Memory → Memory → List ℕ → Both
@@ -26,7 +30,11 @@ if_read n t Done after m s = record { answer = written.Wrote n; memory = after; 
 if_read n t (Refused cause place) after m s = record { answer = written.Refused cause place; memory = m; section = s }
 
 abbrev pub if_written : Written → List ℕ → Memory → List ℕ → Both
-if_written (written.Refused cause place) t m s = record { answer = written.Refused cause place; memory = m; section = s }
+if_written (written.Refused cause place) t m s = record {
+  answer = written.Refused cause place;
+  memory = m;
+  section = s;
+}
 if_written (written.Wrote n) t m s = if_read n t (read_of (take n t) [] m).answer (read_of (take n t) [] m).memory m s
 
 unfoldable pub write_read_of : Memory → List ℕ → Both

@@ -53,7 +53,8 @@ pub fn add_junction(
     values: &[u8],
 ) -> Outcome
     ensures { (nodes links refs : List (List ℕ)) →
-        left result nodes links junctions.new heights.new refs ≡ add_junction (memory ynd nodes links junctions.old heights.old refs) j values.now }
+        left result nodes links junctions.new heights.new refs
+        ≡ add_junction (memory ynd nodes links junctions.old heights.old refs) j values.now }
 {
     let n = ynd.junction_count as usize;
     let h = ynd.heightmap_count as usize;

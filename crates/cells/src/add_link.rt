@@ -1,7 +1,8 @@
 // Adding a link.
 ghost use Rattle.std.specs.Prelude.{◌≡◌, List, ℕ, ◌+◌, ◌<◌, ◌≤◌, length};
 ghost use Rattle.cells.specs.Memory.{memory, left, over_limit};
-ghost use Rattle.cells.specs.AddLink.{held_at, behind, at_in, inserted, nodes_after, room_for_link, add_link, LinkRoom};
+ghost use Rattle.cells.specs.AddLink.{held_at, behind, at_in, inserted, nodes_after, room_for_link, add_link};
+ghost use Rattle.cells.specs.AddLink.{LinkRoom};
 
 use crate::link::{LinkWords, PathLink, link_words};
 use crate::node::NodeWords;
@@ -102,7 +103,8 @@ pub fn add_link(
     link: PathLink,
 ) -> Outcome
     ensures { (junctions refs : List (List ℕ)) (heights : List ℕ) →
-        left result nodes.new links.new junctions heights refs ≡ add_link (memory ynd nodes.old links.old junctions heights refs) place link }
+        left result nodes.new links.new junctions heights refs
+        ≡ add_link (memory ynd nodes.old links.old junctions heights refs) place link }
 {
     let n = ynd.node_count as usize;
     let l = ynd.link_count as usize;

@@ -13,7 +13,8 @@ use numbers::math::Vec3;
 // A node without links behind all others; its number is its place.
 pub fn add_node(ynd: Ynd, nodes: &mut [NodeWords], area_id: u16, position: Vec3) -> Outcome
     ensures { (links junctions refs : List (List ℕ)) (heights : List ℕ) →
-        left result nodes.new links junctions heights refs ≡ add_node (memory ynd nodes.old links junctions heights refs) area_id position }
+        left result nodes.new links junctions heights refs
+        ≡ add_node (memory ynd nodes.old links junctions heights refs) area_id position }
 {
     let n = ynd.node_count as usize;
     let a = room_for(ynd, 65536, n, nodes.len(), 0);

@@ -13,7 +13,8 @@ use records::junction_ref::NodeJunctionRef;
 // A ref behind all others.
 pub fn add_ref(ynd: Ynd, refs: &mut [RefWords], r: NodeJunctionRef) -> Outcome
     ensures { (nodes links junctions : List (List ℕ)) (heights : List ℕ) →
-        left result nodes links junctions heights refs.new ≡ add_ref (memory ynd nodes links junctions heights refs.old) r }
+        left result nodes links junctions heights refs.new
+        ≡ add_ref (memory ynd nodes links junctions heights refs.old) r }
 {
     let n = ynd.ref_count as usize;
     let a = room_for(ynd, 4294967295, n, refs.len(), 4);

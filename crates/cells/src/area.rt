@@ -19,7 +19,8 @@ pub fn belongs_to(own: u16, area: u16) -> bool
     false
 }
 
-// In a cell of the area `own`, whether a ref of this area is one for `area_id`; one that belongs to the cell names `own`.
+// In a cell of the area `own`, whether a ref of this area is one for `area_id`; one that belongs to the cell names
+// `own`.
 pub fn ref_for(own: u16, area: u16, area_id: u16) -> bool
     ensures { result ≡ ref_for own area area_id }
 {

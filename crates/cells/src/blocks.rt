@@ -4,7 +4,8 @@ ghost use Rattle.records.specs.Put.{put, joined};
 ghost use Rattle.records.specs.Layout.{padded};
 ghost use Rattle.cells.specs.Entries.{values_in};
 ghost use Rattle.cells.specs.WriteChecks.{links_within, values_within, accepted, check_nodes, check_junctions};
-ghost use Rattle.cells.specs.Blocks.{link_record, links_records, refs_block, heights_block, junctions_block, links_block, nodes_block};
+ghost use Rattle.cells.specs.Blocks.{link_record, links_records, refs_block, heights_block, junctions_block};
+ghost use Rattle.cells.specs.Blocks.{links_block, nodes_block};
 
 use crate::junction::JunctionWords;
 use crate::junction_ref::RefWords;

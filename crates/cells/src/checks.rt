@@ -2,7 +2,8 @@
 ghost use Rattle.std.specs.Prelude.{◌≡◌, ◌+◌, ◌*◌, ◌/◌, ◌≤◌, ◌<◌, length};
 ghost use Rattle.records.specs.Records.{node_at, junction_at};
 ghost use Rattle.cells.specs.Lists.{sum_to};
-ghost use Rattle.cells.specs.Checks.{sizes_check, links_at, values_at, scan, bad_node, bad_junction, total_of, handed_on, counted_of, found_answer, counted_answer, arrays_check};
+ghost use Rattle.cells.specs.Checks.{sizes_check, links_at, values_at, scan, bad_node, bad_junction, total_of};
+ghost use Rattle.cells.specs.Checks.{handed_on, counted_of, found_answer, counted_answer, arrays_check};
 
 use crate::arrays::Found;
 use crate::count::{Counted, Counts, Total};
@@ -73,7 +74,8 @@ pub(crate) fn values_at(j: &[u8], i: usize) -> usize
 // 4: each node's range is within `links` links; how many links they have together.
 fn check_nodes(n: &[u8], links: usize) -> Total
     requires { length n.now / 40 ≤ 65536 }
-    ensures { result ≡ total_of (scan 4 (bad_node n.now links) 0 (length n.now / 40)) (sum_to (links_at n.now) (length n.now / 40)) }
+    ensures { result ≡ total_of (scan 4 (bad_node n.now links) 0 (length n.now / 40))
+        (sum_to (links_at n.now) (length n.now / 40)) }
 {
     let count = n.len() / 40;
     let mut sum = 0;
@@ -92,7 +94,8 @@ fn check_nodes(n: &[u8], links: usize) -> Total
 // 5: each junction's range is within `bytes` heightmap bytes; how many values they have together.
 fn check_junctions(j: &[u8], bytes: usize) -> Total
     requires { length j.now / 12 ≤ 4096 }
-    ensures { result ≡ total_of (scan 5 (bad_junction j.now bytes) 0 (length j.now / 12)) (sum_to (values_at j.now) (length j.now / 12)) }
+    ensures { result ≡ total_of (scan 5 (bad_junction j.now bytes) 0 (length j.now / 12))
+        (sum_to (values_at j.now) (length j.now / 12)) }
 {
     let count = j.len() / 12;
     let mut sum = 0;

@@ -51,7 +51,8 @@ fn resized(place: usize, len: usize, values: usize, held: usize) -> bool
     false
 }
 
-// Entry k of a range that belongs to a place of n and lies among l entries of a pool; a and b are the places of the two lists.
+// Entry k of a range that belongs to a place of n and lies among l entries of a pool; a and b are the places of the
+// two lists.
 fn range_entry(
     ynd: Ynd,
     n: usize,

@@ -1,4 +1,5 @@
-// What is read of the five arrays, stored in the lent lists: each node with its own copy of its links, each junction with its heightmap.
+// What is read of the five arrays, stored in the lent lists: each node with its own copy of its links, each junction
+// with its heightmap.
 ghost use Rattle.std.specs.Prelude.{◌≡◌, ◌++◌, ◌+◌, ◌*◌, ◌≤◌, ◌<◌, length, take, drop, set};
 ghost use Rattle.records.specs.Records.{node_at, junction_at};
 ghost use Rattle.cells.specs.Lists.{up_to, join_to, sum_to};
@@ -50,7 +51,8 @@ fn fill_node(
     i: usize,
     held: usize,
 ) -> usize
-    requires { (i < length nodes.old) × (i ≤ 65536) × (held ≤ 4000000) × (held + links_at n.now i ≤ length links.old) }
+    requires { (i < length nodes.old) × (i ≤ 65536) × (held ≤ 4000000)
+        × (held + links_at n.now i ≤ length links.old) }
     ensures { (result ≡ held + links_at n.now i)
         × (nodes.new ≡ set nodes.old i (node_words (path_node (node_at n.now (i * 40)) held)))
         × (links.new ≡ take held links.old ++ links_in n.now l.now i
@@ -71,7 +73,8 @@ pub(crate) fn fill_nodes(
     links: &mut [LinkWords],
     count: usize,
 )
-    requires { (count ≤ 65536) × (count ≤ length nodes.old) × (sum_to (links_at n.now) count ≤ length links.old) }
+    requires { (count ≤ 65536) × (count ≤ length nodes.old)
+        × (sum_to (links_at n.now) count ≤ length links.old) }
     ensures { (nodes.new ≡ up_to (node_in n.now) count ++ drop count nodes.old)
         × (links.new ≡ join_to (links_in n.now l.now) count ++ drop (sum_to (links_at n.now) count) links.old) }
 {
@@ -92,7 +95,8 @@ fn fill_junction(
     i: usize,
     held: usize,
 ) -> usize
-    requires { (i < length junctions.old) × (i ≤ 65536) × (held ≤ 300000000) × (held + values_at j.now i ≤ length heights.old) }
+    requires { (i < length junctions.old) × (i ≤ 65536) × (held ≤ 300000000)
+        × (held + values_at j.now i ≤ length heights.old) }
     ensures { (result ≡ held + values_at j.now i)
         × (junctions.new ≡ set junctions.old i (junction_words (path_junction (junction_at j.now (i * 12)) held)))
         × (heights.new ≡ take held heights.old ++ values_in j.now h.now i
@@ -113,9 +117,11 @@ pub(crate) fn fill_junctions(
     heights: &mut [u8],
     count: usize,
 )
-    requires { (count ≤ 4096) × (count ≤ length junctions.old) × (sum_to (values_at j.now) count ≤ length heights.old) }
+    requires { (count ≤ 4096) × (count ≤ length junctions.old)
+        × (sum_to (values_at j.now) count ≤ length heights.old) }
     ensures { (junctions.new ≡ up_to (junction_in j.now) count ++ drop count junctions.old)
-        × (heights.new ≡ join_to (values_in j.now h.now) count ++ drop (sum_to (values_at j.now) count) heights.old) }
+        × (heights.new ≡ join_to (values_in j.now h.now) count
+        ++ drop (sum_to (values_at j.now) count) heights.old) }
 {
     let mut held = 0;
     let mut i = 0;

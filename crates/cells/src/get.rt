@@ -1,6 +1,7 @@
 // Entries taken out by place.
 ghost use Rattle.std.specs.Prelude.{◌≡◌, length};
-ghost use Rattle.cells.specs.Edit.{node_entry, got_node, link_entry, got_link, ref_entry, got_ref, junction_entry, got_junction, height_entry, got_height};
+ghost use Rattle.cells.specs.Edit.{node_entry, got_node, link_entry, got_link, ref_entry, got_ref, junction_entry};
+ghost use Rattle.cells.specs.Edit.{got_junction, height_entry, got_height};
 
 use crate::entry::{Entry, entry_at, height_entry, link_entry};
 use crate::junction::{JunctionWords, PathJunction, path_junction_of};

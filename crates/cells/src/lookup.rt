@@ -4,7 +4,8 @@ ghost use Rattle.cells.specs.NodeWords.{first_area};
 ghost use Rattle.cells.specs.CellOf.{ref_of};
 ghost use Rattle.cells.specs.Area.{ref_for};
 ghost use Rattle.cells.specs.Lookup.{ref_matches};
-ghost use Rattle.cells.specs.LookupCall.{area_id_call, first_in, find_in, node_call, place_of, ref_in, below, junction_of_call};
+ghost use Rattle.cells.specs.LookupCall.{area_id_call, first_in, find_in, node_call, place_of, ref_in, below};
+ghost use Rattle.cells.specs.LookupCall.{junction_of_call};
 
 use crate::area::{own_area, ref_for};
 use crate::junction_ref::RefWords;

@@ -3,7 +3,8 @@ ghost use Rattle.std.specs.Prelude.{◌≡◌, ◌*◌, ◌/◌, ◌<◌};
 ghost use Rattle.cells.specs.Access.{field_of, with_field, has_bit, with_bit};
 ghost use Rattle.cells.specs.NodeWords.{ped_kind};
 ghost use Rattle.cells.specs.Special.{special_of, special_value, speed_of, speed_value};
-ghost use Rattle.cells.specs.NodeAccess.{with_flags0, with_flags1, with_flags2, with_flags3, with_flags4, with_flags5, disabled};
+ghost use Rattle.cells.specs.NodeAccess.{with_flags0, with_flags1, with_flags2, with_flags3, with_flags4};
+ghost use Rattle.cells.specs.NodeAccess.{with_flags5, disabled};
 
 use crate::field::{field_of, has_bit, with_bit, with_field};
 use crate::node::PathNode;

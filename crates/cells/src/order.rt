@@ -1,4 +1,5 @@
-// Where renumbering sends each node: those that are no ped nodes first, then the ped nodes, each group in its old order.
+// Where renumbering sends each node: those that are no ped nodes first, then the ped nodes, each group in its old
+// order.
 ghost use Rattle.std.specs.Prelude.{◌≡◌, ◌++◌, map, ◌≤◌, length, take, drop};
 ghost use Rattle.cells.specs.Order.{new_places};
 ghost use Rattle.cells.specs.NodeWords.{is_ped};
@@ -25,7 +26,8 @@ pub(crate) fn count_vehicles(nodes: &[NodeWords], n: usize) -> usize
 
 // Each node's new place: `first` is the first ped node's.
 pub(crate) fn fill_places(nodes: &[NodeWords], places: &mut [u32], n: usize, first: usize)
-    requires { (n ≤ length nodes.now) × (n ≤ 65536) × (n ≤ length places.old) × (first ≡ vehicles n nodes.now) }
+    requires { (n ≤ length nodes.now) × (n ≤ 65536) × (n ≤ length places.old)
+        × (first ≡ vehicles n nodes.now) }
     ensures { places.new ≡ new_places (map is_ped (take n nodes.now)) ++ drop n places.old }
 {
     let mut v: usize = 0;

@@ -1,6 +1,7 @@
 // Entries stored by place.
 ghost use Rattle.std.specs.Prelude.{◌≡◌};
-ghost use Rattle.cells.specs.Edit.{stored, range_kept, put_node, set_position, put_link, put_ref, put_junction, put_height};
+ghost use Rattle.cells.specs.Edit.{stored, range_kept, put_node, set_position, put_link, put_ref, put_junction};
+ghost use Rattle.cells.specs.Edit.{put_height};
 
 use crate::entry::{Entry, entry_at, height_entry, link_entry, sized_entry};
 use crate::junction::{JunctionWords, PathJunction, junction_words};

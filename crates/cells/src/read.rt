@@ -47,7 +47,8 @@ pub(crate) fn check_room(
 }
 
 fn ynd_of(root: Root, k: Counts) -> Ynd
-    requires { (k.nodes < 4294967296) × (k.links < 4294967296) × (k.junctions < 4294967296) × (k.heights < 4294967296) × (k.refs < 4294967296) }
+    requires { (k.nodes < 4294967296) × (k.links < 4294967296) × (k.junctions < 4294967296)
+        × (k.heights < 4294967296) × (k.refs < 4294967296) }
     ensures { result ≡ cell_read root k }
 {
     let unknowns = root.unknowns;

@@ -44,7 +44,8 @@ fn relink_all(
     links: &mut [LinkWords],
     count: usize,
 )
-    requires { Ready n nodes.now scratch.now places.now × (own ≡ first_area (take n nodes.now)) × (count ≤ length links.old) }
+    requires { Ready n nodes.now scratch.now places.now × (own ≡ first_area (take n nodes.now))
+        × (count ≤ length links.old) }
     ensures { links.new ≡ over (map (relinked (old_of n nodes.now))) count links.old }
 {
     let mut i = 0;

@@ -1,7 +1,8 @@
 // Renumbering: nodes, links and refs, with the cell's two node counts.
 ghost use Rattle.std.specs.Prelude.{◌≡◌, ◌≤◌, length};
 ghost use Rattle.cells.specs.Memory.{memory, over_limit};
-ghost use Rattle.cells.specs.Renumber.{lists, renumbered_by, vehicles, renumber_lists, recounted, answer_of, renumber, scratch_left};
+ghost use Rattle.cells.specs.Renumber.{lists, renumbered_by, vehicles, renumber_lists, recounted, answer_of};
+ghost use Rattle.cells.specs.Renumber.{renumber, scratch_left};
 
 use crate::junction::JunctionWords;
 use crate::link::LinkWords;
@@ -66,8 +67,8 @@ fn recount(ynd: Ynd, v: u32, p: u32) -> Ynd
     y
 }
 
-// Renumbers the cell, and fills `places` with each node's new place. The scratch holds anything after an accepted call;
-// a refusal changes nothing.
+// Renumbers the cell, and fills `places` with each node's new place. The scratch holds anything after an accepted
+// call; a refusal changes nothing.
 pub fn recalculate_node_indices(
     ynd: Ynd,
     nodes: &mut [NodeWords],
@@ -79,7 +80,8 @@ pub fn recalculate_node_indices(
     places: &mut [u32],
 ) -> Outcome
     ensures places_after { renumbered_by result nodes.new links.new junctions.now heights.now refs.new places.new
-        ≡ renumber (memory ynd nodes.old links.old junctions.now heights.now refs.old) (length scratch.old) places.old }
+        ≡ renumber (memory ynd nodes.old links.old junctions.now heights.now refs.old) (length scratch.old)
+        places.old }
     ensures scratch_left { scratch_left result.answer scratch.old scratch.new }
 {
     let n = ynd.node_count as usize;

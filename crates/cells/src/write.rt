@@ -29,7 +29,8 @@ pub enum Written {
 
 // Where so many entries are written.
 pub(crate) fn places_for(k: Counts) -> Places
-    requires { (k.nodes < 4294967296) × (k.links < 4294967296) × (k.junctions < 4294967296) × (k.heights < 4294967296) × (k.refs < 4294967296) }
+    requires { (k.nodes < 4294967296) × (k.links < 4294967296) × (k.junctions < 4294967296)
+        × (k.heights < 4294967296) × (k.refs < 4294967296) }
     ensures { result ≡ places_of (sizes k.refs k.heights k.junctions k.links k.nodes) }
 {
     lay_out(
@@ -42,7 +43,8 @@ pub(crate) fn places_for(k: Counts) -> Places
 }
 
 fn root_for(ynd: Ynd, k: Counts, places: Places) -> Root
-    requires { (k.nodes < 4294967296) × (k.links < 4294967296) × (k.junctions < 4294967296) × (k.heights < 4294967296) × (k.refs < 65536) }
+    requires { (k.nodes < 4294967296) × (k.links < 4294967296) × (k.junctions < 4294967296)
+        × (k.heights < 4294967296) × (k.refs < 65536) }
     ensures { result ≡ record {
       vft = ynd.vft;
       nodes = places.nodes;
@@ -91,7 +93,8 @@ fn fill(
     lsize: usize,
     hsize: usize,
 )
-    requires { (header_size + length (lay header_size (arrays nodes.now links.now junctions.now heights.now refs.now)) ≤ length section.old)
+    requires { (header_size + length (lay header_size (arrays nodes.now links.now junctions.now heights.now refs.now))
+        ≤ length section.old)
         × (accepted (check_nodes (links_within (length links.now)) 0 0 nodes.now) ≡ true)
         × (accepted (check_junctions (values_within (length heights.now)) 0 0 junctions.now) ≡ true)
         × (lsize ≡ length (links_block links.now nodes.now))

@@ -42,7 +42,8 @@ fn line(alloc: Global, input: &[u8]) -> Result<String, AllocError>
 
 // One byte past the limit is enough to see that the input is too long.
 fn section_of<R: Read + Drop>(alloc: Global, input: R) -> io::Result<Vec<u8>>
-    ensures { IfOk result (λ section. IfSome (R.remaining input) (λ bytes. section.items ≡ take (LIMIT + 1) bytes)) }
+    ensures { IfOk result (λ section. IfSome (R.remaining input) (λ bytes. section.items
+        ≡ take (LIMIT + 1) bytes)) }
 {
     let mut section = Vec::new(alloc);
     input.take(LIMIT + 1).read_to_end(&mut section)?;

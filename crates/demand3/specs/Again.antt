@@ -1,5 +1,5 @@
--- Demand 3 over the calls themselves: a cell is read and checked; a walk, a renumbering, a write-then-read; and the walk again, from where
--- its start then stands.
+-- Demand 3 over the calls themselves: a cell is read and checked; a walk, a renumbering, a write-then-read; and the
+-- walk again, from where its start then stands.
 use Rattle.std.specs.Prelude.{ℕ, ◌≡◌, cond, List, [], ◌∷◌, map, leb, length, get_or, take}
 use Rattle.cells.specs.Memory.{Memory, memory}
 use Rattle.cells.specs.Read.{read_of}
@@ -19,7 +19,8 @@ use Rattle.demand3.specs.declared.again.Walks.{Walks}
 use Rattle.demand3.specs.declared.again.Walks.TheVariants.{Both, NoStart, Unsound, NotChecked, Refused}
 use Rattle.demand3.specs.declared.again.Again.{Again}
 
--- what the call answers, and what it leaves of the cell's memory and of the lists lent; for the scratch see `scratch_after`
+-- what the call answers, and what it leaves of the cell's memory and of the lists lent; for the scratch see
+-- `scratch_after`
 pub record AgainLeft : Type 0 where
   pub walks : Walks
   pub memory : Memory
@@ -28,7 +29,8 @@ pub record AgainLeft : Type 0 where
   pub visited : List ℕ
   pub later : List ℕ
 
-abbrev pub again_left : Again → List (List ℕ) → List (List ℕ) → List (List ℕ) → List ℕ → List (List ℕ) → List ℕ → List ℕ → List ℕ → List ℕ → AgainLeft
+abbrev pub again_left : Again → List (List ℕ) → List (List ℕ) → List (List ℕ) → List ℕ
+    → List (List ℕ) → List ℕ → List ℕ → List ℕ → List ℕ → AgainLeft
 again_left r nodes links junctions heights refs places section visited later = record {
   walks = r.walks;
   memory = memory r.ynd nodes links junctions heights refs;
@@ -45,9 +47,15 @@ pub record RenewLeft : Type 0 where
   pub places : List ℕ
   pub section : List ℕ
 
-abbrev pub renew_left : Outcome → List (List ℕ) → List (List ℕ) → List (List ℕ) → List ℕ → List (List ℕ) → List ℕ → List ℕ → RenewLeft
+abbrev pub renew_left : Outcome → List (List ℕ) → List (List ℕ) → List (List ℕ) → List ℕ
+    → List (List ℕ) → List ℕ → List ℕ → RenewLeft
 renew_left r nodes links junctions heights refs places section =
-    record { answer = r.answer; memory = memory r.ynd nodes links junctions heights refs; places = places; section = section }
+    record {
+      answer = r.answer;
+      memory = memory r.ynd nodes links junctions heights refs;
+      places = places;
+      section = section;
+    }
 
 -- where the node at place p stands after a renumbering that gave this answer and left these new places
 abbrev pub place_after : Answer → List ℕ → ℕ → ℕ
@@ -67,11 +75,25 @@ both_walks m scratch places section choices start visited later =
     let n = renew m scratch places section in
     let before = walk_call m choices start visited in
     let after = walk_call n.memory choices (place_after n.answer n.places start) later in
-    record { walks = Both before.answer after.answer; memory = n.memory; places = n.places; section = n.section; visited = before.visited; later = after.visited }
+    record {
+      walks = Both before.answer after.answer;
+      memory = n.memory;
+      places = n.places;
+      section = n.section;
+      visited = before.visited;
+      later = after.visited;
+    }
 
 -- the walks are not made
 abbrev pub stopped : Memory → List ℕ → List ℕ → List ℕ → List ℕ → Walks → AgainLeft
-stopped m places section visited later w = record { walks = w; memory = m; places = places; section = section; visited = visited; later = later }
+stopped m places section visited later w = record {
+  walks = w;
+  memory = m;
+  places = places;
+  section = section;
+  visited = visited;
+  later = later;
+}
 
 abbrev pub if_sound : Soundness → (Walks → AgainLeft) → AgainLeft → AgainLeft
 if_sound soundness.Sound stop next = next
@@ -90,15 +112,18 @@ abbrev pub if_read : Answer → (Walks → AgainLeft) → AgainLeft → AgainLef
 if_read answer.Done stop next = next
 if_read (answer.Refused cause place) stop next = stop (Refused cause place)
 
-unfoldable pub walk_again : List ℕ → List ℕ → Memory → List ℕ → List ℕ → List ℕ → List ℕ → ℕ → List ℕ → List ℕ → AgainLeft
+unfoldable pub walk_again : List ℕ → List ℕ → Memory → List ℕ → List ℕ → List ℕ → List ℕ
+    → ℕ → List ℕ → List ℕ → AgainLeft
 walk_again system graphics lent scratch places section choices start visited later =
     let r = read_of system graphics lent in
-    if_read r.answer (stopped r.memory places section visited later) (sound_walks r.memory scratch places section choices start visited later)
+    if_read r.answer (stopped r.memory places section visited later)
+    (sound_walks r.memory scratch places section choices start visited later)
 
--- The scratch, of the memory m that a reading left: as it was where the reading was refused; after the check as the check
--- leaves it; after the calls as renumbering leaves it.
+-- The scratch, of the memory m that a reading left: as it was where the reading was refused; after the check as the
+-- check leaves it; after the calls as renumbering leaves it.
 abbrev pub scratch_after : Walks → Memory → List ℕ → List ℕ → List ℕ → Type 0
-scratch_after (Both before after) m places scratch left = scratch_left (renumber m (length scratch) places).answer (sound_call m scratch).scratch left
+scratch_after (Both before after) m places scratch left =
+    scratch_left (renumber m (length scratch) places).answer (sound_call m scratch).scratch left
 scratch_after NoStart m places scratch left = left ≡ (sound_call m scratch).scratch
 scratch_after Unsound m places scratch left = left ≡ (sound_call m scratch).scratch
 scratch_after (NotChecked cause place) m places scratch left = left ≡ (sound_call m scratch).scratch

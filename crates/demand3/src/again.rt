@@ -18,8 +18,8 @@ use numbers::answer::Answer;
 use walks::sound::{Soundness, sound};
 use walks::walk::{Walked, walk};
 
-// What the two walks answer. Or reading was refused, and all is as it was; or the cell was read, and then its check was
-// refused (the scratch is too short), it is not sound, or no node is at the start.
+// What the two walks answer. Or reading was refused, and all is as it was; or the cell was read, and then its check
+// was refused (the scratch is too short), it is not sound, or no node is at the start.
 #[derive(Clone, Copy)]
 pub enum Walks {
     Both(Walked, Walked),
@@ -177,8 +177,8 @@ fn sound_walks(
 
 // Reads a cell; if it is sound, walks, renumbers it, writes and reads it again, and walks again from where the start
 // then
-// stands. Lent visited lists of equal length, both walks answer the same, and the places of the second are those of the
-// first, each moved on. Only `Refused` leaves everything as it was: behind it nothing has been stored.
+// stands. Lent visited lists of equal length, both walks answer the same, and the places of the second are those of
+// the first, each moved on. Only `Refused` leaves everything as it was: behind it nothing has been stored.
 pub fn walk_again<'a>(
     ynd: Ynd,
     system: &'a [u8],

@@ -79,7 +79,8 @@ call_of w l =
 -- the same of write-then-read, whose section and length stand beside it
 unfoldable pub both_called : List ℕ → Both → Called
 both_called w b =
-    called (written_told b.answer 0).number (written_told b.answer 0).place (if_wrote b.answer (ynd_words b.memory.ynd) w)
+    called (written_told b.answer 0).number (written_told b.answer 0).place
+    (if_wrote b.answer (ynd_words b.memory.ynd) w)
     b.memory.nodes b.memory.links b.memory.junctions b.memory.heights b.memory.refs
 
 -- the same of renumbering, whose list of new places stands beside it

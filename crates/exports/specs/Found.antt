@@ -132,8 +132,8 @@ place_or_zero (place.At i) = i
 place_or_zero place.Nothing = 0
 place_or_zero (place.Refused n p) = 0
 
--- area, street, position bits, flags0 to flags5, the five unused fields (T-10), link count, 1 if there is a junction and
--- else 0, the junction's place
+-- area, street, position bits, flags0 to flags5, the five unused fields (T-10), link count, 1 if there is a junction
+-- and else 0, the junction's place
 abbrev pub seen_words : SeenNode → List ℕ
 seen_words n =
     n.area_id ∷ n.street_name ∷ n.position.x ∷ n.position.y ∷ n.position.z
@@ -147,7 +147,8 @@ shown_node_told (shown-node.Refused n p) old = told n p old
 
 -- the bits of corner and heights, width, height
 abbrev pub shown_junction_told : ShownJunction → List ℕ → Told (List ℕ)
-shown_junction_told (shown-junction.Junction j) old = told 0 0 (j.x ∷ j.y ∷ j.min_z ∷ j.max_z ∷ j.width ∷ j.height ∷ [])
+shown_junction_told (shown-junction.Junction j) old =
+    told 0 0 (j.x ∷ j.y ∷ j.min_z ∷ j.max_z ∷ j.width ∷ j.height ∷ [])
 shown_junction_told (shown-junction.Refused n p) old = told n p old
 
 -- how many values were copied

@@ -35,8 +35,8 @@ fn area_of(version: Version) -> u16
     }
 }
 
-// Reads a round file of version 1 or 2: `version` gets which, `area` the area of version 2 (0 for version 1), the others
-// what `ynd_read_round` leaves.
+// Reads a round file of version 1 or 2: `version` gets which, `area` the area of version 2 (0 for version 1), the
+// others what `ynd_read_round` leaves.
 #[unsafe(no_mangle)]
 pub extern "C" fn ynd_read_round_versioned(
     file: &[u8],

@@ -15,8 +15,8 @@ use cells::node::NodeWords;
 use walks::sound::Soundness;
 use walks::walk::Walked;
 
-// Renumbers a member, and corrects the links of the others that name it. `places` gets each of its nodes' new place; the
-// scratch holds anything after an accepted call.
+// Renumbers a member, and corrects the links of the others that name it. `places` gets each of its nodes' new place;
+// the scratch holds anything after an accepted call.
 #[unsafe(no_mangle)]
 pub extern "C" fn ynd_set_renumber(
     members: &mut [[u32; 20]],

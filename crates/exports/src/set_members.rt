@@ -1,5 +1,5 @@
-// Cells that join and leave a set (T-09). A member's entry is twenty words: the cell's fifteen, then the sizes of its parts
-// of the five lists.
+// Cells that join and leave a set (T-09). A member's entry is twenty words: the cell's fifteen, then the sizes of its
+// parts of the five lists.
 ghost use Rattle.std.specs.Prelude.{◌≡◌};
 ghost use Rattle.sets.specs.CellSet.{cell_set};
 ghost use Rattle.sets.specs.Join.{join_cell};
@@ -92,8 +92,8 @@ pub extern "C" fn ynd_set_join(
     number_of(a)
 }
 
-// The member with this area leaves the set, the first joined of several. `members` are the set's entries alone; `count`
-// gets how many of them are left.
+// The member with this area leaves the set, the first joined of several. `members` are the set's entries alone;
+// `count` gets how many of them are left.
 #[unsafe(no_mangle)]
 pub extern "C" fn ynd_set_leave(
     members: &mut [[u32; 20]],

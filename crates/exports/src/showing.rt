@@ -64,8 +64,8 @@ fn seen_words(n: SeenNode) -> [usize; 19]
     ]
 }
 
-// Of the node at a place: area, street, the bits of its position, flags0 to flags5, the five unused fields, link count,
-// 1 if it has a junction and else 0, the junction's place.
+// Of the node at a place: area, street, the bits of its position, flags0 to flags5, the five unused fields, link
+// count, 1 if it has a junction and else 0, the junction's place.
 #[unsafe(no_mangle)]
 pub extern "C" fn ynd_shown_node(
     ynd: &[u32; 15],

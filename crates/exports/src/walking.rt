@@ -41,7 +41,8 @@ pub extern "C" fn ynd_walk(
         (walk_call (lent ynd.now nodes.now links.now junctions heights refs) choices.now start visited.old).answer
         end.old count.old }
     ensures visited_after { (junctions : List (List ℕ)) (heights : List ℕ) (refs : List (List ℕ)) → visited.new
-        ≡ (walk_call (lent ynd.now nodes.now links.now junctions heights refs) choices.now start visited.old).visited }
+        ≡ (walk_call (lent ynd.now nodes.now links.now junctions heights refs) choices.now start
+        visited.old).visited }
 {
     let y = ynd_of(*ynd);
     let a = walks::walk::walk(y, nodes, links, start, choices, visited);

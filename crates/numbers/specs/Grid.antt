@@ -8,7 +8,8 @@ use Rattle.numbers.specs.declared.grid.GridArea.TheVariants as area
 use Rattle.numbers.specs.declared.grid.CellBounds.{CellBounds}
 use Rattle.numbers.specs.declared.grid.CellBounds.TheVariants as bounds
 
--- Section 6: y / 512 floored and limited to 0 .. 31, exactly; NaN gives 0. What is below zero is floored to -1 or less, and so limited to 0.
+-- Section 6: y / 512 floored and limited to 0 .. 31, exactly; NaN gives 0. What is below zero is floored to -1 or
+-- less, and so limited to 0.
 unfoldable pub grid_floor : Float → ℕ
 grid_floor nan = 0
 grid_floor (inf s) = cond s 0 31
@@ -39,7 +40,8 @@ same_cell a b = a % 1024 == b % 1024
 abbrev pub cell_of_area : ℕ → GridCell
 cell_of_area a = record { x = a % 1024 % 32; y = a % 1024 / 32 }
 
--- The bounds of cell n along one axis, each operation rounded to f32: -8192 + n * 512, and 512 more. The laws `lower_exact` and `upper_exact` say that the rounding changes nothing in the grid.
+-- The bounds of cell n along one axis, each operation rounded to f32: -8192 + n * 512, and 512 more. The laws
+-- `lower_exact` and `upper_exact` say that the rounding changes nothing in the grid.
 unfoldable pub lower_bound : ℕ → Float
 unfolding add mul of_int
 lower_bound n = add binary32 (fin true 1 (pos 13)) (mul binary32 (of_int binary32 (pos n)) (fin false 1 (pos 9)))
@@ -50,4 +52,9 @@ upper_bound n = add binary32 (lower_bound n) (fin false 1 (pos 9))
 
 unfoldable pub cell_bounds : ℕ → ℕ → CellBounds
 cell_bounds cx cy =
-    cond (in_grid cx cy) (bounds.Bounds (record { x0 = lower_bound cx; y0 = lower_bound cy; x1 = upper_bound cx; y1 = upper_bound cy })) (bounds.Refused 13 0)
+    cond (in_grid cx cy) (bounds.Bounds (record {
+      x0 = lower_bound cx;
+      y0 = lower_bound cy;
+      x1 = upper_bound cx;
+      y1 = upper_bound cy;
+    })) (bounds.Refused 13 0)

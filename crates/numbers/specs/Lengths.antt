@@ -1,19 +1,22 @@
 -- Section 6: the length between two positions: the correctly rounded f32 root, at most 255, cut.
-use Rattle.std.specs.Prelude.{ℕ, zero, suc, ◌+◌, ◌-◌, ◌*◌, ◌/◌, ◌^◌, min, Bool, true, false, cond, not, ◌&&◌, nat_le, Float}
+use Rattle.std.specs.Prelude.{ℕ, zero, suc, ◌+◌, ◌-◌, ◌*◌, ◌/◌, ◌^◌, min, Bool, true, false, cond, not, ◌&&◌, nat_le}
+use Rattle.std.specs.Prelude.{Float}
 use Prim.Native.Nat.{compare}
 use Rattle.std.specs.Float.{nan, inf, fin, binary32}
 use Rattle.std.specs.Float.Ieee.{up, down, size, nearest, units}
 use Rattle.numbers.specs.Squares.{squared}
 use Rattle.numbers.specs.declared.math.Vec3.{Vec3}
 
--- The whole part of the root of n, for an n below 4 ^ d: twice that of n / 4, or one more where its square is no more than n.
+-- The whole part of the root of n, for an n below 4 ^ d: twice that of n / 4, or one more where its square is no more
+-- than n.
 unfoldable pub whole_root : ℕ → ℕ → ℕ
 whole_root zero n = 0
 whole_root (suc d) n = let r = 2 * whole_root d (n / 4) in cond (nat_le (suc r * suc r) n) (suc r) r
 
--- The f32 nearest to the root of n, a tie to the even one; the root counts units of 2 ^ -149, the smallest f32, so n counts units of 2 ^ -298.
--- As lib.Ieee's `round` does, it keeps 24 digits and drops k: q is the whole part of the root over 2 ^ k.
--- Twice the root is compared with m, twice the middle between q * 2 ^ k and (q + 1) * 2 ^ k, by their squares.
+-- The f32 nearest to the root of n, a tie to the even one; the root counts units of 2 ^ -149, the smallest f32, so n
+-- counts units of 2 ^ -298. As lib.Ieee's `round` does, it keeps 24 digits and drops k: q is the whole part of the
+-- root over 2 ^ k. Twice the root is compared with m, twice the middle between q * 2 ^ k and (q + 1) * 2 ^ k, by
+-- their squares.
 unfoldable pub root_of : ℕ → Float
 unfolding whole_root size units
 root_of n =

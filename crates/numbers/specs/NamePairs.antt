@@ -9,7 +9,8 @@ unfolding area_id_from_file_name
 name_0 = refl
 
 -- a/b\NODES0489.YND
-name_1 : area_id_from_file_name (97 ∷ 47 ∷ 98 ∷ 92 ∷ 78 ∷ 79 ∷ 68 ∷ 69 ∷ 83 ∷ 48 ∷ 52 ∷ 56 ∷ 57 ∷ 46 ∷ 89 ∷ 78 ∷ 68 ∷ []) ≡ Known 489
+name_1 : area_id_from_file_name (97 ∷ 47 ∷ 98 ∷ 92 ∷ 78 ∷ 79 ∷ 68 ∷ 69 ∷ 83 ∷ 48 ∷ 52 ∷ 56
+    ∷ 57 ∷ 46 ∷ 89 ∷ 78 ∷ 68 ∷ []) ≡ Known 489
 unfolding area_id_from_file_name
 name_1 = refl
 
@@ -39,22 +40,27 @@ unfolding area_id_from_file_name
 name_6 = refl
 
 -- nodes4294967295.ynd
-name_7 : area_id_from_file_name (110 ∷ 111 ∷ 100 ∷ 101 ∷ 115 ∷ 52 ∷ 50 ∷ 57 ∷ 52 ∷ 57 ∷ 54 ∷ 55 ∷ 50 ∷ 57 ∷ 53 ∷ 46 ∷ 121 ∷ 110 ∷ 100 ∷ []) ≡ Known 4294967295
+name_7 : area_id_from_file_name (110 ∷ 111 ∷ 100 ∷ 101 ∷ 115 ∷ 52 ∷ 50 ∷ 57 ∷ 52 ∷ 57 ∷ 54 ∷ 55
+    ∷ 50 ∷ 57 ∷ 53 ∷ 46 ∷ 121 ∷ 110 ∷ 100 ∷ []) ≡ Known 4294967295
 unfolding area_id_from_file_name
 name_7 = refl
 
 -- nodes4294967296.ynd
-name_8 : area_id_from_file_name (110 ∷ 111 ∷ 100 ∷ 101 ∷ 115 ∷ 52 ∷ 50 ∷ 57 ∷ 52 ∷ 57 ∷ 54 ∷ 55 ∷ 50 ∷ 57 ∷ 54 ∷ 46 ∷ 121 ∷ 110 ∷ 100 ∷ []) ≡ Nothing
+name_8 : area_id_from_file_name (110 ∷ 111 ∷ 100 ∷ 101 ∷ 115 ∷ 52 ∷ 50 ∷ 57 ∷ 52 ∷ 57 ∷ 54 ∷ 55
+    ∷ 50 ∷ 57 ∷ 54 ∷ 46 ∷ 121 ∷ 110 ∷ 100 ∷ []) ≡ Nothing
 unfolding area_id_from_file_name
 name_8 = refl
 
 -- nodes00000000000000000001.ynd
-name_9 : area_id_from_file_name (110 ∷ 111 ∷ 100 ∷ 101 ∷ 115 ∷ 48 ∷ 48 ∷ 48 ∷ 48 ∷ 48 ∷ 48 ∷ 48 ∷ 48 ∷ 48 ∷ 48 ∷ 48 ∷ 48 ∷ 48 ∷ 48 ∷ 48 ∷ 48 ∷ 48 ∷ 48 ∷ 48 ∷ 49 ∷ 46 ∷ 121 ∷ 110 ∷ 100 ∷ []) ≡ Known 1
+name_9 : area_id_from_file_name (110 ∷ 111 ∷ 100 ∷ 101 ∷ 115 ∷ 48 ∷ 48 ∷ 48 ∷ 48 ∷ 48 ∷ 48 ∷ 48
+    ∷ 48 ∷ 48 ∷ 48 ∷ 48 ∷ 48 ∷ 48 ∷ 48 ∷ 48 ∷ 48 ∷ 48 ∷ 48 ∷ 48 ∷ 49 ∷ 46 ∷ 121 ∷ 110
+    ∷ 100 ∷ []) ≡ Known 1
 unfolding area_id_from_file_name
 name_9 = refl
 
 -- x/nodes5.ynd/
-name_10 : area_id_from_file_name (120 ∷ 47 ∷ 110 ∷ 111 ∷ 100 ∷ 101 ∷ 115 ∷ 53 ∷ 46 ∷ 121 ∷ 110 ∷ 100 ∷ 47 ∷ []) ≡ Nothing
+name_10 : area_id_from_file_name (120 ∷ 47 ∷ 110 ∷ 111 ∷ 100 ∷ 101 ∷ 115 ∷ 53 ∷ 46 ∷ 121 ∷ 110
+    ∷ 100 ∷ 47 ∷ []) ≡ Nothing
 unfolding area_id_from_file_name
 name_10 = refl
 

@@ -1,5 +1,6 @@
 -- Section 6: the names of cell files, over bytes.
-use Rattle.std.specs.Prelude.{ℕ, ◌+◌, ◌-◌, ◌*◌, ◌/◌, ◌%◌, Bool, true, false, cond, ◌&&◌, ◌||◌, List, [], ◌∷◌, ◌++◌, length, take, drop, replicate, ◌==◌, nat_le, nat_lt}
+use Rattle.std.specs.Prelude.{ℕ, ◌+◌, ◌-◌, ◌*◌, ◌/◌, ◌%◌, Bool, true, false, cond, ◌&&◌, ◌||◌, List, [], ◌∷◌, ◌++◌}
+use Rattle.std.specs.Prelude.{length, take, drop, replicate, ◌==◌, nat_le, nat_lt}
 use Rattle.numbers.specs.Grid.{area_id}
 use Rattle.numbers.specs.declared.answer.Answer.TheVariants as answer
 use Rattle.numbers.specs.declared.grid.GridArea.{GridArea}
@@ -38,7 +39,11 @@ named s = record { answer = answer.Done; bytes = s ++ replicate (13 - length s) 
 unfoldable pub name_for : GridArea → FileName
 unfolding name_of_area named
 name_for (area.Area n) = named (name_of_area n)
-name_for (area.Refused number place) = record { answer = answer.Refused number place; bytes = replicate 13 0; count = 0 }
+name_for (area.Refused number place) = record {
+  answer = answer.Refused number place;
+  bytes = replicate 13 0;
+  count = 0;
+}
 
 abbrev pub cell_file_name : ℕ → ℕ → FileName
 cell_file_name cx cy = name_for (area_id cx cy)
@@ -69,7 +74,8 @@ starts (c ∷ cs) (d ∷ ds) = lower c == d && starts cs ds
 -- Rust's u32 parse, from the number so far: each byte a digit, and no number above 4294967295
 unfoldable pub digits_from : ℕ → List ℕ → AreaId
 digits_from n [] = Known n
-digits_from n (c ∷ cs) = cond (nat_le 48 c && nat_le c 57 && nat_le (n * 10 + (c - 48)) 4294967295) (digits_from (n * 10 + (c - 48)) cs) Nothing
+digits_from n (c ∷ cs) = cond (nat_le 48 c && nat_le c 57 && nat_le (n * 10 + (c - 48)) 4294967295)
+    (digits_from (n * 10 + (c - 48)) cs) Nothing
 
 unfoldable pub digits_of : List ℕ → AreaId
 unfolding digits_from

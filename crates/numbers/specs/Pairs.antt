@@ -1,4 +1,5 @@
--- The starred pairs of document 01 that concern numbers, over the definitions. A decimal is written as the f32 nearest to it.
+-- The starred pairs of document 01 that concern numbers, over the definitions. A decimal is written as the f32
+-- nearest to it.
 use Rattle.std.specs.Prelude.{◌≡◌, ◌-◌, ◌*◌, true, false, pos, negsuc, refl}
 use Rattle.std.specs.Float.{nan, binary32}
 use Rattle.std.specs.Float.Ieee.{round}

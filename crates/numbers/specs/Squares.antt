@@ -1,4 +1,5 @@
--- Section 6: the f32 dot product of b - a with itself, each operation rounded, in the operation order of the Rust's `math.rs`.
+-- Section 6: the f32 dot product of b - a with itself, each operation rounded, in the operation order of the Rust's
+-- `math.rs`.
 use Rattle.std.specs.Prelude.{Float}
 use Rattle.std.specs.Float.{binary32}
 use Rattle.std.specs.Float.Ieee.{add, sub, mul}

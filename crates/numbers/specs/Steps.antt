@@ -7,8 +7,8 @@ use Rattle.std.specs.Float.Ieee.{up, down, round}
 abbrev pub limited : Bool → ℕ → ℤ
 limited s n = cond s (neg_ℤ (pos (min n 32768))) (pos (min n 32767))
 
--- Section 3: value × 2 ^ k, cut towards zero, then limited; NaN gives 0. Exact: fin s m e is ±m * 2 ^ e, and 2 ^ e is up e / down e.
--- The law `as_i16` says that this is the Rust's `(x * 4.0) as i16` or `(x * 32.0) as i16`.
+-- Section 3: value × 2 ^ k, cut towards zero, then limited; NaN gives 0. Exact: fin s m e is ±m * 2 ^ e, and 2 ^ e is
+-- up e / down e. The law `as_i16` says that this is the Rust's `(x * 4.0) as i16` or `(x * 32.0) as i16`.
 unfoldable pub step_of : ℕ → Float → ℤ
 step_of k nan = pos 0
 step_of k (inf s) = limited s 32768

@@ -3,7 +3,8 @@ use Rattle.std.specs.Prelude.{ℕ, ◌<◌, not, T, List, [], ◌∷◌, from_bi
 use Rattle.std.specs.Float.{binary32}
 use Rattle.numbers.specs.Lengths.{root, reaches}
 
--- Section 6: entry k is the bit pattern of the least f32, from +0 up, whose rounded root is at least k. The law `least_entry` says so of every entry.
+-- Section 6: entry k is the bit pattern of the least f32, from +0 up, whose rounded root is at least k. The law
+-- `least_entry` says so of every entry.
 unfoldable pub thresholds : List ℕ
 thresholds =
     0x00000000 ∷ 0x3f800000 ∷ 0x40800000 ∷ 0x41100000 ∷ 0x41800000 ∷ 0x41c7ffff ∷ 0x42100000 ∷ 0x42440000 ∷

@@ -1,13 +1,14 @@
 -- T-12: "works out the 256 thresholds by whole-number comparison and prints them one a line, eight lower-case
 -- hexadecimal digits". Whether a root reaches k, asked by whole numbers, and the line that shows an entry.
-use Rattle.std.specs.Prelude.{◌≡◌, ℕ, zero, suc, ◌+◌, ◌-◌, ◌*◌, ◌/◌, ◌%◌, ◌^◌, ◌<◌, ◌≤◌, Bool, cond, List, [], ◌∷◌, nat_le, nat_lt}
+use Rattle.std.specs.Prelude.{◌≡◌, ℕ, zero, suc, ◌+◌, ◌-◌, ◌*◌, ◌/◌, ◌%◌, ◌^◌, ◌<◌, ◌≤◌, Bool, cond, List, [], ◌∷◌}
+use Rattle.std.specs.Prelude.{nat_le, nat_lt}
 use Rattle.std.specs.Float.Ieee.{size}
 use Rattle.numbers.specs.Table.{Least}
 
 -- j is how many digits k - 1 has, so that k is above 2 ^ (j - 1) and at most 2 ^ j. The f32s below k are there
 -- 2 ^ (j - 24) apart, and a root rounds to k or more where it is at least the middle between k and the one before,
--- (k * 2 ^ (25 - j) - 1) * 2 ^ (j - 25). Compared are the squares, in units of 2 ^ (2 * j - 50). The middle itself is no
--- f32's root: its square is odd in these units and has more than 24 digits. b is the pattern of
+-- (k * 2 ^ (25 - j) - 1) * 2 ^ (j - 25). Compared are the squares, in units of 2 ^ (2 * j - 50). The middle itself is
+-- no f32's root: its square is odd in these units and has more than 24 digits. b is the pattern of
 -- (2 ^ 23 + fraction) * 2 ^ (field - 150).
 unfoldable pub whole_reaches : ℕ → ℕ → ℕ → Bool
 whole_reaches k j b =

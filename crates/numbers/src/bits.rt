@@ -1,4 +1,5 @@
-// The bits of an f32, both ways, for every value. There is one NaN: it is written as 0x7fc0_0000, and each NaN's pattern is read as it.
+// The bits of an f32, both ways, for every value. There is one NaN: it is written as 0x7fc0_0000, and each NaN's
+// pattern is read as it.
 ghost use Rattle.std.specs.Prelude.{◌≡◌, from_bits, to_bits};
 ghost use Rattle.std.specs.Float.{binary32};
 

@@ -1,7 +1,8 @@
 // The grid of cells, as at the head of the Rust's `ynd.rs` (document 01, section 6): 32 by 32 cells
 // of 512 metres from (-8192, -8192). A cell's area is y * 32 + x.
 ghost use Rattle.std.specs.Prelude.{◌≡◌, ◌≤◌};
-ghost use Rattle.numbers.specs.Grid.{cell_along, cell_for_position, in_grid, area_id, cell_of_area, is_island_area, same_cell, lower_bound, cell_bounds};
+ghost use Rattle.numbers.specs.Grid.{cell_along, cell_for_position, in_grid, area_id, cell_of_area, is_island_area};
+ghost use Rattle.numbers.specs.Grid.{same_cell, lower_bound, cell_bounds};
 
 pub const CELL_SIZE: f32 = 512.0;
 

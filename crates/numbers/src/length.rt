@@ -39,7 +39,8 @@ fn square_bits(k: u32) -> u32
 // Whether b is at least the pattern of k * k, and more than one below that of the next square.
 fn is_between(b: u32, k: u32) -> bool
     requires { (b ≤ 0x7f80_0000) × (k ≤ 255) }
-    ensures { T result → (to_bits binary32 (of_int binary32 (pos (k * k))) ≤ b) × (b + 1 < to_bits binary32 (of_int binary32 (pos ((k + 1) * (k + 1))))) }
+    ensures { T result → (to_bits binary32 (of_int binary32 (pos (k * k))) ≤ b)
+        × (b + 1 < to_bits binary32 (of_int binary32 (pos ((k + 1) * (k + 1))))) }
 {
     if square_bits(k) <= b {
         return b + 1 < square_bits(k + 1);

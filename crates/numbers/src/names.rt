@@ -1,7 +1,8 @@
 // The names of cell files (document 01, section 6): nodes, the area in decimal, .ynd.
 ghost use Rattle.std.specs.Prelude.{◌≡◌, ◌≤◌, length, drop};
 ghost use Rattle.numbers.specs.declared.answer.Answer.TheVariants.{Done};
-ghost use Rattle.numbers.specs.Names.{digit, named, name_of_area, cell_file_name, slash, lower, base_of, starts, digits_of, parsed, area_of_base, area_id_from_file_name};
+ghost use Rattle.numbers.specs.Names.{digit, named, name_of_area, cell_file_name, slash, lower, base_of, starts};
+ghost use Rattle.numbers.specs.Names.{digits_of, parsed, area_of_base, area_id_from_file_name};
 
 use crate::answer::Answer;
 use crate::grid::{GridArea, area_id};

@@ -25,7 +25,8 @@ pub(crate) fn beyond(radius: u16) -> u64
 
 // The square of the steps between a, counted from the lowest, and a coordinate, given by its bits.
 fn square_apart(a: u16, bits: u32) -> u64
-    ensures { (result ≡ square_apart a (raised_step (step_of 2 (of_bits binary32 bits)))) × (result ≤ 4294836225) }
+    ensures { (result ≡ square_apart a (raised_step (step_of 2 (of_bits binary32 bits))))
+        × (result ≤ 4294836225) }
 {
     let b = steps_xy_of_bits(bits) as i32 + 32768;
     let d = (a as i32 - b) as i64;

@@ -1,5 +1,6 @@
 -- Numbers as bytes, the low byte first.
-use Rattle.std.specs.Prelude.{ℕ, zero, suc, ◌+◌, ◌-◌, ◌*◌, ◌/◌, ◌%◌, ◌<◌, ◌≡◌, cond, List, [], ◌∷◌, ℤ, pos, negsuc, ltb, get_or}
+use Rattle.std.specs.Prelude.{ℕ, zero, suc, ◌+◌, ◌-◌, ◌*◌, ◌/◌, ◌%◌, ◌<◌, ◌≡◌, cond, List, [], ◌∷◌, ℤ, pos, negsuc}
+use Rattle.std.specs.Prelude.{ltb, get_or}
 
 -- The byte at a place, 0 past the end. By the remainder any list of numbers is a list of bytes.
 abbrev pub byte_at : List ℕ → ℕ → ℕ

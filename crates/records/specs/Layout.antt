@@ -16,7 +16,8 @@ header_size = 1152
 unfoldable pub header_bytes : Root → List ℕ
 header_bytes r = root_bytes r ++ pages
 
--- Section 4: the zero bytes between n and the next multiple of 16, where a block of that size starts. An empty one has none.
+-- Section 4: the zero bytes between n and the next multiple of 16, where a block of that size starts. An empty one
+-- has none.
 unfoldable pub gap_for : ℕ → ℕ → ℕ
 gap_for n size = cond (eqb size 0) 0 ((16 - n % 16) % 16)
 
@@ -52,7 +53,8 @@ address o = cond (eqb o 0) 0 (0x50000000 + o)
 
 -- Section 4: the order of the blocks: refs, heightmap bytes, junctions, links, nodes.
 abbrev pub sizes : ℕ → ℕ → ℕ → ℕ → ℕ → List ℕ
-sizes refs heightmap junctions links nodes = refs * ref_size ∷ heightmap ∷ junctions * junction_size ∷ links * link_size ∷ nodes * node_size ∷ []
+sizes refs heightmap junctions links nodes =
+    refs * ref_size ∷ heightmap ∷ junctions * junction_size ∷ links * link_size ∷ nodes * node_size ∷ []
 
 -- the addresses and the length that sizes give, in that order
 unfoldable pub places_of : List ℕ → Places

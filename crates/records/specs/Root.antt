@@ -7,7 +7,8 @@ use Rattle.records.specs.declared.root.Root.{Root}
 unfoldable pub unknowns_of : List ℕ → List ℕ
 unknowns_of s = le32 s 36 ∷ le32 s 52 ∷ le32 s 72 ∷ le32 s 76 ∷ le32 s 92 ∷ le32 s 104 ∷ le32 s 108 ∷ []
 
--- Section 2: the root as read. Of the two ref counts the second is read; the word at 4 and the pages address at 8 are not looked at.
+-- Section 2: the root as read. Of the two ref counts the second is read; the word at 4 and the pages address at 8 are
+-- not looked at.
 unfoldable pub root_of : List ℕ → Root
 root_of s = record {
   vft = le32 s 0;
@@ -34,11 +35,13 @@ pages_address = 0x50000070
 unfoldable pub root_bytes : Root → List ℕ
 root_bytes r =
     bytes32 r.vft ++ bytes32 1 ++ bytes64 pages_address
-    ++ bytes64 r.nodes ++ bytes32 r.node_count ++ bytes32 r.vehicle_node_count ++ bytes32 r.ped_node_count ++ bytes32 (get_or r.unknowns 0 0)
+    ++ bytes64 r.nodes ++ bytes32 r.node_count ++ bytes32 r.vehicle_node_count ++ bytes32 r.ped_node_count
+    ++ bytes32 (get_or r.unknowns 0 0)
     ++ bytes64 r.links ++ bytes32 r.link_count ++ bytes32 (get_or r.unknowns 1 0)
     ++ bytes64 r.junctions ++ bytes64 r.heightmap ++ bytes32 (get_or r.unknowns 2 0) ++ bytes32 (get_or r.unknowns 3 0)
     ++ bytes64 r.refs ++ bytes16 r.ref_count ++ bytes16 r.ref_count ++ bytes32 (get_or r.unknowns 4 0)
-    ++ bytes32 r.junction_count ++ bytes32 r.heightmap_count ++ bytes32 (get_or r.unknowns 5 0) ++ bytes32 (get_or r.unknowns 6 0)
+    ++ bytes32 r.junction_count ++ bytes32 r.heightmap_count ++ bytes32 (get_or r.unknowns 5 0)
+    ++ bytes32 (get_or r.unknowns 6 0)
 
 -- The same in 28 words of 32 bits: an address takes two, the low one first; both ref counts stand in one.
 unfoldable pub root_words : Root → List ℕ

@@ -1,5 +1,5 @@
-// A cursor over a lent section: the section, and the offset of the next number. These are few and thin: the work is done
-// by the readers of `bytes`, on slice and number.
+// A cursor over a lent section: the section, and the offset of the next number. These are few and thin: the work is
+// done by the readers of `bytes`, on slice and number.
 ghost use Rattle.std.specs.Prelude.{◌≡◌, ◌+◌, ◌<◌, ◌^◌};
 ghost use Rattle.records.specs.Bytes.{le16, le32, le64};
 ghost use Rattle.records.specs.Cursor.{moved_on};

@@ -1,6 +1,7 @@
 // Where the blocks of a written section lie.
 ghost use Rattle.std.specs.Prelude.{◌≡◌, [], ◌∷◌, ◌+◌, ◌≤◌, length};
-ghost use Rattle.records.specs.Layout.{gap_for, start_of, end_of, address, sizes, places_of, header_size, header_bytes};
+ghost use Rattle.records.specs.Layout.{gap_for, start_of, end_of, address, sizes, places_of, header_size};
+ghost use Rattle.records.specs.Layout.{header_bytes};
 ghost use Rattle.records.specs.Put.{put_in, stored_to};
 
 use crate::put::{Stored, copy_words, copy_zeros};

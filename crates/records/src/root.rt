@@ -23,8 +23,8 @@ pub struct Root {
     pub unknowns: [u32; 7],
 }
 
-// The root at the section's start, read in the order of the file. What is skipped: the word at 4 and the pages address,
-// and the first ref count.
+// The root at the section's start, read in the order of the file. What is skipped: the word at 4 and the pages
+// address, and the first ref count.
 pub fn root_of(s: &[u8]) -> Root
     ensures { result ≡ root_of s.now }
 {

@@ -26,8 +26,8 @@ unfoldable pub follow_round : Memory → ℕ → List ℕ → List ℕ → WalkL
 follow_round m start choices visited =
     starting_at (node_call m.ynd m.nodes start) (λ p. walk_call m choices p visited) visited
 
--- T-11: "It refuses with 19 .. when the area isn't the cell's", which is its own area in full, and 0 for an empty cell. "a
--- version 1 round belongs to the cell it is followed in."
+-- T-11: "It refuses with 19 .. when the area isn't the cell's", which is its own area in full, and 0 for an empty
+-- cell. "a version 1 round belongs to the cell it is followed in."
 abbrev pub area_answer : Version → OwnArea → Answer
 area_answer One own = answer.Done
 area_answer (Two area) (own-area.Area a) = cond (eqb area a) answer.Done (answer.Refused 19 0)

@@ -46,8 +46,8 @@ has_version v s =
     (eqb (byte_at s 0) 82 && eqb (byte_at s 1) 78 && eqb (byte_at s 2) 68 && eqb (le16 s 3) v)
 
 -- T-03, of a file of `long` bytes whose head takes `at` of them, which is 5: 16 when the file is under 9 bytes or its
--- length isn't 9 plus the count; 7 at 8 when the choices' memory is too short. T-11: of version 2 the head takes 7, "so
--- the length is 11 plus the count": "Refusal 16 uses the length of the version found."
+-- length isn't 9 plus the count; 7 at 8 when the choices' memory is too short. T-11: of version 2 the head takes 7,
+-- "so the length is 11 plus the count": "Refusal 16 uses the length of the version found."
 abbrev pub rest_causes : ℕ → ℕ → ℕ → ℕ → List Cause
 rest_causes at long count room =
     when (ltb long (at + 4)) 16 0 ∷ when (not (eqb long (at + 4 + count))) 16 0 ∷ when (ltb room count) 7 8 ∷ []

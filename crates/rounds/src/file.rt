@@ -1,5 +1,5 @@
-// The round file (T-03, T-11): the mark RND, a version, in version 2 an area, the start node's number, the count of choices,
-// then a byte a choice. What follows the head is read and written by functions that know no version.
+// The round file (T-03, T-11): the mark RND, a version, in version 2 an area, the start node's number, the count of
+// choices, then a byte a choice. What follows the head is read and written by functions that know no version.
 ghost use Rattle.std.specs.Prelude.{◌≡◌, ◌≤◌};
 ghost use Rattle.rounds.specs.Round.{head_bytes, rest_bytes, has_version, rest_read, round_read, round_left};
 ghost use Rattle.rounds.specs.Round.{written, written_left, with_version, version_read, version_left};

@@ -1,6 +1,7 @@
--- T-09: a set in six lent lists. One holds an entry for each member, in the order of joining: its `Ynd` as 15 words, and
--- the sizes of its five parts (words 15 to 19). The other five hold all members' nodes, links, junctions, heightmap
--- values and refs, one member's part after the other's. A part may have more entries than the member's count.
+-- T-09: a set in six lent lists. One holds an entry for each member, in the order of joining: its `Ynd` as 15 words,
+-- and the sizes of its five parts (words 15 to 19). The other five hold all members' nodes, links, junctions,
+-- heightmap values and refs, one member's part after the other's. A part may have more entries than the member's
+-- count.
 use Rattle.std.specs.Prelude.{ℕ, ◌+◌, Bool, not, ◌&&◌, cond, List, [], ◌∷◌, map, ltb, leb, length, get_or, take, drop}
 use Rattle.numbers.specs.Refusals.{Cause, when}
 use Rattle.cells.specs.Lists.{every}
@@ -32,7 +33,8 @@ ynd_of w = record {
   vft = get_or w 0 0;
   vehicle_node_count = get_or w 1 0;
   ped_node_count = get_or w 2 0;
-  unknowns = get_or w 3 0 ∷ get_or w 4 0 ∷ get_or w 5 0 ∷ get_or w 6 0 ∷ get_or w 7 0 ∷ get_or w 8 0 ∷ get_or w 9 0 ∷ [];
+  unknowns =
+      get_or w 3 0 ∷ get_or w 4 0 ∷ get_or w 5 0 ∷ get_or w 6 0 ∷ get_or w 7 0 ∷ get_or w 8 0 ∷ get_or w 9 0 ∷ [];
   node_count = get_or w 10 0;
   link_count = get_or w 11 0;
   junction_count = get_or w 12 0;

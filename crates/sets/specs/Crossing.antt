@@ -26,7 +26,8 @@ abbrev pub enter : List Cell → ℕ → ℕ → Option ℕ → Next Location
 enter cs a k (some j) = arrive_in j (find (numbers (cell_at cs j).nodes) k)
 enter cs a k none = stop (Left a k)
 
--- "A walk that left its cell goes on in the member whose area the link names, after the cell's own rule has had its say."
+-- "A walk that left its cell goes on in the member whose area the link names, after the cell's own rule has had its
+-- say."
 abbrev pub on_from : List Cell → ℕ → Next ℕ → Next Location
 on_from cs i (to q) = to (location i q)
 on_from cs i (stop (Left a k)) = enter cs a k (first_with (areas cs) a)

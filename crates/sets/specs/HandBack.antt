@@ -1,5 +1,5 @@
--- T-09: a cell handed back before it leaves the set: its nodes, links, junctions, heightmap values and refs copied into
--- lists that the caller lends.
+-- T-09: a cell handed back before it leaves the set: its nodes, links, junctions, heightmap values and refs copied
+-- into lists that the caller lends.
 use Rattle.std.specs.Prelude.{ℕ, List, [], ◌∷◌, ◌++◌, ltb, length, take}
 use Rattle.std.proofs.Math.Option.{Option, none, some}
 use Rattle.numbers.specs.Refusals.{Cause, when, decided}

@@ -1,6 +1,7 @@
 -- T-09: "a cell joins .. the set by a call". "A tenth member, or nodes beyond the total, is 14"; "It refuses with 18,
 -- checked before 14, when the area is already in the set."
-use Rattle.std.specs.Prelude.{ℕ, ◌+◌, ◌-◌, Bool, not, ◌&&◌, cond, List, [], ◌∷◌, ◌++◌, ltb, leb, length, get_or, set, take, drop}
+use Rattle.std.specs.Prelude.{ℕ, ◌+◌, ◌-◌, Bool, not, ◌&&◌, cond, List, [], ◌∷◌, ◌++◌, ltb, leb, length, get_or, set}
+use Rattle.std.specs.Prelude.{take, drop}
 use Rattle.numbers.specs.Refusals.{Cause, when, decided, unless}
 use Rattle.numbers.specs.declared.answer.Answer.TheVariants.{Done, Refused}
 use Rattle.cells.specs.Memory.{Memory, memory}
@@ -29,7 +30,8 @@ stored at new l = take at l ++ (new ++ drop (at + length new) l)
 -- for the first `count` entries of a list of `have`.
 unfoldable pub part_fits : ℕ → ℕ → List (List ℕ) → ℕ → ℕ → ℕ → ℕ → Bool
 part_fits k size ws len have count room =
-    holds_list k size ws len && (leb count have && (leb count room && (ltb room 4294967296 && leb (total (words_at size ws) + room) len)))
+    holds_list k size ws len
+    && (leb count have && (leb count room && (ltb room 4294967296 && leb (total (words_at size ws) + room) len)))
 
 -- the first of the later three lists that doesn't, 5 if all do; the lists have these lengths, and the cell's those
 unfoldable pub lack_later : List (List ℕ) → PerList → PerList → Ynd → PerList → ℕ
@@ -46,7 +48,13 @@ lack_for ws lens haves y sizes =
     (lack_later ws lens haves y sizes))
 
 abbrev pub per_list : ℕ → ℕ → ℕ → ℕ → ℕ → PerList
-per_list nodes links junctions heights refs = record { nodes = nodes; links = links; junctions = junctions; heights = heights; refs = refs }
+per_list nodes links junctions heights refs = record {
+  nodes = nodes;
+  links = links;
+  junctions = junctions;
+  heights = heights;
+  refs = refs;
+}
 
 abbrev pub set_lengths : CellSet → PerList
 set_lengths y = per_list (length y.nodes) (length y.links) (length y.junctions) (length y.heights) (length y.refs)
@@ -54,8 +62,8 @@ set_lengths y = per_list (length y.nodes) (length y.links) (length y.junctions) 
 abbrev pub cell_lengths : Memory → PerList
 cell_lengths m = per_list (length m.nodes) (length m.links) (length m.junctions) (length m.heights) (length m.refs)
 
--- 18 the area is in the set; 14 the set with the cell is over a limit; 7 the first of the five lists that is too short for
--- it; 7 at 10 a list of `room` entries for the members that is full
+-- 18 the area is in the set; 14 the set with the cell is over a limit; 7 the first of the five lists that is too
+-- short for it; 7 at 10 a list of `room` entries for the members that is full
 unfoldable pub join_causes : CellSet → ℕ → Memory → PerList → List Cause
 join_causes y room m sizes =
     let lack = lack_for y.members (set_lengths y) (cell_lengths m) m.ynd sizes in

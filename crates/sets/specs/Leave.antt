@@ -1,5 +1,5 @@
--- T-09: "a cell .. leaves the set by a call", by its area. "the one that joined first is meant .. by removal"; "taking out
--- an area that the set lacks is 13".
+-- T-09: "a cell .. leaves the set by a call", by its area. "the one that joined first is meant .. by removal";
+-- "taking out an area that the set lacks is 13".
 use Rattle.std.specs.Prelude.{ℕ, zero, suc, ◌+◌, ◌-◌, not, List, [], ◌∷◌, ◌++◌, length, take, drop}
 use Rattle.std.proofs.Math.Option.{Option, none, some}
 use Rattle.numbers.specs.Refusals.{Cause, when, decided, unless}
@@ -10,7 +10,8 @@ use Rattle.sets.specs.Members.{areas}
 use Rattle.sets.specs.MemberList.{cells_of}
 use Rattle.sets.specs.CellSet.{CellSet, cell_set, words_at, total, members_of, set_causes}
 
--- what a call answers, how many members the set has after it, and the six lists; the set's entries are the first `count`
+-- what a call answers, how many members the set has after it, and the six lists; the set's entries are the first
+-- `count`
 pub record SetLeft : Type 0 where
   pub answer : Answer
   pub count : ℕ

@@ -69,7 +69,8 @@ get_junction_member y j p =
 
 abbrev pub get_height_member : CellSet → ℕ → ℕ → ℕ → GotHeight
 get_height_member y j p k =
-    ask_member y j got-height.Refused (λ m. got_height (height_entry m.ynd m.junctions (length m.heights) p k) m.heights)
+    ask_member y j got-height.Refused (λ m. got_height (height_entry m.ynd m.junctions (length m.heights) p k)
+    m.heights)
 
 -- ---- what a walk shows
 

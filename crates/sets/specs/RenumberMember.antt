@@ -22,8 +22,8 @@ member_renumbered a y places = record { answer = a; lists = y; places = places }
 
 -- ---- the links of the others
 
--- The part of the member i: each of the links that its count says, once. Entries behind them stay, and so does the part
--- of the member that is renumbered.
+-- The part of the member i: each of the links that its count says, once. Entries behind them stay, and so does the
+-- part of the member that is renumbered.
 abbrev pub correct_part : Change → ℕ → ℕ → List (List ℕ) → List (List ℕ)
 correct_part x i count part = cond (eqb i x.member) part (over (map (correct_words x i)) count part)
 

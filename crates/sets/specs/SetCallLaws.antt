@@ -93,7 +93,8 @@ pub record JoinStores (count : ℕ) (y : CellSet) (m : Memory) (sizes : PerList)
   -- "each a cell as read", if it was, and if each was
   pub as_read : CellAsRead m → CellAsRead (member_in (joined_set count y m sizes) (length (used count y).members))
   pub all_read : ((i : ℕ) → i < length (used count y).members → CellAsRead (member_in (used count y) i)) → CellAsRead m
-      → (i : ℕ) → i < length (joined_set count y m sizes).members → CellAsRead (member_in (joined_set count y m sizes) i)
+      → (i : ℕ) → i < length (joined_set count y m sizes).members
+      → CellAsRead (member_in (joined_set count y m sizes) i)
   -- the set may be used
   pub usable : decided (set_causes (joined_set count y m sizes)) ≡ Done
 
@@ -126,7 +127,8 @@ pub record LeaveKeeps (y : CellSet) (area j : ℕ) : Type 0 where
 
 abbrev pub LeaveKeepsTheorem : Type 0
 LeaveKeepsTheorem =
-    (y : CellSet) (area j : ℕ) → first_of_area y area ≡ some j → (leave_area y area).answer ≡ Done → LeaveKeeps y area j
+    (y : CellSet) (area j : ℕ) → first_of_area y area ≡ some j → (leave_area y area).answer ≡ Done
+    → LeaveKeeps y area j
 
 -- ---- joining, then leaving
 
@@ -134,7 +136,8 @@ LeaveKeepsTheorem =
 -- and the members are those before.
 pub record JoinThenLeave (count : ℕ) (y : CellSet) (m : Memory) (sizes : PerList) : Type 0 where
   pub left_again : (leave_area (joined_set count y m sizes) (area_of (cell_of m))).answer ≡ Done
-  pub it_leaves : first_of_area (joined_set count y m sizes) (area_of (cell_of m)) ≡ some (length (used count y).members)
+  pub it_leaves : first_of_area (joined_set count y m sizes) (area_of (cell_of m))
+      ≡ some (length (used count y).members)
   pub as_many : (leave_area (joined_set count y m sizes) (area_of (cell_of m))).count ≡ length (used count y).members
   pub set_back : members_of (left_set (joined_set count y m sizes) (area_of (cell_of m))) ≡ members_of (used count y)
   -- handed back before it leaves, it is the cell that joined; lists that have room for that cell have room for it
@@ -157,7 +160,8 @@ in_first places = map (λ q. location_words (location 0 q)) places
 -- The call of a crossing walk is refused like the walk's in the cell, ends like it, and stores the same places.
 abbrev pub OneMemberWalks : Type 0
 OneMemberWalks =
-    (y : CellSet) → decided (set_causes y) ≡ Done → length y.members ≡ 1 → (choices : List ℕ) (p : ℕ) (visited : List ℕ)
+    (y : CellSet) → decided (set_causes y) ≡ Done → length y.members ≡ 1
+    → (choices : List ℕ) (p : ℕ) (visited : List ℕ)
     → cross_member y choices (location 0 p) (in_first visited)
     ≡ crossing_left (walk_call (member_in y 0) choices p visited).answer
     (in_first (walk_call (member_in y 0) choices p visited).visited)

@@ -52,14 +52,15 @@ pub record SetUnnoticed (ms : List Memory) (calls : List SetCall) : Type 0 where
   -- lent visited lists of equal length, the call answers the same
   pub same_answers : (choices : List ℕ) (s : Location) → Stands (cells_of ms) s
       → (visited later : List (List ℕ)) → length later ≡ length visited
-      → (crossing_call (run_in ms calls) choices (moved_in ms calls s) later).answer ≡ (crossing_call ms choices s visited).answer
+      → (crossing_call (run_in ms calls) choices (moved_in ms calls s) later).answer
+      ≡ (crossing_call ms choices s visited).answer
   -- once a renumbering of a member has been accepted, every number in it is its place
   pub numbered : (i : ℕ) → i < length ms → any_renumbers_in ms calls i ≡ true
       → (q : ℕ) → q < length (cell_at (cells_of (run_in ms calls)) i).nodes
       → (node_at (cell_at (cells_of (run_in ms calls)) i).nodes q).number ≡ q
 
--- "For a sound set with fixed members, each a cell as read, every list of renumberings and write-then-read calls on any
--- of them". How many members there are, how many nodes together, and whether their areas differ is not asked.
+-- "For a sound set with fixed members, each a cell as read, every list of renumberings and write-then-read calls on
+-- any of them". How many members there are, how many nodes together, and whether their areas differ is not asked.
 abbrev pub SetUnnoticedTheorem : Type 0
 SetUnnoticedTheorem =
     (ms : List Memory) → ((i : ℕ) → i < length ms → CellAsRead (member_at ms i)) → set_sound (cells_of ms) ≡ true

@@ -21,7 +21,13 @@ named_of none = Nobody
 
 -- where the parts of the member j start: behind those of the members before it
 abbrev pub starts_of : List (List ℕ) → ℕ → PerList
-starts_of ws j = record { nodes = start_of 15 ws j; links = start_of 16 ws j; junctions = start_of 17 ws j; heights = start_of 18 ws j; refs = start_of 19 ws j }
+starts_of ws j = record {
+  nodes = start_of 15 ws j;
+  links = start_of 16 ws j;
+  junctions = start_of 17 ws j;
+  heights = start_of 18 ws j;
+  refs = start_of 19 ws j;
+}
 
 -- word k of the member j
 abbrev pub count_of : ℕ → List (List ℕ) → ℕ → ℕ
@@ -46,7 +52,8 @@ bare ws = map (λ w. memory (ynd_of w) [] [] [] [] []) ws
 
 -- the members' areas, by their nodes' words
 unfoldable pub areas_of : List (List ℕ) → List (List ℕ) → List ℕ
-areas_of ws nodes = map_from (λ i w. first_area (take (word 10 w) (get_or (parts_of (words_at 15 ws) nodes) i []))) 0 ws
+areas_of ws nodes =
+    map_from (λ i w. first_area (take (word 10 w) (get_or (parts_of (words_at 15 ws) nodes) i []))) 0 ws
 
 abbrev pub bare_cell : Ynd → Memory
 bare_cell y = memory y [] [] [] [] []

@@ -68,7 +68,8 @@ renumber_cells cs j = set (map_from (correct_cell (change_of cs j)) 0 cs) j (ren
 -- a link's words: a link that is not meant stays as it is
 unfoldable pub correct_words : Change → ℕ → List ℕ → List ℕ
 correct_words x i w =
-    cond (meant x i (get_or w 0 0)) (get_or w 0 0 ∷ new_number x.old (get_or w 1 0) ∷ get_or w 2 0 ∷ get_or w 3 0 ∷ []) w
+    cond (meant x i (get_or w 0 0)) (get_or w 0 0 ∷ new_number x.old (get_or w 1 0) ∷ get_or w 2 0
+    ∷ get_or w 3 0 ∷ []) w
 
 -- each of the links that the count says, once; all else stays
 unfoldable pub correct_memory : Change → ℕ → Memory → Memory
@@ -96,7 +97,8 @@ not_renumbered ms places cause place = record { answer = Refused cause place; me
 -- 13, 14; else as the cell's own renumbering answers
 unfoldable pub renumber_in : List Memory → ℕ → ℕ → List ℕ → SetRenumbered
 renumber_in ms j scratch places =
-    unless (decided (member_causes ms j)) (not_renumbered ms places) (renumbered_in ms j (renumber (member_at ms j) scratch places))
+    unless (decided (member_causes ms j)) (not_renumbered ms places)
+    (renumbered_in ms j (renumber (member_at ms j) scratch places))
 
 -- what a write-then-read answers, and the members and the section after it
 pub record SetBoth : Type 0 where
@@ -113,4 +115,5 @@ not_written ms section cause place = record { answer = written.Refused cause pla
 -- 13, 14; else as the cell's own write-then-read answers
 unfoldable pub write_read_in : List Memory → ℕ → List ℕ → SetBoth
 write_read_in ms j section =
-    unless (decided (member_causes ms j)) (not_written ms section) (both_in ms j (write_read_of (member_at ms j) section))
+    unless (decided (member_causes ms j)) (not_written ms section)
+    (both_in ms j (write_read_of (member_at ms j) section))

@@ -1,5 +1,5 @@
--- T-09: a call on one member of a set in six lent lists: what it is refused for before the cell's own causes, and the six
--- lists with another memory in the member's place.
+-- T-09: a call on one member of a set in six lent lists: what it is refused for before the cell's own causes, and the
+-- six lists with another memory in the member's place.
 use Rattle.std.specs.Prelude.{ℕ, List, [], ◌∷◌, leb, length, get_or, set}
 use Rattle.numbers.specs.Refusals.{Cause, when}
 use Rattle.records.specs.Put.{put}
@@ -21,8 +21,8 @@ ask_causes y j = when (leb (length y.members) j) 13 0 ∷ set_causes y
 abbrev pub entry_with : Ynd → List ℕ → List ℕ
 entry_with v w = entry_of v (per_list (word 15 w) (word 16 w) (word 17 w) (word 18 w) (word 19 w))
 
--- The six lists with the memory m for the member j: its `Ynd` in the entry, its lists in the parts. Every call on a cell
--- keeps the lengths of the lists that it was lent, so that m's lists are as long as the parts; all else stays.
+-- The six lists with the memory m for the member j: its `Ynd` in the entry, its lists in the parts. Every call on a
+-- cell keeps the lengths of the lists that it was lent, so that m's lists are as long as the parts; all else stays.
 unfoldable pub with_member : CellSet → ℕ → Memory → CellSet
 with_member y j m = record {
   members = set y.members j (entry_with m.ynd (get_or y.members j []));

@@ -120,7 +120,8 @@ fn nodes_meet(
 ) -> bool
     requires { Ready n target.now scratch.now × (i < length areas.now) × (l ≤ length list.now)
         × (m ≤ length nodes.now) }
-    ensures { result ≡ every (words_meet areas.now k (numbers_in n target.now) i (take l list.now)) (take m nodes.now) }
+    ensures { result ≡ every (words_meet areas.now k (numbers_in n target.now) i (take l list.now))
+        (take m nodes.now) }
 {
     let mut t = 0;
     while t < m {

@@ -70,7 +70,8 @@ fn is_member(n: Named, j: usize) -> bool
     }
 }
 
-// The links of the member i that name the area of the member j, the first of its area, unless its own rule claims them.
+// The links of the member i that name the area of the member j, the first of its area, unless its own rule claims
+// them.
 fn correct_member(
     members: &[MemberWords],
     nodes: &[NodeWords],

@@ -39,7 +39,8 @@ fn nodes_visited(
     choices: &[u8],
 ) -> usize
     requires { Walking areas.now members.now nodes.now links.now (location member place) }
-    ensures { result ≡ length (places (trail_in members.now nodes.now links.now choices.now (location member place))) }
+    ensures { result
+        ≡ length (places (trail_in members.now nodes.now links.now choices.now (location member place))) }
 {
     let mut i = member;
     let mut p = place;
@@ -176,7 +177,8 @@ fn walk_started(
 ) -> Walked
     requires { Done ≡ decided (start_causes members.now (length nodes.now) (length links.now)
         (location member place)) }
-    ensures { (junctions : List (List ℕ)) (heights : List ℕ) (refs : List (List ℕ)) → crossing_left result visited.new
+    ensures { (junctions : List (List ℕ)) (heights : List ℕ) (refs : List (List ℕ))
+        → crossing_left result visited.new
         ≡ cross_member (cell_set members.now nodes.now links.now junctions heights refs) choices.now
         (location member place) visited.old }
 {
@@ -207,7 +209,8 @@ pub fn crossing_walk(
     choices: &[u8],
     visited: &mut [LocationWords],
 ) -> Walked
-    ensures { (junctions : List (List ℕ)) (heights : List ℕ) (refs : List (List ℕ)) → crossing_left result visited.new
+    ensures { (junctions : List (List ℕ)) (heights : List ℕ) (refs : List (List ℕ))
+        → crossing_left result visited.new
         ≡ cross_member (cell_set members.now nodes.now links.now junctions heights refs) choices.now
         (location member place) visited.old }
 {

@@ -85,8 +85,8 @@ fn not_given(cause: u32, place: usize, ynd: Ynd) -> Outcome
     }
 }
 
-// The cell that `leave` would take out, copied into the caller's lists. A refusal changes nothing, and neither does the
-// set change: `leave` follows.
+// The cell that `leave` would take out, copied into the caller's lists. A refusal changes nothing, and neither does
+// the set change: `leave` follows.
 pub fn hand_back(
     members: &[MemberWords],
     nodes: &[NodeWords],
@@ -106,13 +106,11 @@ pub fn hand_back(
         ≡ hand_back (cell_set members.now nodes.now links.now junctions.now heights.now refs.now)
         area (memory ynd to_nodes.old to_links.old to_junctions.old to_heights.old to_refs.old) }
 {
-    let f = member_with(members, nodes, area);
-    let Named::Member(j) = f else {
+    let Named::Member(j) = member_with(members, nodes, area) else {
         return not_given(13, 0, ynd);
     };
     let lens = lengths(nodes, links, junctions, heights, refs);
-    let o = open_member(members, lens, j);
-    match o {
+    match open_member(members, lens, j) {
         Opened::Refused(cause, place) => not_given(cause, place, ynd),
         Opened::At(p) => {
             let lack = lacking(

@@ -1,5 +1,5 @@
-// Sets of cells (T-09): a set in six lent lists, cells that join and leave it, walks that cross its members; of one member
-// renumbering, writing, edits, lookups and what a walk shows.
+// Sets of cells (T-09): a set in six lent lists, cells that join and leave it, walks that cross its members; of one
+// member renumbering, writing, edits, lookups and what a walk shows.
 #![tactic(auto)]
 
 mod areas;

@@ -1,5 +1,5 @@
-// Entries moved and copied, one function a type of entry: those from `from` up to `end` moved down to `to`; the first n of
-// another list stored from `at` on. Later entries stay as they were.
+// Entries moved and copied, one function a type of entry: those from `from` up to `end` moved down to `to`; the first
+// n of another list stored from `at` on. Later entries stay as they were.
 ghost use Rattle.std.specs.Prelude.{◌≡◌, ◌+◌, ◌≤◌, length, take};
 ghost use Rattle.sets.specs.Join.{stored};
 ghost use Rattle.sets.specs.Leave.{closed};

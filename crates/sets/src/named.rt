@@ -1,4 +1,5 @@
-// Which member has an area, the first joined of several. Nothing is asked of the set: parts are cut where the list ends.
+// Which member has an area, the first joined of several. Nothing is asked of the set: parts are cut where the list
+// ends.
 ghost use Rattle.std.specs.Prelude.{◌≡◌, ◌≤◌, length, take, drop};
 ghost use Rattle.cells.specs.Lookup.{first_with};
 ghost use Rattle.cells.specs.NodeWords.{first_area};

@@ -107,9 +107,9 @@ fn renumber_held(
     Answer::Done
 }
 
-// Renumbers a member as `recalculate_node_indices` does a cell, and corrects the links of the others that name its area
-// and that their own rule doesn't claim, where the member is the first of its area. `places` gets each of its nodes'
-// new place; the scratch holds anything after an accepted call; a refusal changes nothing.
+// Renumbers a member as `recalculate_node_indices` does a cell, and corrects the links of the others that name its
+// area and that their own rule doesn't claim, where the member is the first of its area. `places` gets each of its
+// nodes' new place; the scratch holds anything after an accepted call; a refusal changes nothing.
 pub fn renumber_member(
     members: &mut [MemberWords],
     nodes: &mut [NodeWords],

@@ -3,7 +3,8 @@ ghost use Rattle.std.specs.Prelude.{◌≡◌, List, ℕ};
 ghost use Rattle.walks.specs.Shown.{values_left};
 ghost use Rattle.sets.specs.CellSet.{cell_set};
 ghost use Rattle.sets.specs.Lent.{Lies};
-ghost use Rattle.sets.specs.MemberLookup.{shown_node_member, shown_junction_member, shown_values_member, shown_link_member};
+ghost use Rattle.sets.specs.MemberLookup.{shown_node_member, shown_junction_member, shown_values_member};
+ghost use Rattle.sets.specs.MemberLookup.{shown_link_member};
 
 use crate::entry::MemberWords;
 use crate::member::{Opened, held, open_member};

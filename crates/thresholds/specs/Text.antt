@@ -1,5 +1,5 @@
--- T-12: "prints them one a line, eight lower-case hexadecimal digits, entry 0 first". Nothing is said of how an entry is
--- found: line k is that of the least f32 bit pattern whose rounded root is at least k.
+-- T-12: "prints them one a line, eight lower-case hexadecimal digits, entry 0 first". Nothing is said of how an entry
+-- is found: line k is that of the least f32 bit pattern whose rounded root is at least k.
 use Rattle.std.specs.Prelude.{◌≡◌, ℕ, ◌*◌, ◌<◌, Option, List, length, take, drop}
 use Rattle.std.specs.Io.KnownBytes.{Appends}
 use Rattle.numbers.specs.ThresholdSearch.{LineOfLeast}

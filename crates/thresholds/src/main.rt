@@ -1,5 +1,5 @@
-// Prints the 256 thresholds of the length table, entry 0 first, one a line in eight hexadecimal digits (T-12). `text` makes
-// every byte; here they are only written.
+// Prints the 256 thresholds of the length table, entry 0 first, one a line in eight hexadecimal digits (T-12). `text`
+// makes every byte; here they are only written.
 #![tactic(auto)]
 
 ghost use Rattle.std.specs.Prelude.{IfOk, OnOk};

@@ -9,14 +9,14 @@ use Rattle.cells.specs.WriteRead.{write_read_of}
 use Rattle.numbers.specs.declared.answer.Answer.{Answer}
 use Rattle.numbers.specs.declared.answer.Answer.TheVariants.{Done, Refused}
 
--- One call, with what is lent to it, of any length and content: a renumbering with scratch and a list for the new places,
--- a write-then-read with section memory.
+-- One call, with what is lent to it, of any length and content: a renumbering with scratch and a list for the new
+-- places, a write-then-read with section memory.
 pub data Call : Type 0 where
   renumbering : List ℕ → List ℕ → Call
   write_read : List ℕ → Call
 
--- The cell and its memory as a call leaves them, by the definitions that the contracts of the two functions cite. A refused call leaves
--- both as they were. Of the scratch only the length counts.
+-- The cell and its memory as a call leaves them, by the definitions that the contracts of the two functions cite. A
+-- refused call leaves both as they were. Of the scratch only the length counts.
 unfoldable pub after : Memory → Call → Memory
 after m (renumbering scratch places) = (renumber m (length scratch) places).memory
 after m (write_read section) = (write_read_of m section).memory
@@ -35,8 +35,9 @@ unfoldable pub renumbers : Memory → Call → Bool
 renumbers m (renumbering scratch places) = is_done (renumber m (length scratch) places).answer
 renumbers m (write_read section) = false
 
--- Where the node that is at place p before the calls stands after them. An accepted renumbering moves it as section 4's order says
--- (`new_place`: non-ped nodes first, then ped nodes, each group in old order); every other call leaves its place.
+-- Where the node that is at place p before the calls stands after them. An accepted renumbering moves it as section
+-- 4's order says (`new_place`: non-ped nodes first, then ped nodes, each group in old order); every other call leaves
+-- its place.
 unfoldable pub moved : Memory → List Call → ℕ → ℕ
 moved m [] p = p
 moved m (k ∷ ks) p = moved (after m k) ks (cond (renumbers m k) (new_place (ped_flags (cell_of m).nodes) p) p)

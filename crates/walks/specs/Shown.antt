@@ -1,5 +1,6 @@
--- Section 5: what a walk shows, as calls over the lent lists: of a node, of a junction with its heightmap values, of the link chosen.
--- Causes of refusal: 13 no such place; 14 a struct over a limit; 7 at 0 to 4 a list shorter than its count.
+-- Section 5: what a walk shows, as calls over the lent lists: of a node, of a junction with its heightmap values, of
+-- the link chosen. Causes of refusal: 13 no such place; 14 a struct over a limit; 7 at 0 to 4 a list shorter than its
+-- count.
 use Rattle.std.specs.Prelude.{ℕ, cond, List, [], leb, ltb, length}
 use Rattle.std.proofs.Math.Option.{Option, none, some}
 use Rattle.std.proofs.Math.ListN.{get_elem?}
@@ -29,8 +30,8 @@ abbrev pub inside : ℕ → Option ℕ → Option ℕ
 inside count (some j) = cond (ltb j count) (some j) none
 inside count none = none
 
--- The place of the junction that `junction_of` gives to a node of the area a with the number k. Law `junction_shown`: it is the junction
--- that the walk shows.
+-- The place of the junction that `junction_of` gives to a node of the area a with the number k. Law `junction_shown`:
+-- it is the junction that the walk shows.
 unfoldable pub junction_place : Cell → ℕ → ℕ → Option ℕ
 junction_place c a k = inside (length c.junctions) (ref_of (first_of c.nodes) c.refs a k)
 
@@ -57,7 +58,8 @@ seen_by area b count junction = record {
 
 -- what the walk shows of the node at place p, with the place of its junction
 unfoldable pub seen_node : Cell → ℕ → SeenNode
-seen_node c p = seen_by (see c p).area (see c p).body (see c p).count (place_of (junction_place c (see c p).area (node_at c.nodes p).number))
+seen_node c p = seen_by (see c p).area (see c p).body (see c p).count
+    (place_of (junction_place c (see c p).area (node_at c.nodes p).number))
 
 unfoldable pub shown_node : Memory → ℕ → ShownNode
 shown_node m p =
@@ -101,8 +103,8 @@ pub record ValuesLeft : Type 0 where
 abbrev pub values_left : ShownValues → List ℕ → ValuesLeft
 values_left a v = record { answer = a; values = v }
 
--- The values are copied to the front of a lent list: how many they are. 7 at 3 also where that list is shorter than they are.
--- A refusal leaves it as it was.
+-- The values are copied to the front of a lent list: how many they are. 7 at 3 also where that list is shorter than
+-- they are. A refusal leaves it as it was.
 unfoldable pub shown_values : Memory → ℕ → List ℕ → ValuesLeft
 shown_values m p old =
     cond (leb m.ynd.junction_count p) (values_left (values.Refused 13 0) old)

@@ -28,7 +28,8 @@ abbrev pub is_empty : List Node → Bool
 is_empty [] = true
 is_empty (n ∷ ns) = false
 
--- Section 5: a cell is sound when all nodes have one area, numbers differ, and each own link and own ref names a node of it.
--- An empty cell is sound with any refs.
+-- Section 5: a cell is sound when all nodes have one area, numbers differ, and each own link and own ref names a node
+-- of it. An empty cell is sound with any refs.
 unfoldable pub sound : Cell → Bool
-sound c = is_empty c.nodes || (every (node_sound c.nodes) c.nodes && differing (numbers c.nodes) && every (ref_named c.nodes) c.refs)
+sound c = is_empty c.nodes || (every (node_sound c.nodes) c.nodes && differing (numbers c.nodes)
+    && every (ref_named c.nodes) c.refs)

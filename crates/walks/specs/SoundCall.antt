@@ -11,7 +11,8 @@ abbrev pub verdict : Bool → Soundness
 verdict true = Sound
 verdict false = Unsound
 
--- The scratch after each number's place was stored at the number, from place i up: of equal numbers the last one's place stays.
+-- The scratch after each number's place was stored at the number, from place i up: of equal numbers the last one's
+-- place stays.
 unfoldable pub indexed : List ℕ → ℕ → List ℕ → List ℕ
 indexed [] i s = s
 indexed (k ∷ ks) i s = indexed ks (suc i) (set s k i)
@@ -24,8 +25,8 @@ pub record SoundLeft : Type 0 where
 abbrev pub sound_left : Soundness → List ℕ → SoundLeft
 sound_left a s = record { answer = a; scratch = s }
 
--- Causes of refusal: 14 a struct over a limit; 7 at 0, 1 and 4 a list shorter than its count; 7 at 6 the scratch has fewer
--- than 65,536 entries. A refusal leaves the scratch as it was.
+-- Causes of refusal: 14 a struct over a limit; 7 at 0, 1 and 4 a list shorter than its count; 7 at 6 the scratch has
+-- fewer than 65,536 entries. A refusal leaves the scratch as it was.
 unfoldable pub sound_call : Memory → List ℕ → SoundLeft
 sound_call m scratch =
     cond (over_limit m.ynd) (sound_left (Refused 14 0) scratch)

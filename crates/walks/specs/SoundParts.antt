@@ -20,7 +20,8 @@ word_named ks own w = not (belongs own (get_or w 0 0)) || is_some (first_with ks
 
 -- a node of the area own, whose links name nodes
 unfoldable pub word_sound : List ℕ → ℕ → List (List ℕ) → List ℕ → Bool
-word_sound ks own links w = eqb (area_of w) own && every (word_named ks own) (take (link_count w) (drop (link_start w) links))
+word_sound ks own links w =
+    eqb (area_of w) own && every (word_named ks own) (take (link_count w) (drop (link_start w) links))
 
 -- the first n nodes, l links and r refs, where there is a node
 unfoldable pub words_sound : ℕ → ℕ → ℕ → List (List ℕ) → List (List ℕ) → List (List ℕ) → Bool

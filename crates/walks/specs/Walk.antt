@@ -38,8 +38,8 @@ next ns p b = take_link ns (link_at ns p b)
 
 -- ---- what a walk shows
 
--- Section 5: of a node its area, its body (street, position bits, flags0 to flags5 and, T-10, the five unused fields), its
--- link count and its junction, whole.
+-- Section 5: of a node its area, its body (street, position bits, flags0 to flags5 and, T-10, the five unused
+-- fields), its link count and its junction, whole.
 pub record Seen : Type 0 where
   pub area : ℕ
   pub body : NodeBody
@@ -67,7 +67,8 @@ pub record World (L : Type 0) : Type 0 where
   pub see : L → Seen
   pub link : L → ℕ → Option LinkBody
 
--- A place visited, with what is shown there. There is no link where no choice was left, or where it was beyond the links.
+-- A place visited, with what is shown there. There is no link where no choice was left, or where it was beyond the
+-- links.
 pub record Visit (L : Type 0) : Type 0 where
   pub place : L
   pub seen : Seen

@@ -1,4 +1,5 @@
--- Section 5: the call `walk`. It needs only nodes and links: its end and its places are those of the walk (law `trail_route`).
+-- Section 5: the call `walk`. It needs only nodes and links: its end and its places are those of the walk (law
+-- `trail_route`).
 use Rattle.std.specs.Prelude.{ℕ, Bool, cond, List, [], ◌∷◌, ◌++◌, leb, ltb, length, drop}
 use Rattle.cells.specs.Memory.{Memory, over_limit}
 use Rattle.cells.specs.Cell.{Node}
@@ -30,9 +31,9 @@ pub record WalkLeft : Type 0 where
 abbrev pub walk_left : Walked → List ℕ → WalkLeft
 walk_left a visited = record { answer = a; visited = visited }
 
--- The first cause that fits, of a cell with n nodes and l links, in lists of so many entries, where `count` places go into a
--- list of `room`. Causes of refusal: 13 no such place; 14 a struct over a limit; 7 at 0 and 1 a list shorter than its count;
--- 7 at 8 the visited list is too short.
+-- The first cause that fits, of a cell with n nodes and l links, in lists of so many entries, where `count` places go
+-- into a list of `room`. Causes of refusal: 13 no such place; 14 a struct over a limit; 7 at 0 and 1 a list shorter
+-- than its count; 7 at 8 the visited list is too short.
 abbrev pub walk_cases : {A : Type 0} → Bool → ℕ → ℕ → ℕ → ℕ → ℕ → ℕ → ℕ → (ℕ → ℕ → A) → A → A
 walk_cases over n l nodes links start count room refusal answer =
     cond (leb n start) (refusal 13 0)

@@ -14,8 +14,8 @@ pub record AsWriting (m : Memory) (section : List ℕ) : Type 0 where
   -- with the same bytes in the section
   pub same_section : (write_read_of m section).section ≡ (write_call m section).section
 
--- For any two sections and any memory lent to their reading, if the reading is accepted, after every list of calls, with section memory of
--- any length and content. The cell need not be sound.
+-- For any two sections and any memory lent to their reading, if the reading is accepted, after every list of calls,
+-- with section memory of any length and content. The cell need not be sound.
 abbrev pub WritesAlike : Type 0
 WritesAlike =
     (system graphics : List ℕ) (lent : Memory) → (read_of system graphics lent).answer ≡ Done

@@ -2,7 +2,8 @@
 ghost use Rattle.std.specs.Prelude.{◌≡◌, List, ℕ, ◌<◌, length, take, drop};
 ghost use Rattle.cells.specs.Memory.{memory};
 ghost use Rattle.cells.specs.CellOf.{link_of, junction_with};
-ghost use Rattle.walks.specs.Shown.{shown_node, seen_junction, shown_junction, values_at, values_left, shown_values, seen_link, shown_link};
+ghost use Rattle.walks.specs.Shown.{shown_node, seen_junction, shown_junction, values_at, values_left, shown_values};
+ghost use Rattle.walks.specs.Shown.{seen_link, shown_link};
 ghost use Rattle.walks.specs.ShownParts.{seen_of};
 
 use cells::junction::JunctionWords;
@@ -170,7 +171,8 @@ fn seen_junction(w: JunctionWords) -> SeenJunction
 
 // The junction at a place, whatever the other lists. Its values are those of `shown_values`.
 pub fn shown_junction(ynd: Ynd, junctions: &[JunctionWords], place: usize) -> ShownJunction
-    ensures { (nodes : List (List ℕ)) (links : List (List ℕ)) (heights : List ℕ) (refs : List (List ℕ)) → result
+    ensures { (nodes : List (List ℕ)) (links : List (List ℕ)) (heights : List ℕ) (refs : List (List ℕ))
+        → result
         ≡ shown_junction (memory ynd nodes links junctions.now heights refs) place }
 {
     if ynd.junction_count as usize <= place {
@@ -212,7 +214,8 @@ fn values_at<'a>(ynd: Ynd, junctions: &[JunctionWords], heights: &'a [u8], place
     )
 }
 
-// The heightmap values of the junction at a place, copied to the front of `values`, whatever the lists that are not lent.
+// The heightmap values of the junction at a place, copied to the front of `values`, whatever the lists that are not
+// lent.
 pub fn shown_values(
     ynd: Ynd,
     junctions: &[JunctionWords],
@@ -220,7 +223,8 @@ pub fn shown_values(
     place: usize,
     values: &mut [u8],
 ) -> ShownValues
-    ensures { (nodes : List (List ℕ)) (links : List (List ℕ)) (refs : List (List ℕ)) → values_left result values.new
+    ensures { (nodes : List (List ℕ)) (links : List (List ℕ)) (refs : List (List ℕ))
+        → values_left result values.new
         ≡ shown_values (memory ynd nodes links junctions.now heights.now refs) place values.old }
 {
     if ynd.junction_count as usize <= place {

@@ -185,7 +185,8 @@ fn verdict_of(v: bool) -> Soundness
     Soundness::Unsound
 }
 
-// Whether the cell is sound, whatever its junctions and heightmaps. The scratch then holds each number's last place; a refusal changes nothing.
+// Whether the cell is sound, whatever its junctions and heightmaps. The scratch then holds each number's last place;
+// a refusal changes nothing.
 pub fn sound(
     ynd: Ynd,
     nodes: &[NodeWords],

@@ -66,7 +66,8 @@ fn step_to(p: Place) -> Step
 
 // Where the choice b leads from the node at place p.
 fn follow(ynd: Ynd, nodes: &[NodeWords], links: &[LinkWords], p: usize, b: usize) -> Step
-    requires { (over_limit ynd ≡ false) × (ynd.node_count ≤ length nodes.now) × (ynd.link_count ≤ length links.now) × (p < ynd.node_count) × (b < 256) }
+    requires { (over_limit ynd ≡ false) × (ynd.node_count ≤ length nodes.now)
+        × (ynd.link_count ≤ length links.now) × (p < ynd.node_count) × (b < 256) }
     ensures { result ≡ step_in (lent ynd nodes.now links.now) p b }
 {
     let start = link_start(nodes[p]) as usize;
@@ -95,7 +96,8 @@ fn places_visited(
     start: usize,
     choices: &[u8],
 ) -> usize
-    requires { (over_limit ynd ≡ false) × (ynd.node_count ≤ length nodes.now) × (ynd.link_count ≤ length links.now) × (start < ynd.node_count) }
+    requires { (over_limit ynd ≡ false) × (ynd.node_count ≤ length nodes.now)
+        × (ynd.link_count ≤ length links.now) × (start < ynd.node_count) }
     ensures { result ≡ length (route_in (lent ynd nodes.now links.now) choices.now start).places }
 {
     let mut p = start;
@@ -116,7 +118,8 @@ fn places_visited(
     i + 1
 }
 
-// Whether the places that a walk visits go into a list of `room` entries. They are counted only where there are as many choices.
+// Whether the places that a walk visits go into a list of `room` entries. They are counted only where there are as
+// many choices.
 fn has_room(
     ynd: Ynd,
     nodes: &[NodeWords],
@@ -125,7 +128,8 @@ fn has_room(
     choices: &[u8],
     room: usize,
 ) -> bool
-    requires { (over_limit ynd ≡ false) × (ynd.node_count ≤ length nodes.now) × (ynd.link_count ≤ length links.now) × (start < ynd.node_count) }
+    requires { (over_limit ynd ≡ false) × (ynd.node_count ≤ length nodes.now)
+        × (ynd.link_count ≤ length links.now) × (start < ynd.node_count) }
     ensures { result ≡ leb (length (route_in (lent ynd nodes.now links.now) choices.now start).places) room }
 {
     if choices.len() < room {
@@ -143,7 +147,8 @@ fn store(
     choices: &[u8],
     visited: &mut [u32],
 ) -> Traced
-    requires { (over_limit ynd ≡ false) × (ynd.node_count ≤ length nodes.now) × (ynd.link_count ≤ length links.now) × (start < ynd.node_count)
+    requires { (over_limit ynd ≡ false) × (ynd.node_count ≤ length nodes.now)
+        × (ynd.link_count ≤ length links.now) × (start < ynd.node_count)
         × (ynd.node_count ≤ 4294967295)
         × (length (route_in (lent ynd nodes.now links.now) choices.now start).places ≤ length visited.old) }
     ensures { (result ≡ traced (route_in (lent ynd nodes.now links.now) choices.now start))
@@ -175,7 +180,8 @@ fn store(
     }
 }
 
-// A walk from a place, by a byte a choice, whatever the lists that are not lent. `visited` gets the places; a refusal changes nothing.
+// A walk from a place, by a byte a choice, whatever the lists that are not lent. `visited` gets the places; a refusal
+// changes nothing.
 pub fn walk(
     ynd: Ynd,
     nodes: &[NodeWords],
@@ -184,7 +190,8 @@ pub fn walk(
     choices: &[u8],
     visited: &mut [u32],
 ) -> Walked
-    ensures { (junctions : List (List ℕ)) (heights : List ℕ) (refs : List (List ℕ)) → walk_left result visited.new
+    ensures { (junctions : List (List ℕ)) (heights : List ℕ) (refs : List (List ℕ))
+        → walk_left result visited.new
         ≡ walk_call (memory ynd nodes.now links.now junctions heights refs) choices.now start visited.old }
 {
     if ynd.node_count as usize <= start {

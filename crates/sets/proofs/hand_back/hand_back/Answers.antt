@@ -11,17 +11,17 @@ returns-in_default c =
     let x = c.args in
     let y = cell_set x.members.now x.nodes.now x.links.now x.junctions.now x.heights.now x.refs.now in
     let m = memory x.ynd x.to_nodes.now x.to_links.now x.to_junctions.now x.to_heights.now x.to_refs.now in
-    given_not m _ _ _ c.not_given.ensures ∙ hand_nobody y x.area m (sym c.in_default.is ∙ c.member_with-f.ensures)
+    given_not m _ _ _ c.not_given.ensures ∙ hand_nobody y x.area m (sym c.in_default.is ∙ c.member_with.ensures)
 
 pub returns-in-Refused : goal.returns-in-Refused
 returns-in-Refused c =
     let x = c.args in
     let y = cell_set x.members.now x.nodes.now x.links.now x.junctions.now x.heights.now x.refs.now in
     let m = memory x.ynd x.to_nodes.now x.to_links.now x.to_junctions.now x.to_heights.now x.to_refs.now in
-    let f = sym c.in-Member.is ∙ c.member_with-f.ensures in
+    let f = sym c.in-Member.is ∙ c.member_with.ensures in
     given_not m _ _ _ c.not_given-in-Refused.ensures
     ∙ hand_not y x.area m c.in-Member.j f (there y x.area c.in-Member.j f) _ _
-    (not_open y c.in-Member.j _ (lens_held y c.in-Member.j _ c.lengths-lens.ensures) _ c.open_member-o.ensures _ _
+    (not_open y c.in-Member.j _ (lens_held y c.in-Member.j _ c.lengths-lens.ensures) _ c.open_member.ensures _ _
     c.in-Refused.is)
 
 pub returns-then-lack-lt5 : goal.returns-then-lack-lt5
@@ -29,10 +29,10 @@ returns-then-lack-lt5 c =
     let x = c.args in
     let y = cell_set x.members.now x.nodes.now x.links.now x.junctions.now x.heights.now x.refs.now in
     let m = memory x.ynd x.to_nodes.now x.to_links.now x.to_junctions.now x.to_heights.now x.to_refs.now in
-    let f = sym c.in-Member.is ∙ c.member_with-f.ensures in
+    let f = sym c.in-Member.is ∙ c.member_with.ensures in
     given_not m _ _ _ c.not_given-then-lack-lt5.ensures
     ∙ hand_short y x.area m c.in-Member.j f c.in-At.p
-    (is_open y c.in-Member.j _ (lens_held y c.in-Member.j _ c.lengths-lens.ensures) _ c.open_member-o.ensures _
+    (is_open y c.in-Member.j _ (lens_held y c.in-Member.j _ c.lengths-lens.ensures) _ c.open_member.ensures _
     c.in-At.is)
     _ c.lacking-lack.ensures c.if-lack-lt5.true
 
@@ -41,9 +41,9 @@ give_part-requires c =
     let x = c.args in
     let y = cell_set x.members.now x.nodes.now x.links.now x.junctions.now x.heights.now x.refs.now in
     let m = memory x.ynd x.to_nodes.now x.to_links.now x.to_junctions.now x.to_heights.now x.to_refs.now in
-    let f = sym c.in-Member.is ∙ c.member_with-f.ensures in
+    let f = sym c.in-Member.is ∙ c.member_with.ensures in
     hand_fits y x.area m c.in-Member.j f c.in-At.p
-    (is_open y c.in-Member.j _ (lens_held y c.in-Member.j _ c.lengths-lens.ensures) _ c.open_member-o.ensures _
+    (is_open y c.in-Member.j _ (lens_held y c.in-Member.j _ c.lengths-lens.ensures) _ c.open_member.ensures _
     c.in-At.is)
     _ c.lacking-lack.ensures c.if-lack-lt5.false
 
@@ -52,9 +52,9 @@ returns-else-lack-lt5 c =
     let x = c.args in
     let y = cell_set x.members.now x.nodes.now x.links.now x.junctions.now x.heights.now x.refs.now in
     let m = memory x.ynd x.to_nodes.now x.to_links.now x.to_junctions.now x.to_heights.now x.to_refs.now in
-    let f = sym c.in-Member.is ∙ c.member_with-f.ensures in
+    let f = sym c.in-Member.is ∙ c.member_with.ensures in
     hand_done y x.area m c.in-Member.j f c.in-At.p
-    (is_open y c.in-Member.j _ (lens_held y c.in-Member.j _ c.lengths-lens.ensures) _ c.open_member-o.ensures _
+    (is_open y c.in-Member.j _ (lens_held y c.in-Member.j _ c.lengths-lens.ensures) _ c.open_member.ensures _
     c.in-At.is)
     _ c.lacking-lack.ensures c.if-lack-lt5.false
     (memory c.in-At.p.ynd c.give_part.new.to_nodes c.give_part.new.to_links c.give_part.new.to_junctions
