@@ -93,9 +93,10 @@ target/hard/fuzz-rounds: $(HARD) hard/fuzz.c $(HARD_HEADS) $(YND_ARCHIVE)
 fuzz-rounds: target/hard/fuzz-rounds seeds
 	cd target/hard && ./fuzz-rounds -max_total_time=$(FUZZ_SECONDS) -max_len=66000 -print_final_stats=1 rounds
 
+# Bound at the start (-z now): what the loader takes to bind a symbol at its first call is not the archive's stack.
 target/hard/stack: hard/stack.c include/bofrashem.h $(YND_ARCHIVE)
 	@mkdir -p $(@D)
-	$(CC_HANDHELD) $(C_FLAGS) -O1 hard/stack.c $(YND_ARCHIVE) -o $@
+	$(CC_HANDHELD) $(C_FLAGS) -O1 -Wl,-z,now hard/stack.c $(YND_ARCHIVE) -o $@
 
 stack: target/hard/stack
 	@target/hard/stack samples/yard.section

@@ -10,7 +10,6 @@ use Rattle.records.specs.Bytes.{number_at, number_bytes, bits16}
 use Rattle.records.specs.Sections.{located, extent, bytes_of, array_at}
 use Rattle.records.specs.Root.{root_of, unknowns_of, root_bytes}
 use Rattle.records.specs.Records.{node_at, link_at, junction_at, node_bytes, link_bytes, junction_bytes, ref_bytes}
-use Rattle.numbers.specs.declared.answer.Answer.TheVariants.{Done, Refused}
 use Rattle.cells.specs.Lists.{up_to, join_to, sum_to}
 use Rattle.cells.specs.Words.{path_link, link_words}
 use Rattle.cells.specs.Checks.{sizes_check, arrays_found, scan, arrays_check}
@@ -19,6 +18,9 @@ use Rattle.cells.specs.Read.{links_from, values_from, links_in, values_in, room_
 use Rattle.agreement.specs.Agree.{arrays_of, Agree}
 use Rattle.agreement.proofs.Decided.{same_arrays, agrees, agree}
 use Rattle.agreement.proofs.Agreed.{reads_same}
+use Rattle.std.specs.Prelude.{Ok, Err}
+use Rattle.numbers.specs.declared.refusal.Refusal.TheVariants.{BadArray}
+use Rattle.numbers.specs.declared.refusal.Array.TheVariants as array
 
 -- ---- a yard: two nodes, three links of which the middle one is in no node's range, a junction of 2 × 2 values, one ref
 
@@ -161,7 +163,7 @@ room =
     (record { vft = 0; vehicle_node_count = 0; ped_node_count = 0; unknowns = []; node_count = 0; link_count = 0; junction_count = 0; heightmap_count = 0; ref_count = 0 })
     ([] ∷ [] ∷ []) ([] ∷ [] ∷ []) ([] ∷ []) (0 ∷ 0 ∷ 0 ∷ 0 ∷ []) ([] ∷ [])
 
-pub accepted : (read_of system graphics room).answer ≡ Done
+pub accepted : (read_of system graphics room).answer ≡ (Ok tt)
 unfolding read_of sizes_check arrays_found read_arrays arrays_check scan sum_to room_check room located bytes_of extent root_of unknowns_of number_at node_at junction_at root_bytes node_bytes link_bytes junction_bytes ref_bytes number_bytes bits16 system graphics
 accepted = refl
 
@@ -190,7 +192,7 @@ unfolding agrees same_arrays arrays_of array_at located bytes_of extent root_of 
 bad_agree = agree bad_system graphics other_bad_system graphics tt
 
 -- both are refused with 3 at 4
-pub bad_refused : (read_of other_bad_system graphics room).answer ≡ Refused 3 4
+pub bad_refused : (read_of other_bad_system graphics room).answer ≡ Err (BadArray array.Refs)
 unfolding read_of sizes_check arrays_found room other_bad_system located bytes_of extent root_of unknowns_of number_at node_at junction_at root_bytes node_bytes link_bytes junction_bytes ref_bytes number_bytes bits16 system graphics
 bad_refused = refl
 

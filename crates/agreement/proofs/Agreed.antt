@@ -14,27 +14,29 @@ use Rattle.numbers.proofs.Units.{lt_or_ge}
 use Rattle.records.specs.Sections.{located, bytes_of, part_bytes, array_at}
 use Rattle.records.specs.declared.root.Root.{Root}
 use Rattle.records.specs.declared.section.Part.{Part}
-use Rattle.records.specs.declared.section.Located.{Located}
-use Rattle.records.specs.declared.section.Located.TheVariants.{At, Bad}
-use Rattle.numbers.specs.declared.answer.Answer.{Answer}
-use Rattle.numbers.specs.declared.answer.Answer.TheVariants.{Done, Refused}
-use Rattle.cells.specs.Checks.{root_read, too_few, refuse_if, sizes_check, opened, arrays_found, arrays_check, in_arrays, after, count_of}
+use Rattle.cells.specs.Checks.{root_read, too_few, sizes_check, opened, arrays_found, arrays_check, count_of}
 use Rattle.cells.specs.Memory.{Memory, Left, unless}
 use Rattle.cells.proofs.Reading.Undrawn.{root_drawn}
 use Rattle.cells.specs.Read.{if_found, read_arrays, read_of}
-use Rattle.cells.specs.declared.arrays.Found.{Found}
-use Rattle.cells.specs.declared.arrays.Found.TheVariants as found
-use Rattle.cells.specs.declared.count.Counted.{Counted}
 use Rattle.agreement.specs.Agree.{Arrays, arrays_of, SameArrays, Agree}
 use Rattle.agreement.proofs.SameBytes.{anywhere, part_long}
 use Rattle.agreement.proofs.SameRoots.{root_same}
 use Rattle.agreement.proofs.SameReads.{Alike, SameRanges, ranges_of, check_same, answer_same, arrays_same}
+use Rattle.std.specs.Prelude.{Result, Ok, Err, Option, Some, None}
+use Rattle.numbers.specs.Refusals.{Answer, refuse_if, and_then}
+use Rattle.numbers.specs.Refusals as numbers
+use Rattle.numbers.specs.declared.refusal.Refusal.{Refusal}
+use Rattle.numbers.specs.declared.refusal.Refusal.TheVariants.{SystemTooShort, SystemTooLong, GraphicsTooLong, BadArray}
+use Rattle.numbers.specs.declared.refusal.Array.{Array}
+use Rattle.numbers.specs.declared.refusal.Array.TheVariants as array
+use Rattle.cells.specs.declared.arrays.Arrays as lie
+use Rattle.cells.specs.declared.count.Counts.{Counts}
 
 -- ---- sections that pass 2 and 1 have a root
 
-if_done_law : (b : Bool) (cause place : ℕ) (next : Answer) → refuse_if b cause place next ≡ Done → (b ≡ false) × (next ≡ Done)
-if_done_law true cause place next e = let z : ◌≡◌ {A = ℕ} 0 1 = cc in absurd (omega arith)
-if_done_law false cause place next e = (refl, e)
+if_done_law : (b : Bool) (cause : Refusal) (next : Answer) → refuse_if b cause next ≡ Ok tt → (b ≡ false) × (next ≡ Ok tt)
+if_done_law true cause next e = let z : ◌≡◌ {A = ℕ} 0 1 = cc in absurd (omega arith)
+if_done_law false cause next e = (refl, e)
 
 -- not under 112 bytes, but for none at all
 not_none : (s : ℕ) → 0 < s → too_few s ≡ false → 112 ≤ s
@@ -43,24 +45,24 @@ not_none s h e = elim (lt_or_ge s 112) [
   | inr g ↦ g
 ]
 
-has_root : (s g : ℕ) → 0 < s → sizes_check s g ≡ Done → 112 ≤ s
+has_root : (s g : ℕ) → 0 < s → sizes_check s g ≡ (Ok tt) → 112 ≤ s
 unfolding sizes_check
 has_root s g h e =
-    let one = if_done_law (ltb 16777216 s) 2 0 (refuse_if (ltb 16777216 g) 2 1 (refuse_if (too_few s) 1 0 Done)) e in
-    let two = if_done_law (ltb 16777216 g) 2 1 (refuse_if (too_few s) 1 0 Done) one.1 in
-    not_none s h (if_done_law (too_few s) 1 0 Done two.1).0
+    let one = if_done_law (ltb 16777216 s) SystemTooLong (refuse_if (ltb 16777216 g) GraphicsTooLong (refuse_if (too_few s) SystemTooShort (Ok tt))) e in
+    let two = if_done_law (ltb 16777216 g) GraphicsTooLong (refuse_if (too_few s) SystemTooShort (Ok tt)) one.1 in
+    not_none s h (if_done_law (too_few s) SystemTooShort (Ok tt) two.1).0
 
 -- ---- the arrays where a root puts them, in sections of so many bytes
 
 -- where each lies
 pub record Places : Type 0 where
-  pub nodes : Located
-  pub links : Located
-  pub junctions : Located
-  pub heights : Located
-  pub refs : Located
+  pub nodes : Option Part
+  pub links : Option Part
+  pub junctions : Option Part
+  pub heights : Option Part
+  pub refs : Option Part
 
-abbrev pub at : Located → Located → Located → Located → Located → Places
+abbrev pub at : Option Part → Option Part → Option Part → Option Part → Option Part → Places
 at a b c d f = record { nodes = a; links = b; junctions = c; heights = d; refs = f }
 
 abbrev pub places_by : Root → ℕ → ℕ → Places
@@ -86,43 +88,45 @@ unfolding arrays_of array_at
 arrays_placed s g = refl
 
 -- the first that is bad refuses
-abbrev pub found_at : Places → Found
+abbrev pub found_at : Places → Result lie.Arrays Refusal
 found_at p =
-    opened 0 p.nodes λ n.
-    opened 1 p.links λ l.
-    opened 2 p.junctions λ j.
-    opened 3 p.heights λ h.
-    opened 4 p.refs λ f.
-    found.Arrays (record { nodes = n; links = l; junctions = j; heights = h; refs = f })
+    opened array.Nodes p.nodes λ n.
+    opened array.Links p.links λ l.
+    opened array.Junctions p.junctions λ j.
+    opened array.Heightmap p.heights λ h.
+    opened array.Refs p.refs λ f.
+    Ok (record { nodes = n; links = l; junctions = j; heights = h; refs = f })
 
 -- no array is bad
 abbrev all : Part → Part → Part → Part → Part → Places
-all n l j h r = at (At n) (At l) (At j) (At h) (At r)
+all n l j h r = at (Some n) (Some l) (Some j) (Some h) (Some r)
 
 -- some array is bad, or none is
-found_cases : (P : Places → Found → Type 0) → ((p : Places) (cause place : ℕ) → P p (found.Refused cause place))
-    → ((n l j h r : Part) → P (all n l j h r) (found.Arrays (record { nodes = n; links = l; junctions = j; heights = h; refs = r }))) → (p : Places) → P p (found_at p)
+found_cases : (P : Places → Result lie.Arrays Refusal → Type 0) → ((p : Places) (cause : Refusal) → P p (Err cause))
+    → ((n l j h r : Part) → P (all n l j h r) (Ok (record { nodes = n; links = l; junctions = j; heights = h; refs = r }))) → (p : Places) → P p (found_at p)
 found_cases P bad none p = go p.nodes p.links p.junctions p.heights p.refs
   where
-    go : (a b c d f : Located) → P (at a b c d f) (found_at (at a b c d f))
-    go Bad b c d f = bad (at Bad b c d f) 3 0
-    go (At n) Bad c d f = bad (at (At n) Bad c d f) 3 1
-    go (At n) (At l) Bad d f = bad (at (At n) (At l) Bad d f) 3 2
-    go (At n) (At l) (At j) Bad f = bad (at (At n) (At l) (At j) Bad f) 3 3
-    go (At n) (At l) (At j) (At h) Bad = bad (at (At n) (At l) (At j) (At h) Bad) 3 4
-    go (At n) (At l) (At j) (At h) (At r) = none n l j h r
+    go : (a b c d f : Option Part) → P (at a b c d f) (found_at (at a b c d f))
+    go None b c d f = bad (at None b c d f) (BadArray array.Nodes)
+    go (Some n) None c d f = bad (at (Some n) None c d f) (BadArray array.Links)
+    go (Some n) (Some l) None d f = bad (at (Some n) (Some l) None d f) (BadArray array.Junctions)
+    go (Some n) (Some l) (Some j) None f = bad (at (Some n) (Some l) (Some j) None f) (BadArray array.Heightmap)
+    go (Some n) (Some l) (Some j) (Some h) None = bad (at (Some n) (Some l) (Some j) (Some h) None) (BadArray array.Refs)
+    go (Some n) (Some l) (Some j) (Some h) (Some r) = none n l j h r
 
 -- from where they lie
 abbrev pub reading : Root → Memory → List ℕ → List ℕ → Part → Part → Part → Part → Part → Left
 reading root m s g n l j h r = read_arrays root (bytes_of n s g) (bytes_of l s g) (bytes_of j s g) (bytes_of h s g) (bytes_of r s g) m
 
-abbrev pub counting : List ℕ → List ℕ → Part → Part → Part → Part → Part → Counted
-counting s g n l j h r = arrays_check (bytes_of n s g) (bytes_of l s g) (bytes_of j s g) (bytes_of h s g) (bytes_of r s g)
+abbrev pub counting : List ℕ → List ℕ → lie.Arrays → Result Counts Refusal
+counting s g a =
+    arrays_check (bytes_of a.nodes s g) (bytes_of a.links s g) (bytes_of a.junctions s g) (bytes_of a.heights s g)
+    (bytes_of a.refs s g)
 
 module _ (s g s' g' : List ℕ) (es : length s ≡ length s') (eg : length g ≡ length g') where
-  located_long : (l : Located) → length (part_bytes l s g) ≡ length (part_bytes l s' g')
-  located_long (At p) = part_long p s g s' g' es eg
-  located_long Bad = refl
+  located_long : (l : Option Part) → length (part_bytes l s g) ≡ length (part_bytes l s' g')
+  located_long (Some p) = part_long p s g s' g' es eg
+  located_long None = refl
 
   pub alike : (p : Places) → Alike (bytes_at p s g) (bytes_at p s' g')
   alike p = record {
@@ -138,20 +142,20 @@ module _ (s g s' g' : List ℕ) (es : length s ≡ length s') (eg : length g ≡
       → if_found (found_at p) m (reading root m s g) ≡ if_found (found_at p) m (reading root m s' g')
   found_read root m =
       found_cases (λ p f. SameArrays (bytes_at p s g) (bytes_at p s' g') → if_found f m (reading root m s g) ≡ if_found f m (reading root m s' g'))
-      (λ p cause place e. refl)
+      (λ p cause e. refl)
       (λ n l j h r e. arrays_same (bytes_at (all n l j h r) s g) (bytes_at (all n l j h r) s' g') (alike (all n l j h r)) e root m)
 
   pub found_answer_law : (root : Root) (m : Memory) (p : Places) → SameRanges (bytes_at p s g) (bytes_at p s' g')
       → (if_found (found_at p) m (reading root m s g)).answer ≡ (if_found (found_at p) m (reading root m s' g')).answer
   found_answer_law root m =
       found_cases (λ p f. SameRanges (bytes_at p s g) (bytes_at p s' g') → (if_found f m (reading root m s g)).answer ≡ (if_found f m (reading root m s' g')).answer)
-      (λ p cause place e. refl)
+      (λ p cause e. refl)
       (λ n l j h r e. answer_same (bytes_at (all n l j h r) s g) (bytes_at (all n l j h r) s' g') (alike (all n l j h r)) e root m)
 
-  pub found_count : (p : Places) → SameRanges (bytes_at p s g) (bytes_at p s' g') → in_arrays (found_at p) (counting s g) ≡ in_arrays (found_at p) (counting s' g')
+  pub found_count : (p : Places) → SameRanges (bytes_at p s g) (bytes_at p s' g') → and_then (found_at p) (counting s g) ≡ and_then (found_at p) (counting s' g')
   found_count =
-      found_cases (λ p f. SameRanges (bytes_at p s g) (bytes_at p s' g') → in_arrays f (counting s g) ≡ in_arrays f (counting s' g'))
-      (λ p cause place e. refl)
+      found_cases (λ p f. SameRanges (bytes_at p s g) (bytes_at p s' g') → and_then f (counting s g) ≡ and_then f (counting s' g'))
+      (λ p cause e. refl)
       (λ n l j h r e. check_same (bytes_at (all n l j h r) s g) (bytes_at (all n l j h r) s' g') (alike (all n l j h r)) e)
 
 -- ---- the whole, by the root
@@ -184,8 +188,8 @@ module _ (s g s' g' : List ℕ) (es : length s ≡ length s') (eg : length g ≡
     where
       sizes : (c : Answer) → sizes_check (length s) (length g) ≡ c
           → unless c m (if_found (found_at places) m (reading (root_read s) m s g)) ≡ unless c m (if_found (found_at places) m (reading (root_read s) m s' g'))
-      sizes (Refused cause place) e = refl
-      sizes Done e = found_read s g s' g' es eg (root_read s) m places (by_root SameArrays (same (has_root (length s) (length g) drawn e)))
+      sizes (Err cause) e = refl
+      sizes (Ok tt) e = found_read s g s' g' es eg (root_read s) m places (by_root SameArrays (same (has_root (length s) (length g) drawn e)))
 
   -- whether it is refused, and with what, goes by the root, the nodes and the junctions alone
   pub answers_by : (112 ≤ length s → SameRanges (arrays_of s g) (arrays_of s' g')) → (m : Memory) → (read_of s g m).answer ≡ (read_of s' g' m).answer
@@ -196,13 +200,13 @@ module _ (s g s' g' : List ℕ) (es : length s ≡ length s') (eg : length g ≡
     where
       sizes : (c : Answer) → sizes_check (length s) (length g) ≡ c
           → (unless c m (if_found (found_at places) m (reading (root_read s) m s g))).answer ≡ (unless c m (if_found (found_at places) m (reading (root_read s) m s' g'))).answer
-      sizes (Refused cause place) e = refl
-      sizes Done e = found_answer_law s g s' g' es eg (root_read s) m places (by_root SameRanges (same (has_root (length s) (length g) drawn e)))
+      sizes (Err cause) e = refl
+      sizes (Ok tt) e = found_answer_law s g s' g' es eg (root_read s) m places (by_root SameRanges (same (has_root (length s) (length g) drawn e)))
 
   -- where an array is bad no array needs to agree
-  pub bad_by : (cause place : ℕ) → arrays_found (root_read s) (length s) (length g) ≡ found.Refused cause place → (m : Memory) → read_of s g m ≡ read_of s' g' m
+  pub bad_by : (cause : Refusal) → arrays_found (root_read s) (length s) (length g) ≡ Err cause → (m : Memory) → read_of s g m ≡ read_of s' g' m
   unfolding read_of
-  bad_by cause place e m =
+  bad_by cause e m =
       (λ i. unless (sizes_check (length s) (length g)) m (if_found (e i) m (reading (root_read s) m s g)))
       ∙ (λ i. unless (sizes_check (length s) (length g)) m (if_found (sym e i) m (reading (root_read s) m s' g')))
       ∙ (λ i. unless (sizes_check (es i) (eg i)) m (if_found (arrays_found (roots i) (es i) (eg i)) m (reading (roots i) m s' g')))
@@ -211,12 +215,12 @@ module _ (s g s' g' : List ℕ) (es : length s ≡ length s') (eg : length g ≡
   unfolding count_of arrays_found
   counts_by same =
       sizes (sizes_check (length s) (length g)) refl
-      ∙ (λ i. after (sizes_check (es i) (eg i)) (in_arrays (found_at (places_same i)) (counting s' g')))
+      ∙ (λ i. numbers.unless (sizes_check (es i) (eg i)) (and_then (found_at (places_same i)) (counting s' g')))
     where
       sizes : (c : Answer) → sizes_check (length s) (length g) ≡ c
-          → after c (in_arrays (found_at places) (counting s g)) ≡ after c (in_arrays (found_at places) (counting s' g'))
-      sizes (Refused cause place) e = refl
-      sizes Done e = found_count s g s' g' es eg places (by_root SameRanges (same (has_root (length s) (length g) drawn e)))
+          → numbers.unless c (and_then (found_at places) (counting s g)) ≡ numbers.unless c (and_then (found_at places) (counting s' g'))
+      sizes (Err cause) e = refl
+      sizes (Ok tt) e = found_count s g s' g' es eg places (by_root SameRanges (same (has_root (length s) (length g) drawn e)))
 
 -- ---- the whole, by the agreement
 

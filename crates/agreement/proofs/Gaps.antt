@@ -12,15 +12,14 @@ use Rattle.cells.specs.Checks.{root_read}
 use Rattle.records.specs.declared.section.Section.{Section}
 use Rattle.records.specs.declared.section.Section.TheVariants.{System, Graphics}
 use Rattle.records.specs.declared.section.Part.{Part}
-use Rattle.records.specs.declared.section.Located.{Located}
-use Rattle.records.specs.declared.section.Located.TheVariants.{At}
 use Rattle.agreement.specs.Agree.{Agree}
 use Rattle.agreement.proofs.Agreed.{Places, places_by}
 use Rattle.agreement.proofs.InPlace.{SameAt, agree_in_place}
+use Rattle.std.specs.Prelude.{Option, Some}
 
 -- offset k of the section c is no byte of the array at l
-abbrev pub OutOf : Section → ℕ → Located → Type 0
-OutOf c k l = (p : Part) → l ≡ At p → p.section ≡ c → (q : ℕ) → q < p.len → p.offset + q ≡ k → ⊥
+abbrev pub OutOf : Section → ℕ → Option Part → Type 0
+OutOf c k l = (p : Part) → l ≡ Some p → p.section ≡ c → (q : ℕ) → q < p.len → p.offset + q ≡ k → ⊥
 
 -- of none of the five
 pub record Gap (c : Section) (k : ℕ) (p : Places) : Type 0 where
@@ -34,14 +33,14 @@ other_byte : (l : List ℕ) (k x i : ℕ) → (i ≡ k → ⊥) → byte_at l i 
 other_byte l k x i h = ap (λ (y : ℕ). y % 256) (sym (get_or-set_other l k i x 0 h))
 
 module _ (s g : List ℕ) (k x : ℕ) (some : 0 < length s) where
-  in_system : (l : Located) (counts : ℕ → Type 0) → OutOf System k l → SameAt l counts s g (set s k x) g
+  in_system : (l : Option Part) (counts : ℕ → Type 0) → OutOf System k l → SameAt l counts s g (set s k x) g
   in_system l counts out p e q lt c = go p.section refl
     where
       go : (z : Section) → p.section ≡ z → byte_at (section_of z s g) (p.offset + q) ≡ byte_at (section_of z (set s k x) g) (p.offset + q)
       go System is = other_byte s k x (p.offset + q) (out p e is q lt)
       go Graphics is = refl
 
-  in_graphics : (l : Located) (counts : ℕ → Type 0) → OutOf Graphics k l → SameAt l counts s g s (set g k x)
+  in_graphics : (l : Option Part) (counts : ℕ → Type 0) → OutOf Graphics k l → SameAt l counts s g s (set g k x)
   in_graphics l counts out p e q lt c = go p.section refl
     where
       go : (z : Section) → p.section ≡ z → byte_at (section_of z s g) (p.offset + q) ≡ byte_at (section_of z s (set g k x)) (p.offset + q)

@@ -15,8 +15,6 @@ use Rattle.records.specs.Sections.{pick, inside_of, empty_part, located, extent,
 use Rattle.records.specs.declared.section.Section.{Section}
 use Rattle.records.specs.declared.section.Section.TheVariants.{System, Graphics}
 use Rattle.records.specs.declared.section.Part.{Part}
-use Rattle.records.specs.declared.section.Located.{Located}
-use Rattle.records.specs.declared.section.Located.TheVariants.{At, Bad}
 use Rattle.cells.specs.Checks.{root_read}
 use Rattle.cells.proofs.Reading.Undrawn.{root_drawn}
 use Rattle.records.specs.declared.root.Root.{Root}
@@ -24,6 +22,7 @@ use Rattle.agreement.specs.Agree.{left_out, Arrays, arrays_of, InSomeNode, InSom
 use Rattle.agreement.proofs.SameBytes.{anywhere}
 use Rattle.agreement.proofs.SameRoots.{root_same}
 use Rattle.agreement.proofs.Agreed.{Places, places_by}
+use Rattle.std.specs.Prelude.{Option, Some, None}
 
 abbrev size_of : Section → ℕ → ℕ → ℕ
 size_of System s g = s
@@ -34,30 +33,30 @@ abbrev Inside : ℕ → ℕ → Part → Type 0
 Inside s g p = p.offset + p.len ≤ size_of p.section s g
 
 -- so is whatever part l is, if any
-abbrev Only : ℕ → ℕ → Located → Type 0
-Only s g l = (p : Part) → l ≡ At p → Inside s g p
+abbrev Only : ℕ → ℕ → Option Part → Type 0
+Only s g l = (p : Part) → l ≡ Some p → Inside s g p
 
-same_part : (p q : Part) → At p ≡ At q → p ≡ q
+same_part : (p q : Part) → Some p ≡ Some q → p ≡ q
 same_part p q e = cc
 
-at_only : (s g : ℕ) (p : Part) → Inside s g p → Only s g (At p)
+at_only : (s g : ℕ) (p : Part) → Inside s g p → Only s g (Some p)
 at_only s g p h q e = subst (Inside s g) (same_part p q e) h
 
-bad_only : (s g : ℕ) → Only s g Bad
+bad_only : (s g : ℕ) → Only s g None
 bad_only s g p e = let z : ◌≡◌ {A = ℕ} 0 1 = cc in absurd (omega arith)
 
-pick_only : (s g : ℕ) (b : Bool) (x y : Located) → Only s g x → Only s g y → Only s g (pick b x y)
+pick_only : (s g : ℕ) (b : Bool) (x y : Option Part) → Only s g x → Only s g y → Only s g (pick b x y)
 pick_only s g true x y hx hy = hx
 pick_only s g false x y hx hy = hy
 
 inside_only : (s g : ℕ) (k : Section) (offset len : ℕ) → Only s g (inside_of k offset len (size_of k s g))
 inside_only s g k offset len = go (leb (offset + len) (size_of k s g)) refl
   where
-    go : (b : Bool) → leb (offset + len) (size_of k s g) ≡ b → Only s g (pick b (At (record { section = k; offset = offset; len = len })) Bad)
+    go : (b : Bool) → leb (offset + len) (size_of k s g) ≡ b → Only s g (pick b (Some (record { section = k; offset = offset; len = len })) None)
     go true e = at_only s g (record { section = k; offset = offset; len = len }) (leb-true (offset + len) (size_of k s g) e)
     go false e = bad_only s g
 
-empty_only : (s g : ℕ) → Only s g (At empty_part)
+empty_only : (s g : ℕ) → Only s g (Some empty_part)
 empty_only s g = at_only s g empty_part (omega arith)
 
 pub located_inside : (address count width s g : ℕ) → Only s g (located address count width s g)
@@ -65,20 +64,20 @@ unfolding located
 located_inside address count width s g =
     let o = address % 0x1000_0000 in
     let n = count * width in
-    let inGraphics = pick (eqb (bit_and address 0xF000_0000) 0x6000_0000) (inside_of Graphics o n g) Bad in
+    let inGraphics = pick (eqb (bit_and address 0xF000_0000) 0x6000_0000) (inside_of Graphics o n g) None in
     let inSystem = pick (eqb (bit_and address 0xF000_0000) 0x5000_0000) (inside_of System o n s) inGraphics in
-    let high = pick (leb 0x1_0000_0000 address) Bad inSystem in
-    pick_only s g (eqb address 0) (At empty_part) (pick (eqb count 0) (At empty_part) high) (empty_only s g)
-    (pick_only s g (eqb count 0) (At empty_part) high (empty_only s g)
-    (pick_only s g (leb 0x1_0000_0000 address) Bad inSystem (bad_only s g)
+    let high = pick (leb 0x1_0000_0000 address) None inSystem in
+    pick_only s g (eqb address 0) (Some empty_part) (pick (eqb count 0) (Some empty_part) high) (empty_only s g)
+    (pick_only s g (eqb count 0) (Some empty_part) high (empty_only s g)
+    (pick_only s g (leb 0x1_0000_0000 address) None inSystem (bad_only s g)
     (pick_only s g (eqb (bit_and address 0xF000_0000) 0x5000_0000) (inside_of System o n s) inGraphics (inside_only s g System o n)
-    (pick_only s g (eqb (bit_and address 0xF000_0000) 0x6000_0000) (inside_of Graphics o n g) Bad (inside_only s g Graphics o n) (bad_only s g)))))
+    (pick_only s g (eqb (bit_and address 0xF000_0000) 0x6000_0000) (inside_of Graphics o n g) None (inside_only s g Graphics o n) (bad_only s g)))))
 
 section_long : (k : Section) (s g : List ℕ) → length (section_of k s g) ≡ size_of k (length s) (length g)
 section_long System s g = refl
 section_long Graphics s g = refl
 
-module _ (address count width : ℕ) (s g : List ℕ) (p : Part) (here : located address count width (length s) (length g) ≡ At p) where
+module _ (address count width : ℕ) (s g : List ℕ) (p : Part) (here : located address count width (length s) (length g) ≡ Some p) where
   inside : p.offset + p.len ≤ length (section_of p.section s g)
   inside = omega (arith, located_inside address count width (length s) (length g) p here, section_long p.section s g)
 
@@ -100,16 +99,16 @@ module _ (address count width : ℕ) (s g : List ℕ) (p : Part) (here : located
       ∙ ap (λ (x : ℕ). x % 256) (get_or-take p.len (drop p.offset (section_of p.section s g)) k 0 h ∙ get_or-drop p.offset (section_of p.section s g) k 0)
 
 -- a bad array has no bytes
-pub array_bad : (address count width : ℕ) (s g : List ℕ) → located address count width (length s) (length g) ≡ Bad → array_at address count width s g ≡ []
+pub array_bad : (address count width : ℕ) (s g : List ℕ) → located address count width (length s) (length g) ≡ None → array_at address count width s g ≡ []
 unfolding array_at
 array_bad address count width s g e = λ i. part_bytes (e i) s g
 
 -- ---- agreement, asked of the sections' own bytes
 
 -- where an array lies, the bytes that count are the same in both sections
-abbrev pub SameAt : Located → (ℕ → Type 0) → List ℕ → List ℕ → List ℕ → List ℕ → Type 0
+abbrev pub SameAt : Option Part → (ℕ → Type 0) → List ℕ → List ℕ → List ℕ → List ℕ → Type 0
 SameAt l counts s g s' g' =
-    (p : Part) → l ≡ At p → (k : ℕ) → k < p.len → counts k → byte_at (section_of p.section s g) (p.offset + k) ≡ byte_at (section_of p.section s' g') (p.offset + k)
+    (p : Part) → l ≡ Some p → (k : ℕ) → k < p.len → counts k → byte_at (section_of p.section s g) (p.offset + k) ≡ byte_at (section_of p.section s' g') (p.offset + k)
 
 pub record SamePlaces (s g s' g' : List ℕ) (p : Places) (a : Arrays) : Type 0 where
   pub nodes : SameAt p.nodes (λ k. Unit {0}) s g s' g'
@@ -123,10 +122,10 @@ module _ (s g s' g' : List ℕ) (es : length s ≡ length s') (eg : length g ≡
       → (k : ℕ) → k < length (array_at address count width s g) → counts k → byte_at (array_at address count width s g) k ≡ byte_at (array_at address count width s' g') k
   array_agrees address count width counts same k h c = go (located address count width (length s) (length g)) refl
     where
-      go : (l : Located) → located address count width (length s) (length g) ≡ l → byte_at (array_at address count width s g) k ≡ byte_at (array_at address count width s' g') k
-      go Bad e = absurd (omega (arith, ap length (array_bad address count width s g e)))
-      go (At p) e =
-          let e' : located address count width (length s') (length g') ≡ At p = (λ i. located address count width (sym es i) (sym eg i)) ∙ e in
+      go : (l : Option Part) → located address count width (length s) (length g) ≡ l → byte_at (array_at address count width s g) k ≡ byte_at (array_at address count width s' g') k
+      go None e = absurd (omega (arith, ap length (array_bad address count width s g e)))
+      go (Some p) e =
+          let e' : located address count width (length s') (length g') ≡ Some p = (λ i. located address count width (sym es i) (sym eg i)) ∙ e in
           let lt : k < p.len = omega (arith, array_long address count width s g p e) in
           array_byte address count width s g p e k lt ∙ same p e k lt c ∙ sym (array_byte address count width s' g' p e' k lt)
 

@@ -12,20 +12,21 @@ use Rattle.records.specs.declared.root.Root.{Root}
 use Rattle.records.specs.declared.node.Node as raw-node
 use Rattle.records.specs.declared.junction.NodeJunction.{NodeJunction}
 use Rattle.records.specs.declared.junction_ref.NodeJunctionRef.{NodeJunctionRef}
-use Rattle.numbers.specs.declared.answer.Answer.{Answer}
-use Rattle.numbers.specs.declared.answer.Answer.TheVariants.{Done, Refused}
 use Rattle.cells.specs.Lists.{up_to, join_to, sum_to}
 use Rattle.cells.specs.Words.{path_node, path_link, path_junction, node_words, link_words, junction_words, ref_words}
-use Rattle.cells.specs.Checks.{scan, refuse_more, after, arrays_check, counts_of, links_at, values_at}
+use Rattle.cells.specs.Checks.{scan, arrays_check, counts_of, links_at, values_at}
 use Rattle.cells.specs.Memory.{Memory, memory, Left, unless}
 use Rattle.cells.specs.Read.{links_from, values_from, node_in, links_in, junction_in, values_in, ref_in, room_check, cell_read, filled, if_held, read_arrays}
 use Rattle.cells.specs.declared.count.Counts.{Counts}
-use Rattle.cells.specs.declared.count.Counted.{Counted}
-use Rattle.cells.specs.declared.count.Counted.TheVariants as counted
 use Rattle.cells.proofs.Reading.ReadLaws.{holds}
 use Rattle.cells.proofs.Reading.FileRead.{up_to_same}
 use Rattle.agreement.specs.Agree.{Arrays, SameArrays}
 use Rattle.agreement.proofs.SameBytes.{anywhere, link_same, node_same, junction_same, ref_same}
+use Rattle.std.specs.Prelude.{Result, Ok, Err}
+use Rattle.numbers.specs.Refusals.{Answer, refuse_if}
+use Rattle.numbers.specs.Refusals as numbers
+use Rattle.numbers.specs.declared.refusal.Refusal.{Refusal}
+use Rattle.numbers.specs.declared.refusal.Refusal.TheVariants.{TooManyNodes, TooManyJunctions, LinksOutside, ValuesOutside}
 
 join_to_same : {A : Type 0} (f g : ℕ → List A) (n : ℕ) → ((i : ℕ) → i < n → f i ≡ g i) → join_to f n ≡ join_to g n
 unfolding join_to
@@ -64,11 +65,11 @@ module _ (a b : Arrays) (long : Alike a b) (same : SameRanges a b) where
   check_same = λ q.
       let links : ℕ → ℕ = λ i. (raw_nodes q (i * 40)).link_count_flags / 8 in
       let values : ℕ → ℕ = λ i. (raw_junctions q (i * 12)).heightmap_dim_x * (raw_junctions q (i * 12)).heightmap_dim_y in
-      refuse_more (ltb 65536 (long.nodes q / 40)) 6 0
-      (refuse_more (ltb 4096 (long.junctions q / 12)) 6 1
-      (after (scan 4 (λ i. ltb (long.links q / 8) ((raw_nodes q (i * 40)).link_id + links i)) 0 (long.nodes q / 40))
-      (after (scan 5 (λ i. ltb (long.heights q) ((raw_junctions q (i * 12)).heightmap_ptr + values i)) 0 (long.junctions q / 12))
-      (counted.Held (record {
+      refuse_if (ltb 65536 (long.nodes q / 40)) TooManyNodes
+      (refuse_if (ltb 4096 (long.junctions q / 12)) TooManyJunctions
+      (numbers.unless (scan LinksOutside (λ i. ltb (long.links q / 8) ((raw_nodes q (i * 40)).link_id + links i)) 0 (long.nodes q / 40))
+      (numbers.unless (scan ValuesOutside (λ i. ltb (long.heights q) ((raw_junctions q (i * 12)).heightmap_ptr + values i)) 0 (long.junctions q / 12))
+      (Ok (record {
         nodes = long.nodes q / 40;
         links = sum_to links (long.nodes q / 40);
         junctions = long.junctions q / 12;
@@ -79,20 +80,20 @@ module _ (a b : Arrays) (long : Alike a b) (same : SameRanges a b) where
   pub answer_same : (root : Root) (m : Memory)
       → (read_arrays root a.nodes a.links a.junctions a.heights a.refs m).answer ≡ (read_arrays root b.nodes b.links b.junctions b.heights b.refs m).answer
   unfolding read_arrays
-  answer_same root m = go (arrays_check a.nodes a.links a.junctions a.heights a.refs) ∙ ap (λ (c : Counted). (if_held c m (next b)).answer) check_same
+  answer_same root m = go (arrays_check a.nodes a.links a.junctions a.heights a.refs) ∙ ap (λ (c : Result Counts Refusal). (if_held c m (next b)).answer) check_same
     where
       next : Arrays → Counts → Left
       next x k =
           unless (room_check k (length m.nodes) (length m.links) (length m.junctions) (length m.heights) (length m.refs)) m
-          (record { answer = Done; memory = filled root k x.nodes x.links x.junctions x.heights x.refs m })
+          (record { answer = (Ok tt); memory = filled root k x.nodes x.links x.junctions x.heights x.refs m })
 
-      room : (c : Answer) (x y : Memory) → (unless c m (record { answer = Done; memory = x })).answer ≡ (unless c m (record { answer = Done; memory = y })).answer
-      room (Refused cause place) x y = refl
-      room Done x y = refl
+      room : (c : Answer) (x y : Memory) → (unless c m (record { answer = (Ok tt); memory = x })).answer ≡ (unless c m (record { answer = (Ok tt); memory = y })).answer
+      room (Err cause) x y = refl
+      room (Ok tt) x y = refl
 
-      go : (c : Counted) → (if_held c m (next a)).answer ≡ (if_held c m (next b)).answer
-      go (counted.Refused cause place) = refl
-      go (counted.Held k) = room (room_check k (length m.nodes) (length m.links) (length m.junctions) (length m.heights) (length m.refs)) _ _
+      go : (c : Result Counts Refusal) → (if_held c m (next a)).answer ≡ (if_held c m (next b)).answer
+      go (Err cause) = refl
+      go (Ok k) = room (room_check k (length m.nodes) (length m.links) (length m.junctions) (length m.heights) (length m.refs)) _ _
 
 -- ---- what is stored
 
@@ -158,16 +159,16 @@ module _ (a b : Arrays) (long : Alike a b) (same : SameArrays a b) where
   pub arrays_same : (root : Root) (m : Memory)
       → read_arrays root a.nodes a.links a.junctions a.heights a.refs m ≡ read_arrays root b.nodes b.links b.junctions b.heights b.refs m
   unfolding read_arrays
-  arrays_same root m = go (arrays_check a.nodes a.links a.junctions a.heights a.refs) refl ∙ ap (λ (c : Counted). if_held c m (next b)) (check_same a b long (ranges_of a b same))
+  arrays_same root m = go (arrays_check a.nodes a.links a.junctions a.heights a.refs) refl ∙ ap (λ (c : Result Counts Refusal). if_held c m (next b)) (check_same a b long (ranges_of a b same))
     where
       room : Counts → Answer
       room k = room_check k (length m.nodes) (length m.links) (length m.junctions) (length m.heights) (length m.refs)
 
       next : Arrays → Counts → Left
-      next x k = unless (room k) m (record { answer = Done; memory = filled root k x.nodes x.links x.junctions x.heights x.refs m })
+      next x k = unless (room k) m (record { answer = (Ok tt); memory = filled root k x.nodes x.links x.junctions x.heights x.refs m })
 
-      go : (c : Counted) → arrays_check a.nodes a.links a.junctions a.heights a.refs ≡ c → if_held c m (next a) ≡ if_held c m (next b)
-      go (counted.Refused cause place) e = refl
-      go (counted.Held k) e =
+      go : (c : Result Counts Refusal) → arrays_check a.nodes a.links a.junctions a.heights a.refs ≡ c → if_held c m (next a) ≡ if_held c m (next b)
+      go (Err cause) e = refl
+      go (Ok k) e =
           subst (λ (x : Counts). next a x ≡ next b x) (sym (holds a.nodes a.links a.junctions a.heights a.refs k e).counts)
-          (λ q. unless (room counts) m (record { answer = Done; memory = filled_same root m q }))
+          (λ q. unless (room counts) m (record { answer = (Ok tt); memory = filled_same root m q }))

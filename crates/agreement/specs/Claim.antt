@@ -1,6 +1,5 @@
 -- T-14: bytes that don't count steer no round.
 use Rattle.std.specs.Prelude.{ℕ, ℤ, ◌≡◌, List, ◌∷◌, ◌++◌}
-use Rattle.numbers.specs.declared.answer.Answer.TheVariants.{Done}
 use Rattle.cells.specs.Memory.{Memory}
 use Rattle.cells.specs.Checks.{count_of}
 use Rattle.cells.specs.Read.{read_of}
@@ -21,6 +20,8 @@ use Rattle.sets.specs.MemberList.{cells_of}
 use Rattle.sets.specs.SetCalls.{SetCall, run_in}
 use Rattle.sets.specs.declared.parts.PerList.{PerList}
 use Rattle.agreement.specs.Agree.{Agree}
+use Rattle.std.specs.Prelude.{Result, Ok}
+use Rattle.numbers.specs.declared.refusal.Refusal.{Refusal}
 
 -- The words of the claim:
 --   read_of system graphics lent     what reading two sections answers, and the memory that it leaves of the memory
@@ -56,7 +57,7 @@ pub record SameLater (m m' : Memory) : Type 0 where
   pub same_round : (start : ℕ) (choices visited : List ℕ)
       → follow_round m start choices visited ≡ follow_round m' start choices visited
   -- the search may answer and leave the same; so the least sum is the same
-  pub same_path : (p q : ℕ) (scratch choices places : List ℕ) (a : Shortest) (s c t : List ℕ)
+  pub same_path : (p q : ℕ) (scratch choices places : List ℕ) (a : Result Shortest Refusal) (s c t : List ℕ)
       → (PathLeft m p q scratch choices places a s c t → PathLeft m' p q scratch choices places a s c t)
       × (PathLeft m' p q scratch choices places a s c t → PathLeft m p q scratch choices places a s c t)
   -- sets that differ in this member alone: the six lists after it joins, and crossing walks after any list of calls
@@ -70,7 +71,7 @@ pub record Uncounted (s g s' g' : List ℕ) (lent : Memory) : Type 0 where
   -- "both get the same refusal, or both give the same cell": the same answer, and the same memory left, all of it
   pub same_reading : read_of s g lent ≡ read_of s' g' lent
   -- the cell that document 01 defines for each pair, where the reading is accepted
-  pub same_cell : (read_of s g lent).answer ≡ Done → file_cell s g ≡ file_cell s' g'
+  pub same_cell : (read_of s g lent).answer ≡ (Ok tt) → file_cell s g ≡ file_cell s' g'
   -- more than document 02 asks: `count` gives the same counts or refusal
   pub same_count : count_of s g ≡ count_of s' g'
   pub same_rounds : SameRounds (read_of s g lent).memory (read_of s' g' lent).memory

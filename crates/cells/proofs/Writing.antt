@@ -5,4 +5,5 @@ pub mod CheckTurns
 pub mod WriteTotals
 pub mod WriteSteps
 pub mod BlockLaws
+pub mod BlockSteps
 pub mod Nines

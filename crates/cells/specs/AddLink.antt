@@ -3,13 +3,15 @@
 use Rattle.std.specs.Prelude.{ℕ, ◌+◌, ◌-◌, ◌*◌, ◌%◌, ◌≤◌, ◌<◌, Bool, cond, List, [], ◌∷◌, ◌++◌, map, eqb, ltb, leb}
 use Rattle.std.specs.Prelude.{length, get_or, set, take, drop}
 use Rattle.numbers.specs.Refusals.{when, decided}
-use Rattle.numbers.specs.declared.answer.Answer.{Answer}
 use Rattle.cells.specs.NodeWords.{link_start, link_count}
 use Rattle.cells.specs.Words.{link_words}
 use Rattle.cells.specs.Memory.{Memory, memory, Left, unless, over_limit}
 use Rattle.cells.specs.Edit.{link_range, held_in}
 use Rattle.cells.specs.Add.{more_links, done}
 use Rattle.cells.specs.declared.link.PathLink.{PathLink}
+use Rattle.numbers.specs.Refusals.{Answer}
+use Rattle.numbers.specs.declared.refusal.Refusal.TheVariants.{TooShort, NoSuchPlace, AtLimit}
+use Rattle.numbers.specs.declared.refusal.Lent.TheVariants as lent
 
 -- how many of its links the node at p really has, of l
 abbrev pub held_at : List (List ℕ) → ℕ → ℕ → ℕ
@@ -45,12 +47,12 @@ nodes_after n l p nodes =
 unfoldable pub room_for_link : Bool → ℕ → ℕ → ℕ → ℕ → ℕ → ℕ → Answer
 room_for_link over n l p e nodes links =
     decided
-    (when (leb n p) 13 0
-    ∷ when over 14 0
-    ∷ when (leb 4294967295 l) 14 0
-    ∷ when (leb 255 e) 14 0
-    ∷ when (ltb nodes n) 7 0
-    ∷ when (leb links l) 7 1
+    (when (leb n p) NoSuchPlace
+    ∷ when over AtLimit
+    ∷ when (leb 4294967295 l) AtLimit
+    ∷ when (leb 255 e) AtLimit
+    ∷ when (ltb nodes n) (TooShort lent.Nodes)
+    ∷ when (leb links l) (TooShort lent.Links)
     ∷ [])
 
 unfoldable pub add_link : Memory → ℕ → PathLink → Left

@@ -8,7 +8,7 @@ use Rattle.cells.specs.Read.{room_check}
 use Rattle.cells.specs.Entries.{links_in}
 use Rattle.cells.specs.Blocks.{heights_block}
 use Rattle.cells.specs.declared.count.Counts.{Counts}
-use Rattle.numbers.specs.declared.answer.Answer.{Answer}
+use Rattle.numbers.specs.Refusals.{Answer}
 
 -- how much is written of the cell h
 abbrev pub held_counts : Memory → Counts

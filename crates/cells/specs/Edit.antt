@@ -1,45 +1,34 @@
 -- Section 4, other calls: entries taken out and stored by place. Causes of refusal, in their order: 13 no such place,
 -- 14 a struct over a limit, 12, 7 a list shorter than its count. What needs an entry is asked of one that is lent.
-use Rattle.std.specs.Prelude.{ℕ, ◌+◌, ◌-◌, ◌*◌, min, Bool, not, cond, ◌&&◌, List, [], ◌∷◌, eqb, ltb, leb, length}
+use Rattle.std.specs.Prelude.{ℕ, ◌+◌, ◌-◌, ◌*◌, min, Bool, not, ◌&&◌, List, [], ◌∷◌, eqb, ltb, leb, length}
 use Rattle.std.specs.Prelude.{get_or, set}
-use Rattle.numbers.specs.Refusals.{when, decided, unless as otherwise}
+use Rattle.numbers.specs.Refusals.{when, decided, unless}
 use Rattle.cells.specs.NodeWords.{link_start, link_count, value_start, value_count}
 use Rattle.cells.specs.Words.{to_node, node_words, to_link, link_words, to_junction, junction_words, to_ref, ref_words}
 use Rattle.cells.specs.NodeAccess.{with_position, with_range}
 use Rattle.cells.specs.Memory.{over_limit}
 use Rattle.numbers.specs.Positions.{quantised, dequantised}
 use Rattle.numbers.specs.declared.math.Vec3.{Vec3}
-use Rattle.numbers.specs.declared.answer.Answer.{Answer}
-use Rattle.numbers.specs.declared.answer.Answer.TheVariants as answer
 use Rattle.records.specs.declared.junction_ref.NodeJunctionRef.{NodeJunctionRef}
 use Rattle.cells.specs.declared.ynd.Ynd.{Ynd}
 use Rattle.cells.specs.declared.node.PathNode.{PathNode}
 use Rattle.cells.specs.declared.link.PathLink.{PathLink}
 use Rattle.cells.specs.declared.junction.PathJunction.{PathJunction}
 use Rattle.cells.specs.declared.range.Range.{Range}
-use Rattle.cells.specs.declared.entry.Entry.{Entry}
-use Rattle.cells.specs.declared.entry.Entry.TheVariants.{At, Refused}
-use Rattle.cells.specs.declared.get.GotNode.{GotNode}
-use Rattle.cells.specs.declared.get.GotNode.TheVariants as got-node
-use Rattle.cells.specs.declared.get.GotLink.{GotLink}
-use Rattle.cells.specs.declared.get.GotLink.TheVariants as got-link
-use Rattle.cells.specs.declared.get.GotRef.{GotRef}
-use Rattle.cells.specs.declared.get.GotRef.TheVariants as got-ref
-use Rattle.cells.specs.declared.get.GotJunction.{GotJunction}
-use Rattle.cells.specs.declared.get.GotJunction.TheVariants as got-junction
-use Rattle.cells.specs.declared.get.GotHeight.{GotHeight}
-use Rattle.cells.specs.declared.get.GotHeight.TheVariants as got-height
+use Rattle.std.specs.Prelude.{Result, Ok, Err}
+use Rattle.numbers.specs.Refusals.{Answer}
+use Rattle.numbers.specs.declared.refusal.Refusal.{Refusal}
+use Rattle.numbers.specs.declared.refusal.Refusal.TheVariants.{TooShort, WrongSize, NoSuchPlace, AtLimit}
+use Rattle.numbers.specs.declared.refusal.Lent.{Lent}
+use Rattle.numbers.specs.declared.refusal.Lent.TheVariants as lent
 
 -- ---- the entry that a place names
 
-abbrev pub entry_if : Bool → ℕ → ℕ → Entry → Entry
-entry_if b cause place next = cond b (Refused cause place) next
-
 -- the entry at the place p of n, in a list of this length, whose own place is `list`; `over` says that a limit is
 -- passed
-unfoldable pub entry_at : Bool → ℕ → ℕ → ℕ → ℕ → Entry
+unfoldable pub entry_at : Bool → ℕ → ℕ → Lent → ℕ → Result ℕ Refusal
 entry_at over n len list p =
-    otherwise (decided (when (leb n p) 13 0 ∷ when over 14 0 ∷ when (ltb len n) 7 list ∷ [])) Refused (At p)
+    unless (decided (when (leb n p) NoSuchPlace ∷ when over AtLimit ∷ when (ltb len n) (TooShort list) ∷ [])) (Ok p)
 
 -- Section 4: a node's range of links, a junction's range of values; none at a place that the list has not
 abbrev pub link_range : List (List ℕ) → ℕ → Range
@@ -57,57 +46,57 @@ held_in r l = min r.count (l - r.start)
 
 -- entry k of the range r, which belongs to the place p of n and lies among l entries of a pool; both lists' lengths,
 -- and their own places a and b
-unfoldable pub range_entry : Bool → ℕ → ℕ → ℕ → ℕ → ℕ → ℕ → ℕ → Range → ℕ → Entry
+unfoldable pub range_entry : Bool → ℕ → ℕ → Lent → ℕ → ℕ → Lent → ℕ → Range → ℕ → Result ℕ Refusal
 range_entry over n len a l pool b p r k =
-    otherwise
+    unless
     (decided
-    (when (leb n p) 13 0
-    ∷ when (ltb p len && leb (held_in r l) k) 13 0
-    ∷ when over 14 0
-    ∷ when (ltb len n) 7 a
-    ∷ when (ltb pool l) 7 b
-    ∷ []))
-    Refused (At (r.start + k))
+    (when (leb n p) NoSuchPlace
+    ∷ when (ltb p len && leb (held_in r l) k) NoSuchPlace
+    ∷ when over AtLimit
+    ∷ when (ltb len n) (TooShort a)
+    ∷ when (ltb pool l) (TooShort b)
+    ∷ [])) (Ok (r.start + k))
 
-unfoldable pub node_entry : Ynd → List (List ℕ) → ℕ → Entry
-node_entry y nodes p = entry_at (over_limit y) y.node_count (length nodes) 0 p
+unfoldable pub node_entry : Ynd → List (List ℕ) → ℕ → Result ℕ Refusal
+node_entry y nodes p = entry_at (over_limit y) y.node_count (length nodes) lent.Nodes p
 
-unfoldable pub link_entry : Ynd → List (List ℕ) → ℕ → ℕ → ℕ → Entry
+unfoldable pub link_entry : Ynd → List (List ℕ) → ℕ → ℕ → ℕ → Result ℕ Refusal
 link_entry y nodes links p k =
-    range_entry (over_limit y) y.node_count (length nodes) 0 y.link_count links 1 p (link_range nodes p) k
+    range_entry (over_limit y) y.node_count (length nodes) lent.Nodes y.link_count links lent.Links p
+    (link_range nodes p) k
 
-unfoldable pub ref_entry : Ynd → List (List ℕ) → ℕ → Entry
-ref_entry y refs p = entry_at (over_limit y) y.ref_count (length refs) 4 p
+unfoldable pub ref_entry : Ynd → List (List ℕ) → ℕ → Result ℕ Refusal
+ref_entry y refs p = entry_at (over_limit y) y.ref_count (length refs) lent.Refs p
 
-unfoldable pub junction_entry : Ynd → List (List ℕ) → ℕ → Entry
-junction_entry y junctions p = entry_at (over_limit y) y.junction_count (length junctions) 2 p
+unfoldable pub junction_entry : Ynd → List (List ℕ) → ℕ → Result ℕ Refusal
+junction_entry y junctions p = entry_at (over_limit y) y.junction_count (length junctions) lent.Junctions p
 
-unfoldable pub height_entry : Ynd → List (List ℕ) → ℕ → ℕ → ℕ → Entry
+unfoldable pub height_entry : Ynd → List (List ℕ) → ℕ → ℕ → ℕ → Result ℕ Refusal
 height_entry y junctions heights p k =
-    range_entry (over_limit y) y.junction_count (length junctions) 2 y.heightmap_count heights 3 p
-    (value_range junctions p) k
+    range_entry (over_limit y) y.junction_count (length junctions) lent.Junctions y.heightmap_count heights
+    lent.Heightmap p (value_range junctions p) k
 
 -- ---- taken out
 
-abbrev pub got_node : Entry → List (List ℕ) → GotNode
-got_node (At i) nodes = got-node.Node (to_node (get_or nodes i []))
-got_node (Refused cause place) nodes = got-node.Refused cause place
+abbrev pub got_node : Result ℕ Refusal → List (List ℕ) → Result PathNode Refusal
+got_node (Ok i) nodes = Ok (to_node (get_or nodes i []))
+got_node (Err cause) nodes = Err cause
 
-abbrev pub got_link : Entry → List (List ℕ) → GotLink
-got_link (At i) links = got-link.Link (to_link (get_or links i []))
-got_link (Refused cause place) links = got-link.Refused cause place
+abbrev pub got_link : Result ℕ Refusal → List (List ℕ) → Result PathLink Refusal
+got_link (Ok i) links = Ok (to_link (get_or links i []))
+got_link (Err cause) links = Err cause
 
-abbrev pub got_ref : Entry → List (List ℕ) → GotRef
-got_ref (At i) refs = got-ref.Ref (to_ref (get_or refs i []))
-got_ref (Refused cause place) refs = got-ref.Refused cause place
+abbrev pub got_ref : Result ℕ Refusal → List (List ℕ) → Result NodeJunctionRef Refusal
+got_ref (Ok i) refs = Ok (to_ref (get_or refs i []))
+got_ref (Err cause) refs = Err cause
 
-abbrev pub got_junction : Entry → List (List ℕ) → GotJunction
-got_junction (At i) junctions = got-junction.Junction (to_junction (get_or junctions i []))
-got_junction (Refused cause place) junctions = got-junction.Refused cause place
+abbrev pub got_junction : Result ℕ Refusal → List (List ℕ) → Result PathJunction Refusal
+got_junction (Ok i) junctions = Ok (to_junction (get_or junctions i []))
+got_junction (Err cause) junctions = Err cause
 
-abbrev pub got_height : Entry → List ℕ → GotHeight
-got_height (At i) heights = got-height.Value (get_or heights i 0)
-got_height (Refused cause place) heights = got-height.Refused cause place
+abbrev pub got_height : Result ℕ Refusal → List ℕ → Result ℕ Refusal
+got_height (Ok i) heights = Ok (get_or heights i 0)
+got_height (Err cause) heights = Err cause
 
 -- ---- stored
 
@@ -120,9 +109,9 @@ abbrev pub stored : {A : Type 0} → Answer → List A → Stored A
 stored a l = record { answer = a; list = l }
 
 -- an entry changed; a refusal leaves the list as it was
-abbrev pub change_at : {A : Type 0} → Entry → (A → A) → A → List A → Stored A
-change_at (At i) f d l = stored answer.Done (set l i (f (get_or l i d)))
-change_at (Refused cause place) f d l = stored (answer.Refused cause place) l
+abbrev pub change_at : {A : Type 0} → Result ℕ Refusal → (A → A) → A → List A → Stored A
+change_at (Ok i) f d l = stored (Ok tt) (set l i (f (get_or l i d)))
+change_at (Err cause) f d l = stored (Err cause) l
 
 -- a node with the range of links that its entry has
 unfoldable pub range_kept : PathNode → List ℕ → PathNode
@@ -154,16 +143,15 @@ start_at j start = record {
 }
 
 -- 12: the values stay as many
-unfoldable pub sized_entry : Bool → ℕ → ℕ → ℕ → ℕ → ℕ → Entry
+unfoldable pub sized_entry : Bool → ℕ → ℕ → ℕ → ℕ → ℕ → Result ℕ Refusal
 sized_entry over n len p values held =
-    otherwise
+    unless
     (decided
-    (when (leb n p) 13 0
-    ∷ when over 14 0
-    ∷ when (ltb p len && not (eqb values held)) 12 0
-    ∷ when (ltb len n) 7 2
-    ∷ []))
-    Refused (At p)
+    (when (leb n p) NoSuchPlace
+    ∷ when over AtLimit
+    ∷ when (ltb p len && not (eqb values held)) WrongSize
+    ∷ when (ltb len n) (TooShort lent.Junctions)
+    ∷ [])) (Ok p)
 
 unfoldable pub put_junction : Ynd → List (List ℕ) → ℕ → PathJunction → Stored (List ℕ)
 put_junction y junctions p j =

@@ -10,6 +10,7 @@ pub mod NewYnd
 pub mod Checks
 pub mod Memory
 pub mod Read
+pub mod RangedParts
 pub mod Order
 pub mod NodeWords
 pub mod Moves
@@ -33,8 +34,9 @@ pub mod PutHeightmap
 pub mod StoredCell
 pub mod Entries
 pub mod WriteChecks
-pub mod WriteCounts
 pub mod Blocks
+pub mod WriteCounts
+pub mod Held
 pub mod Write
 pub mod WriteRead
 pub mod BackCheck

@@ -1,7 +1,7 @@
 -- Section 4, other calls: what the lookups answer over lent lists. A struct over a limit is refused (14), then a list
 -- shorter than its count (7).
 use Rattle.std.specs.Prelude.{ℕ, cond, List, [], ◌∷◌, map, ltb, length, take}
-use Rattle.std.proofs.Math.Option.{Option, none, some}
+use Rattle.std.proofs.Math.Option.{Option as Found, none, some}
 use Rattle.std.proofs.Math.ListN.{get_elem?}
 use Rattle.cells.specs.NodeWords.{area_of, number_of, first_area}
 use Rattle.cells.specs.Memory.{over_limit}
@@ -9,59 +9,63 @@ use Rattle.cells.specs.Cell.{Junction}
 use Rattle.cells.specs.CellOf.{ref_of as to_ref}
 use Rattle.cells.specs.Lookup.{first_with, find, ref_of}
 use Rattle.cells.specs.declared.ynd.Ynd.{Ynd}
-use Rattle.cells.specs.declared.lookup.OwnArea.{OwnArea}
-use Rattle.cells.specs.declared.lookup.OwnArea.TheVariants as own-area
-use Rattle.cells.specs.declared.lookup.Place.{Place}
-use Rattle.cells.specs.declared.lookup.Place.TheVariants.{At, Nothing, Refused}
+use Rattle.std.specs.Prelude.{Option, Result, Ok, Err, Some, None}
+use Rattle.numbers.specs.declared.refusal.Refusal.{Refusal}
+use Rattle.numbers.specs.declared.refusal.Refusal.TheVariants.{TooShort, AtLimit}
+use Rattle.numbers.specs.declared.refusal.Lent.TheVariants as lent
 
-abbrev pub area_of_first : List (List ℕ) → OwnArea
-area_of_first [] = own-area.Nothing
-area_of_first (w ∷ ws) = own-area.Area (area_of w)
+-- a number found, or none, or a refusal
+abbrev pub Place : Type 0
+Place = Result (Option ℕ) Refusal
+
+abbrev pub area_of_first : List (List ℕ) → Option ℕ
+area_of_first [] = None
+area_of_first (w ∷ ws) = Some (area_of w)
 
 -- Section 4, renumbering: the own area is the first node's
-unfoldable pub area_id_call : Ynd → List (List ℕ) → OwnArea
+unfoldable pub area_id_call : Ynd → List (List ℕ) → Place
 area_id_call y nodes =
-    cond (over_limit y) (own-area.Refused 14 0)
-    (cond (ltb (length nodes) y.node_count) (own-area.Refused 7 0) (area_of_first (take y.node_count nodes)))
+    cond (over_limit y) (Err AtLimit)
+    (cond (ltb (length nodes) y.node_count) (Err (TooShort lent.Nodes)) (Ok (area_of_first (take y.node_count nodes))))
 
-abbrev pub place_of : Option ℕ → Place
-place_of (some i) = At i
-place_of none = Nothing
+abbrev pub place_of : Found ℕ → Option ℕ
+place_of (some i) = Some i
+place_of none = None
 
 -- the numbers of the first n nodes
 unfoldable pub numbers_in : ℕ → List (List ℕ) → List ℕ
 numbers_in n nodes = map number_of (take n nodes)
 
-unfoldable pub first_in : ℕ → List (List ℕ) → ℕ → Place
+unfoldable pub first_in : ℕ → List (List ℕ) → ℕ → Option ℕ
 first_in n nodes k = place_of (first_with (numbers_in n nodes) k)
 
-unfoldable pub find_in : ℕ → List (List ℕ) → ℕ → Place
+unfoldable pub find_in : ℕ → List (List ℕ) → ℕ → Option ℕ
 find_in n nodes k = place_of (find (numbers_in n nodes) k)
 
 unfoldable pub node_call : Ynd → List (List ℕ) → ℕ → Place
 node_call y nodes k =
-    cond (over_limit y) (Refused 14 0)
-    (cond (ltb (length nodes) y.node_count) (Refused 7 0) (find_in y.node_count nodes k))
+    cond (over_limit y) (Err AtLimit)
+    (cond (ltb (length nodes) y.node_count) (Err (TooShort lent.Nodes)) (Ok (find_in y.node_count nodes k)))
 
 -- the junction number of the first of these refs for the area a and the number k, in a cell of the area own
-unfoldable pub ref_in : ℕ → List (List ℕ) → ℕ → ℕ → Option ℕ
+unfoldable pub ref_in : ℕ → List (List ℕ) → ℕ → ℕ → Found ℕ
 ref_in own refs a k = ref_of own (map to_ref refs) a k
 
 -- a number that is the place of one of this many
-abbrev pub below : ℕ → Place → Place
-below count (At j) = cond (ltb j count) (At j) Nothing
-below count Nothing = Nothing
-below count (Refused cause place) = Refused cause place
+abbrev pub below : ℕ → Option ℕ → Option ℕ
+below count (Some j) = cond (ltb j count) (Some j) None
+below count None = None
 
 unfoldable pub junction_of_call : Ynd → List (List ℕ) → List (List ℕ) → ℕ → ℕ → Place
 junction_of_call y nodes refs a k =
-    cond (over_limit y) (Refused 14 0)
-    (cond (ltb (length nodes) y.node_count) (Refused 7 0)
-    (cond (ltb (length refs) y.ref_count) (Refused 7 4)
-    (below y.junction_count (place_of (ref_in (first_area (take y.node_count nodes)) (take y.ref_count refs) a k)))))
+    cond (over_limit y) (Err AtLimit)
+    (cond (ltb (length nodes) y.node_count) (Err (TooShort lent.Nodes))
+    (cond (ltb (length refs) y.ref_count) (Err (TooShort lent.Refs))
+    (Ok (below y.junction_count
+    (place_of (ref_in (first_area (take y.node_count nodes)) (take y.ref_count refs) a k))))))
 
 -- the junction at a place that the call answered
-abbrev pub at_place : List Junction → Place → Option Junction
-at_place js (At j) = get_elem? js j
-at_place js Nothing = none
-at_place js (Refused cause place) = none
+abbrev pub at_place : List Junction → Place → Found Junction
+at_place js (Ok (Some j)) = get_elem? js j
+at_place js (Ok None) = none
+at_place js (Err cause) = none

@@ -1,11 +1,13 @@
 -- Which number each number becomes where a cell is renumbered (section 4, T-09): for links that lead into the cell
 -- from others, whose numbers are changed before its nodes move.
 use Rattle.std.specs.Prelude.{ℕ, List, [], ◌∷◌, ◌++◌, map, ltb, length, take, drop}
-use Rattle.numbers.specs.Refusals.{Cause, when, decided, unless}
-use Rattle.numbers.specs.declared.answer.Answer.{Answer}
-use Rattle.numbers.specs.declared.answer.Answer.TheVariants.{Done, Refused}
+use Rattle.numbers.specs.Refusals.{Cause, when, decided}
 use Rattle.cells.specs.Order.{Old, new_number, new_places, listed}
 use Rattle.cells.specs.NodeWords.{is_ped, old_of}
+use Rattle.std.specs.Prelude.{Ok, Err}
+use Rattle.numbers.specs.Refusals.{Answer}
+use Rattle.numbers.specs.declared.refusal.Refusal.TheVariants.{TooShort, AtLimit}
+use Rattle.numbers.specs.declared.refusal.Lent.TheVariants as lent
 
 -- Entry k is the new number of the last node that had the number k; k if none had. There are 65,536 numbers.
 unfoldable pub new_numbers : Old → List ℕ
@@ -23,16 +25,20 @@ numbers_left a table places = record { answer = a; table = table; places = place
 -- As renumbering n nodes is refused: 14 too many; 7 the list of nodes, the table, or the list of new places too short.
 unfoldable pub numbers_causes : ℕ → ℕ → ℕ → ℕ → List Cause
 numbers_causes n nodes table places =
-    when (ltb 65536 n) 14 0
-    ∷ when (ltb nodes n) 7 0
-    ∷ when (ltb table 65536) 7 6
-    ∷ when (ltb places n) 7 7
+    when (ltb 65536 n) AtLimit
+    ∷ when (ltb nodes n) (TooShort lent.Nodes)
+    ∷ when (ltb table 65536) (TooShort lent.Scratch)
+    ∷ when (ltb places n) (TooShort lent.NewPlaces)
     ∷ []
+
+abbrev pub numbers_if : Answer → List ℕ → List ℕ → NumbersLeft → NumbersLeft
+numbers_if (Ok _) table places next = next
+numbers_if (Err cause) table places next = numbers_left (Err cause) table places
 
 -- A refusal changes nothing; else the table and the places are filled from the front, and what is behind stays.
 unfoldable pub numbers_call : ℕ → List (List ℕ) → List ℕ → List ℕ → NumbersLeft
 numbers_call n nodes table places =
-    unless (decided (numbers_causes n (length nodes) (length table) (length places)))
-    (λ cause place. numbers_left (Refused cause place) table places)
-    (numbers_left Done (new_numbers (old_of n nodes) ++ drop 65536 table)
+    numbers_if (decided (numbers_causes n (length nodes) (length table) (length places)))
+    table places
+    (numbers_left (Ok tt) (new_numbers (old_of n nodes) ++ drop 65536 table)
     (new_places (map is_ped (take n nodes)) ++ drop n places))

@@ -1,7 +1,7 @@
 -- What renumbering reads and writes of the words of a node (of 32 bits), and of a link or a ref (four of 16 bits).
 -- A node's word 0 is its area with its number above it, and word 5 its flags0 to flags3. A link's or ref's words 0
 -- and 1 are its area and its number. Assumes nothing.
-use Rattle.std.specs.Prelude.{ℕ, zero, suc, ◌+◌, ◌*◌, ◌/◌, ◌%◌, Bool, true, false, not, ◌||◌, List, [], ◌∷◌, ◌++◌}
+use Rattle.std.specs.Prelude.{ℕ, suc, ◌+◌, ◌*◌, ◌/◌, ◌%◌, Bool, not, ◌||◌, List, [], ◌∷◌}
 use Rattle.std.specs.Prelude.{map, eqb, get_or, take, drop}
 use Rattle.cells.specs.Area.{own_area}
 use Rattle.cells.specs.Order.{Old, parted, renamed}

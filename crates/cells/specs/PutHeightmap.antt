@@ -1,8 +1,8 @@
 -- Section 4, each public field's store: a junction's heightmap, of any size, as the Rust's `heightmap` is assigned.
 -- Causes of refusal, in their order: 13, 14 over a limit or at one, 12 values not width × height, 7.
-use Rattle.std.specs.Prelude.{ℕ, ◌+◌, ◌*◌, Bool, not, List, [], ◌∷◌, eqb, ltb, leb, length, get_or, set, drop}
+use Rattle.std.specs.Prelude.{◌≡◌, ℕ, ◌+◌, ◌*◌, ◌<◌, ◌≤◌, Bool, not, List, [], ◌∷◌, eqb, ltb}
+use Rattle.std.specs.Prelude.{leb, length, get_or, set, drop}
 use Rattle.numbers.specs.Refusals.{Cause, when, decided}
-use Rattle.numbers.specs.declared.answer.Answer.{Answer}
 use Rattle.records.specs.Put.{put}
 use Rattle.cells.specs.NodeWords.{value_start}
 use Rattle.cells.specs.Memory.{Memory, memory, Left, unless, over_limit}
@@ -10,16 +10,19 @@ use Rattle.cells.specs.Edit.{value_range, held_in}
 use Rattle.cells.specs.Add.{with_counts, done}
 use Rattle.cells.specs.Replace.{place_for, pool_after}
 use Rattle.cells.specs.declared.ynd.Ynd.{Ynd}
+use Rattle.numbers.specs.Refusals.{Answer}
+use Rattle.numbers.specs.declared.refusal.Refusal.TheVariants.{TooShort, WrongSize, NoSuchPlace, AtLimit}
+use Rattle.numbers.specs.declared.refusal.Lent.TheVariants as lent
 
 -- for n junctions, a place p, c values of a map of this size, `after` values in all, which is a number of 32 bits
 abbrev pub map_causes : Bool → ℕ → ℕ → ℕ → ℕ → ℕ → ℕ → ℕ → List Cause
 map_causes over n p c size after junctions heights =
-    when (leb n p) 13 0
-    ∷ when over 14 0
-    ∷ when (ltb 4294967295 after) 14 0
-    ∷ when (not (eqb c size)) 12 0
-    ∷ when (ltb junctions n) 7 2
-    ∷ when (ltb heights after) 7 3
+    when (leb n p) NoSuchPlace
+    ∷ when over AtLimit
+    ∷ when (ltb 4294967295 after) AtLimit
+    ∷ when (not (eqb c size)) WrongSize
+    ∷ when (ltb junctions n) (TooShort lent.Junctions)
+    ∷ when (ltb heights after) (TooShort lent.Heightmap)
     ∷ []
 
 unfoldable pub room_for_map : Bool → ℕ → ℕ → ℕ → ℕ → ℕ → ℕ → ℕ → Answer
@@ -60,3 +63,11 @@ map_stored m p width height values =
 unfoldable pub put_heightmap : Memory → ℕ → ℕ → ℕ → List ℕ → Left
 put_heightmap m p width height values =
     unless (map_call m p (length values) (width * height)) m (done (map_stored m p width height values))
+
+-- the room that an accepted call has; no public function's contract cites this
+pub record MapRoom (n p c size after junctions heights : ℕ) : Type 0 where
+  pub place : p < n
+  pub all_few : after ≤ 4294967295
+  pub sized : c ≡ size
+  pub junctions_fit : n ≤ junctions
+  pub heights_fit : after ≤ heights

@@ -1,8 +1,7 @@
 -- Section 4, each public field's store: all links of a node, as the Rust's `links`, a public `Vec`, is assigned, cut
 -- or cleared. Causes of refusal, in their order: 13, 14 over a limit or at one, 7.
-use Rattle.std.specs.Prelude.{ℕ, Bool, List, [], ◌∷◌, ltb, leb, length, get_or, set}
+use Rattle.std.specs.Prelude.{ℕ, ◌<◌, ◌≤◌, Bool, List, [], ◌∷◌, ltb, leb, length, get_or, set}
 use Rattle.numbers.specs.Refusals.{Cause, when, decided}
-use Rattle.numbers.specs.declared.answer.Answer.{Answer}
 use Rattle.records.specs.Put.{put}
 use Rattle.cells.specs.NodeWords.{link_start}
 use Rattle.cells.specs.Memory.{Memory, memory, Left, unless, over_limit}
@@ -10,17 +9,20 @@ use Rattle.cells.specs.Add.{with_counts, done}
 use Rattle.cells.specs.AddLink.{held_at, ranged}
 use Rattle.cells.specs.Replace.{place_for, pool_after}
 use Rattle.cells.specs.declared.ynd.Ynd.{Ynd}
+use Rattle.numbers.specs.Refusals.{Answer}
+use Rattle.numbers.specs.declared.refusal.Refusal.TheVariants.{TooShort, NoSuchPlace, AtLimit}
+use Rattle.numbers.specs.declared.refusal.Lent.TheVariants as lent
 
 -- for n nodes, a place p, c new links, `after` links in all; a node's count is a byte, the count of all a number of
 -- 32 bits
 abbrev pub links_causes : Bool → ℕ → ℕ → ℕ → ℕ → ℕ → ℕ → List Cause
 links_causes over n p c after nodes links =
-    when (leb n p) 13 0
-    ∷ when over 14 0
-    ∷ when (ltb 255 c) 14 0
-    ∷ when (ltb 4294967295 after) 14 0
-    ∷ when (ltb nodes n) 7 0
-    ∷ when (ltb links after) 7 1
+    when (leb n p) NoSuchPlace
+    ∷ when over AtLimit
+    ∷ when (ltb 255 c) AtLimit
+    ∷ when (ltb 4294967295 after) AtLimit
+    ∷ when (ltb nodes n) (TooShort lent.Nodes)
+    ∷ when (ltb links after) (TooShort lent.Links)
     ∷ []
 
 unfoldable pub room_for_links : Bool → ℕ → ℕ → ℕ → ℕ → ℕ → ℕ → Answer
@@ -52,3 +54,11 @@ links_stored m p new =
 
 unfoldable pub put_links : Memory → ℕ → List (List ℕ) → Left
 put_links m p new = unless (links_call m p (length new)) m (done (links_stored m p new))
+
+-- the room that an accepted call has; no public function's contract cites this
+pub record LinksRoom (n p c after nodes links : ℕ) : Type 0 where
+  pub place : p < n
+  pub few : c ≤ 255
+  pub all_few : after ≤ 4294967295
+  pub nodes_fit : n ≤ nodes
+  pub links_fit : after ≤ links

@@ -12,12 +12,12 @@ use Rattle.cells.specs.Checks.{root_read, sizes_check, arrays_found, arrays_chec
 use Rattle.cells.specs.Memory.{Memory, memory, Left, refuse, unless}
 use Rattle.cells.specs.declared.ynd.Ynd.{Ynd}
 use Rattle.cells.specs.declared.count.Counts.{Counts}
-use Rattle.numbers.specs.declared.answer.Answer.{Answer}
-use Rattle.numbers.specs.declared.answer.Answer.TheVariants.{Done}
-use Rattle.cells.specs.declared.arrays.Found.{Found}
-use Rattle.cells.specs.declared.arrays.Found.TheVariants as found
-use Rattle.cells.specs.declared.count.Counted.{Counted}
-use Rattle.cells.specs.declared.count.Counted.TheVariants as counted
+use Rattle.std.specs.Prelude.{Result, Ok, Err}
+use Rattle.numbers.specs.Refusals.{Answer}
+use Rattle.numbers.specs.declared.refusal.Refusal.{Refusal}
+use Rattle.numbers.specs.declared.refusal.Refusal.TheVariants.{TooShort}
+use Rattle.numbers.specs.declared.refusal.Lent.TheVariants as lent
+use Rattle.cells.specs.declared.arrays.Arrays.{Arrays}
 
 -- `count` links of the array l, from link `from` on; `count` values of the bytes h, from `from` on
 unfoldable pub links_from : List ℕ → ℕ → ℕ → List (List ℕ)
@@ -47,11 +47,11 @@ ref_in r i = ref_words (ref_at r (i * 8))
 unfoldable pub room_check : Counts → ℕ → ℕ → ℕ → ℕ → ℕ → Answer
 room_check k nodes links junctions heights refs =
     decided
-    (when (ltb nodes k.nodes) 7 0
-    ∷ when (ltb links k.links) 7 1
-    ∷ when (ltb junctions k.junctions) 7 2
-    ∷ when (ltb heights k.heights) 7 3
-    ∷ when (ltb refs k.refs) 7 4
+    (when (ltb nodes k.nodes) (TooShort lent.Nodes)
+    ∷ when (ltb links k.links) (TooShort lent.Links)
+    ∷ when (ltb junctions k.junctions) (TooShort lent.Junctions)
+    ∷ when (ltb heights k.heights) (TooShort lent.Heightmap)
+    ∷ when (ltb refs k.refs) (TooShort lent.Refs)
     ∷ [])
 
 unfoldable pub cell_read : Root → Counts → Ynd
@@ -78,20 +78,20 @@ filled root k n l j h r m =
     (join_to (values_in j h) k.junctions ++ drop k.heights m.heights)
     (up_to (ref_in r) k.refs ++ drop k.refs m.refs)
 
-abbrev pub if_held : Counted → Memory → (Counts → Left) → Left
-if_held (counted.Refused cause place) m next = refuse cause place m
-if_held (counted.Held k) m next = next k
+abbrev pub if_held : Result Counts Refusal → Memory → (Counts → Left) → Left
+if_held (Err cause) m next = refuse cause m
+if_held (Ok k) m next = next k
 
-abbrev pub if_found : Found → Memory → (Part → Part → Part → Part → Part → Left) → Left
-if_found (found.Refused cause place) m next = refuse cause place m
-if_found (found.Arrays p) m next = next p.nodes p.links p.junctions p.heights p.refs
+abbrev pub if_found : Result Arrays Refusal → Memory → (Part → Part → Part → Part → Part → Left) → Left
+if_found (Err cause) m next = refuse cause m
+if_found (Ok p) m next = next p.nodes p.links p.junctions p.heights p.refs
 
 -- from the five arrays
 unfoldable pub read_arrays : Root → List ℕ → List ℕ → List ℕ → List ℕ → List ℕ → Memory → Left
 read_arrays root n l j h r m =
     if_held (arrays_check n l j h r) m λ k.
     unless (room_check k (length m.nodes) (length m.links) (length m.junctions) (length m.heights) (length m.refs)) m
-    (record { answer = Done; memory = filled root k n l j h r m })
+    (record { answer = Ok tt; memory = filled root k n l j h r m })
 
 -- from the two sections
 unfoldable pub read_of : List ℕ → List ℕ → Memory → Left

@@ -1,14 +1,16 @@
 -- Section 4, renumbering: what the call answers, and what it leaves of the cell and of the lists lent to it.
 -- The scratch is not part of the state (`scratch_left`). Junctions and heightmaps are lent to be counted and stay.
 use Rattle.std.specs.Prelude.{ℕ, ◌≡◌, Bool, List, [], ◌∷◌, ◌++◌, map, ltb, length, take, drop}
-use Rattle.numbers.specs.Refusals.{when, decided}
+use Rattle.numbers.specs.Refusals.{when, decided, refuse_if, unless, answered}
 use Rattle.cells.specs.Order.{keep, new_places}
 use Rattle.cells.specs.NodeWords.{is_ped, is_vehicle, reordered, old_of, relinked}
-use Rattle.cells.specs.Memory.{Memory, memory, over_limit, short}
+use Rattle.cells.specs.Memory.{Memory, memory, ynd_after, over_limit, short}
 use Rattle.cells.specs.declared.ynd.Ynd.{Ynd}
-use Rattle.cells.specs.declared.ynd.Outcome.{Outcome}
-use Rattle.numbers.specs.declared.answer.Answer.{Answer}
-use Rattle.numbers.specs.declared.answer.Answer.TheVariants.{Done, Refused}
+use Rattle.std.specs.Prelude.{Result, Ok, Err}
+use Rattle.numbers.specs.Refusals.{Answer}
+use Rattle.numbers.specs.declared.refusal.Refusal.{Refusal}
+use Rattle.numbers.specs.declared.refusal.Refusal.TheVariants.{TooShort, AtLimit}
+use Rattle.numbers.specs.declared.refusal.Lent.TheVariants as lent
 
 -- a call's answer, and the memory and the list of new places after it
 pub record Renumbered : Type 0 where
@@ -16,10 +18,10 @@ pub record Renumbered : Type 0 where
   pub memory : Memory
   pub places : List ℕ
 
-abbrev pub renumbered_by : Outcome → List (List ℕ) → List (List ℕ) → List (List ℕ) → List ℕ
+abbrev pub renumbered_by : Ynd → Result Ynd Refusal → List (List ℕ) → List (List ℕ) → List (List ℕ) → List ℕ
     → List (List ℕ) → List ℕ → Renumbered
-renumbered_by r nodes links junctions heights refs places =
-    record { answer = r.answer; memory = memory r.ynd nodes links junctions heights refs; places = places }
+renumbered_by y r nodes links junctions heights refs places =
+    record { answer = answered r; memory = memory (ynd_after y r) nodes links junctions heights refs; places = places }
 
 -- the lists that renumbering changes
 pub record Lists : Type 0 where
@@ -66,14 +68,14 @@ recounted y v p = record {
 
 -- over a limit (14); a list shorter than its count (7, its place); scratch and new places too short (7, places 6 and
 -- 7)
-unfoldable pub answer_of : Bool → ℕ → ℕ → ℕ → ℕ → Answer
+unfoldable pub answer_of : Bool → ℕ → Answer → ℕ → ℕ → Answer
 answer_of over n lack scratch places =
-    decided
-    (when over 14 0
-    ∷ when (ltb lack 5) 7 lack
-    ∷ when (ltb scratch 65536) 7 6
-    ∷ when (ltb places n) 7 7
-    ∷ [])
+    refuse_if over AtLimit
+    (unless lack
+    (decided
+    (when (ltb scratch 65536) (TooShort lent.Scratch)
+    ∷ when (ltb places n) (TooShort lent.NewPlaces)
+    ∷ [])))
 
 -- the lists of the cell m, with a list of new places, renumbered
 unfoldable pub new_lists : Memory → List ℕ → Lists
@@ -88,12 +90,12 @@ renumber_memory m places =
 
 -- a refusal leaves all as it was
 abbrev pub left_by : Answer → Memory → List ℕ → Renumbered
-left_by Done m places = record {
-  answer = Done;
+left_by (Ok _) m places = record {
+  answer = Ok tt;
   memory = renumber_memory m places;
   places = (new_lists m places).places;
 }
-left_by (Refused cause place) m places = record { answer = Refused cause place; memory = m; places = places }
+left_by (Err cause) m places = record { answer = Err cause; memory = m; places = places }
 
 -- the whole call, with a scratch of this many entries and a list for the new places
 unfoldable pub renumber : Memory → ℕ → List ℕ → Renumbered
@@ -102,6 +104,6 @@ renumber m scratch places =
 
 -- The scratch: a refused call leaves it as it was. After an accepted one it is free (section 4, "Contracts and their
 -- sham rivals"): it is as long as it was, and may hold anything.
-abbrev pub scratch_left : Answer → List ℕ → List ℕ → Type 0
-scratch_left Done before after = length after ≡ length before
-scratch_left (Refused cause place) before after = after ≡ before
+abbrev pub scratch_left : {A : Type 0} → Result A Refusal → List ℕ → List ℕ → Type 0
+scratch_left (Ok _) before after = length after ≡ length before
+scratch_left (Err cause) before after = after ≡ before

@@ -1,22 +1,42 @@
 -- What the parts of renumbering require of each other. No public function's contract cites them.
-use Rattle.std.specs.Prelude.{ℕ, ◌≤◌, ◌<◌, ◌≡◌, List, map, length, take, get_or}
+use Rattle.std.specs.Prelude.{ℕ, ◌≤◌, ◌≡◌, List, map, length, get_or}
 use Rattle.std.proofs.Math.Option.{some}
-use Rattle.cells.specs.Order.{new_place, last_with}
+use Rattle.cells.specs.Order.{new_places, last_with}
 use Rattle.cells.specs.NodeWords.{is_ped, number_of}
 use Rattle.cells.specs.Memory.{Memory}
+use Rattle.cells.specs.declared.count.Counts.{Counts}
+use Rattle.cells.specs.declared.ynd.Ynd.{Ynd}
 
 -- the scratch leads from each number that a node has to the last node that has it
 pub record Indexed (numbers : List ℕ) (scratch : List ℕ) : Type 0 where
   pub at : (k p : ℕ) → last_with numbers k ≡ some p → get_or scratch k 0 ≡ p
 
 -- what the numbers of links and refs are looked up in
-pub record Ready (n : ℕ) (nodes : List (List ℕ)) (scratch places : List ℕ) : Type 0 where
-  pub few : n ≤ 65536
-  pub nodes_fit : n ≤ length nodes
+pub record Ready (nodes : List (List ℕ)) (scratch places : List ℕ) : Type 0 where
+  pub few : length nodes ≤ 65536
   pub scratch_fits : 65536 ≤ length scratch
-  pub places_fit : n ≤ length places
-  pub indexed : Indexed (map number_of (take n nodes)) scratch
-  pub placed : (p : ℕ) → p < n → get_or places p 0 ≡ new_place (map is_ped (take n nodes)) p
+  pub indexed : Indexed (map number_of nodes) scratch
+  pub placed : places ≡ new_places (map is_ped nodes)
+
+-- how many entries of each list a cell has
+abbrev pub counts_of : Ynd → Counts
+counts_of y = record {
+  nodes = y.node_count;
+  links = y.link_count;
+  junctions = y.junction_count;
+  heights = y.heightmap_count;
+  refs = y.ref_count;
+}
+
+-- how long the lent lists are
+abbrev pub lengths_of : List (List ℕ) → List (List ℕ) → List (List ℕ) → List ℕ → List (List ℕ) → Counts
+lengths_of nodes links junctions heights refs = record {
+  nodes = length nodes;
+  links = length links;
+  junctions = length junctions;
+  heights = length heights;
+  refs = length refs;
+}
 
 -- the room that an accepted call has
 pub record Room (m : Memory) (scratch places : ℕ) : Type 0 where

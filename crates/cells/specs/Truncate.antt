@@ -3,14 +3,15 @@
 -- Causes of refusal, in their order: 13 the cell has fewer, 14.
 use Rattle.std.specs.Prelude.{ℕ, Bool, [], ◌∷◌, ltb}
 use Rattle.numbers.specs.Refusals.{when, decided}
-use Rattle.numbers.specs.declared.answer.Answer.{Answer}
 use Rattle.cells.specs.Memory.{Memory, memory, Left, unless, over_limit}
 use Rattle.cells.specs.Add.{with_counts, done}
 use Rattle.cells.specs.declared.ynd.Ynd.{Ynd}
+use Rattle.numbers.specs.Refusals.{Answer}
+use Rattle.numbers.specs.declared.refusal.Refusal.TheVariants.{NoSuchPlace, AtLimit}
 
 -- k of n entries
 unfoldable pub fewer : Bool → ℕ → ℕ → Answer
-fewer over n k = decided (when (ltb n k) 13 0 ∷ when over 14 0 ∷ [])
+fewer over n k = decided (when (ltb n k) NoSuchPlace ∷ when over AtLimit ∷ [])
 
 -- the same lists beside another struct
 abbrev pub counted : Ynd → Memory → Memory

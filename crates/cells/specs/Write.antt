@@ -3,31 +3,32 @@
 use Rattle.std.specs.Prelude.{ℕ, Bool, cond, List, ◌++◌, ltb, length, take, drop}
 use Rattle.cells.specs.Entries.{links_in, values_in}
 use Rattle.cells.specs.WriteChecks.{maps_cut, check_nodes, check_junctions}
-use Rattle.cells.specs.declared.count.Total.{Total}
-use Rattle.cells.specs.declared.count.Total.TheVariants.{Sum, Refused}
-use Rattle.cells.specs.declared.write.Written.{Written}
-use Rattle.cells.specs.declared.write.Written.TheVariants as written
 use Rattle.cells.specs.Memory.{Memory, memory, over_limit, short}
 use Rattle.cells.specs.Blocks.{written}
+use Rattle.std.specs.Prelude.{Result, Ok, Err}
+use Rattle.numbers.specs.Refusals.{Answer}
+use Rattle.numbers.specs.declared.refusal.Refusal.{Refusal}
+use Rattle.numbers.specs.declared.refusal.Refusal.TheVariants.{TooShort, TooManyRefs, WrongSize, AtLimit}
+use Rattle.numbers.specs.declared.refusal.Lent.TheVariants as lent
 
 -- what a call answers, and the section after it
 pub record WriteLeft : Type 0 where
-  pub answer : Written
+  pub answer : Result ℕ Refusal
   pub section : List ℕ
 
-abbrev pub left : Written → List ℕ → WriteLeft
+abbrev pub left : Result ℕ Refusal → List ℕ → WriteLeft
 left r s = record { answer = r; section = s }
 
 -- a refusal leaves the section as it was
-abbrev pub refuse : ℕ → ℕ → List ℕ → WriteLeft
-refuse cause place s = left (written.Refused cause place) s
+abbrev pub refuse : Refusal → List ℕ → WriteLeft
+refuse cause s = left (Err cause) s
 
 abbrev pub or_else : Bool → WriteLeft → WriteLeft → WriteLeft
 or_else b refusal next = cond b refusal next
 
-abbrev pub after : Total → List ℕ → WriteLeft → WriteLeft
-after (Refused cause place) s next = refuse cause place s
-after (Sum n) s next = next
+abbrev pub after : {A : Type 0} → Result A Refusal → List ℕ → WriteLeft → WriteLeft
+after (Err cause) s next = refuse cause s
+after (Ok _) s next = next
 
 -- the cell: the lists, cut to the counts
 unfoldable pub held : Memory → Memory
@@ -38,18 +39,18 @@ held m = memory m.ynd (take m.ynd.node_count m.nodes) (take m.ynd.link_count m.l
 -- the section if it has room
 unfoldable pub stored : Memory → List ℕ → WriteLeft
 stored h s =
-    or_else (ltb (length s) (length (written h))) (refuse 7 5 s)
-    (left (written.Wrote (length (written h))) (written h ++ drop (length (written h)) s))
+    or_else (ltb (length s) (length (written h))) (refuse (TooShort lent.Section) s)
+    (left (Ok (length (written h))) (written h ++ drop (length (written h)) s))
 
--- the cell h written into s, where the list `lack` is too short, or none is (5)
-unfoldable pub write_held : Memory → ℕ → List ℕ → WriteLeft
+-- the cell h written into s, where `lack` says whether a list is too short
+unfoldable pub write_held : Memory → Answer → List ℕ → WriteLeft
 write_held h lack s =
-    or_else (over_limit h.ynd) (refuse 14 0 s)
-    (or_else (maps_cut h.ynd.heightmap_count h.junctions) (refuse 12 0 s)
+    or_else (over_limit h.ynd) (refuse AtLimit s)
+    (or_else (maps_cut h.ynd.heightmap_count h.junctions) (refuse WrongSize s)
     (after (check_nodes (λ n. length (links_in h.links n)) 0 0 h.nodes) s
     (after (check_junctions (λ j. length (values_in h.heights j)) 0 0 h.junctions) s
-    (or_else (ltb 65535 h.ynd.ref_count) (refuse 11 0 s)
-    (or_else (ltb lack 5) (refuse 7 lack s)
+    (or_else (ltb 65535 h.ynd.ref_count) (refuse TooManyRefs s)
+    (after lack s
     (stored h s))))))
 
 unfoldable pub write_call : Memory → List ℕ → WriteLeft

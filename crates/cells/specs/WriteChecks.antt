@@ -3,15 +3,16 @@
 use Rattle.std.specs.Prelude.{ℕ, ◌+◌, ◌-◌, min, Bool, true, false, cond, ◌||◌, List, [], ◌∷◌, ltb}
 use Rattle.cells.specs.Entries.{stored_start}
 use Rattle.cells.specs.NodeWords.{link_start, link_count, value_start, value_count}
-use Rattle.cells.specs.declared.count.Total.{Total}
-use Rattle.cells.specs.declared.count.Total.TheVariants.{Sum, Refused}
+use Rattle.std.specs.Prelude.{Result, Ok, Err}
+use Rattle.numbers.specs.declared.refusal.Refusal.{Refusal}
+use Rattle.numbers.specs.declared.refusal.Refusal.TheVariants.{TooManyLinks, LinksStartTooHigh, ValuesStartTooHigh}
 
-abbrev pub unless : Bool → Total → Total → Total
+abbrev pub unless : Bool → Result ℕ Refusal → Result ℕ Refusal → Result ℕ Refusal
 unless b refusal next = cond b refusal next
 
-abbrev pub accepted : Total → Bool
-accepted (Sum n) = true
-accepted (Refused cause place) = false
+abbrev pub accepted : Result ℕ Refusal → Bool
+accepted (Ok n) = true
+accepted (Err cause) = false
 
 -- how many entries of a list of `pool` a range holds, cut where it leaves the list
 unfoldable pub links_within : ℕ → List ℕ → ℕ
@@ -31,16 +32,16 @@ abbrev pub start_over : ℕ → ℕ → Bool
 start_over before count = ltb 65535 (stored_start before count)
 
 -- 8 and 9, node by node, 8 first. Else how many links there are in all.
-unfoldable pub check_nodes : (List ℕ → ℕ) → ℕ → ℕ → List (List ℕ) → Total
-check_nodes count place before [] = Sum before
+unfoldable pub check_nodes : (List ℕ → ℕ) → ℕ → ℕ → List (List ℕ) → Result ℕ Refusal
+check_nodes count place before [] = Ok before
 check_nodes count place before (n ∷ ns) =
-    unless (ltb 31 (count n)) (Refused 8 place)
-    (unless (start_over before (count n)) (Refused 9 place)
+    unless (ltb 31 (count n)) (Err (TooManyLinks place))
+    (unless (start_over before (count n)) (Err (LinksStartTooHigh place))
     (check_nodes count (place + 1) (before + count n) ns))
 
 -- 10: heightmap bytes before this junction over 65,535. Else how many bytes there are in all.
-unfoldable pub check_junctions : (List ℕ → ℕ) → ℕ → ℕ → List (List ℕ) → Total
-check_junctions count place before [] = Sum before
+unfoldable pub check_junctions : (List ℕ → ℕ) → ℕ → ℕ → List (List ℕ) → Result ℕ Refusal
+check_junctions count place before [] = Ok before
 check_junctions count place before (j ∷ js) =
-    unless (ltb 65535 before) (Refused 10 place)
+    unless (ltb 65535 before) (Err (ValuesStartTooHigh place))
     (check_junctions count (place + 1) (before + count j) js)

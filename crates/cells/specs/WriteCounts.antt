@@ -1,36 +1,31 @@
 -- What checks 14, 12 and 8 to 11 give together: a refusal, or how much there is to write. No public function's
 -- contract cites this.
-use Rattle.std.specs.Prelude.{ℕ, ◌≤◌, List, ltb, length}
-use Rattle.cells.specs.Checks.{refuse_more}
+use Rattle.std.specs.Prelude.{◌≡◌, ◌≤◌, true, false, ltb, length}
+use Rattle.records.specs.Put.{joined}
+use Rattle.numbers.specs.Refusals.{refuse_if, and_then}
 use Rattle.cells.specs.Memory.{Memory, over_limit}
 use Rattle.cells.specs.Entries.{links_in, values_in}
-use Rattle.cells.specs.WriteChecks.{maps_cut, check_nodes, check_junctions}
-use Rattle.cells.specs.declared.ynd.Ynd.{Ynd}
-use Rattle.cells.specs.declared.count.Total.{Total}
-use Rattle.cells.specs.declared.count.Total.TheVariants as total
-use Rattle.cells.specs.declared.count.Counted.{Counted}
-use Rattle.cells.specs.declared.count.Counted.TheVariants as counted
-use Rattle.cells.specs.declared.write.Written.{Written}
-use Rattle.cells.specs.declared.write.Written.TheVariants as written
+use Rattle.cells.specs.WriteChecks.{links_within, values_within, maps_cut, accepted, check_nodes, check_junctions}
+use Rattle.cells.specs.Blocks.{heights_block}
+use Rattle.std.specs.Prelude.{Result, Ok}
+use Rattle.numbers.specs.declared.refusal.Refusal.{Refusal}
+use Rattle.numbers.specs.declared.refusal.Refusal.TheVariants.{TooManyRefs, WrongSize, AtLimit}
+use Rattle.cells.specs.declared.count.Counts.{Counts}
 
-abbrev pub if_sum : Total → (ℕ → Counted) → Counted
-if_sum (total.Refused cause place) next = counted.Refused cause place
-if_sum (total.Sum n) next = next n
-
--- of the cell whose entries these are
-unfoldable pub write_counts : Ynd → List (List ℕ) → List (List ℕ) → List (List ℕ) → List ℕ → List (List ℕ) → Counted
-write_counts y nodes links junctions heights refs =
-    refuse_more (over_limit y) 14 0
-    (refuse_more (maps_cut y.heightmap_count junctions) 12 0
-    (if_sum (check_nodes (λ n. length (links_in links n)) 0 0 nodes) λ l.
-    if_sum (check_junctions (λ j. length (values_in heights j)) 0 0 junctions) λ v.
-    refuse_more (ltb 65535 y.ref_count) 11 0
-    (counted.Held (record {
-      nodes = length nodes;
+-- of the cell h
+unfoldable pub write_counts : Memory → Result Counts Refusal
+write_counts h =
+    refuse_if (over_limit h.ynd) AtLimit
+    (refuse_if (maps_cut h.ynd.heightmap_count h.junctions) WrongSize
+    (and_then (check_nodes (λ n. length (links_in h.links n)) 0 0 h.nodes) λ l.
+    and_then (check_junctions (λ j. length (values_in h.heights j)) 0 0 h.junctions) λ v.
+    refuse_if (ltb 65535 h.ynd.ref_count) TooManyRefs
+    (Ok (record {
+      nodes = length h.nodes;
       links = l;
-      junctions = length junctions;
+      junctions = length h.junctions;
       heights = v;
-      refs = length refs;
+      refs = length h.refs;
     }))))
 
 -- the lists are no longer than the struct's counts
@@ -39,6 +34,18 @@ pub record Cut (h : Memory) : Type 0 where
   pub junctions_cut : length h.junctions ≤ h.ynd.junction_count
   pub refs_cut : length h.refs ≤ h.ynd.ref_count
 
-abbrev pub not_written : Counted → Written
-not_written (counted.Refused cause place) = written.Refused cause place
-not_written (counted.Held k) = written.Refused 0 0
+-- what the counts k say of it, once nothing is refused
+pub record Counted (h : Memory) (k : Counts) : Type 0 where
+  pub nodes_told : accepted (check_nodes (links_within (length h.links)) 0 0 h.nodes) ≡ true
+  pub junctions_told : accepted (check_junctions (values_within (length h.heights)) 0 0 h.junctions) ≡ true
+  pub nodes_are : k.nodes ≡ length h.nodes
+  pub nodes_few : k.nodes ≤ 65536
+  pub links_are : k.links ≡ length (joined (links_in h.links) h.nodes)
+  pub links_few : k.links ≤ 65566
+  pub junctions_are : k.junctions ≡ length h.junctions
+  pub junctions_few : k.junctions ≤ 4096
+  pub heights_are : k.heights ≡ length (heights_block h.heights h.junctions)
+  pub heights_few : k.heights ≤ 130560
+  pub refs_are : k.refs ≡ length h.refs
+  pub refs_few : k.refs ≤ 65535
+  pub maps_told : maps_cut h.ynd.heightmap_count h.junctions ≡ false

@@ -1,5 +1,5 @@
 // Adding a link.
-ghost use Rattle.std.specs.Prelude.{◌≡◌, List, ℕ, ◌+◌, ◌<◌, ◌≤◌, length};
+ghost use Rattle.std.specs.Prelude.{◌≡◌, List, ℕ, ◌+◌, ◌<◌, ◌≤◌, length, OnOk};
 ghost use Rattle.cells.specs.Memory.{memory, left, over_limit};
 ghost use Rattle.cells.specs.AddLink.{held_at, behind, at_in, inserted, nodes_after, room_for_link, add_link};
 ghost use Rattle.cells.specs.AddLink.{LinkRoom};
@@ -7,11 +7,10 @@ ghost use Rattle.cells.specs.AddLink.{LinkRoom};
 use crate::link::{LinkWords, PathLink, link_words};
 use crate::node::NodeWords;
 use crate::range::{held_in, link_range, link_start};
-use crate::recount::with_counts;
 use crate::room::over_limit;
 use crate::shift::{shift_all, with_range};
-use crate::ynd::{Outcome, Ynd};
-use numbers::answer::Answer;
+use crate::ynd::Ynd;
+use numbers::refusal::{Lent, Refusal};
 
 // Where the new link goes.
 fn behind_of(s: usize, e: usize, l: usize) -> usize
@@ -29,18 +28,12 @@ fn insert(links: &mut [LinkWords], at: usize, l: usize, link: LinkWords)
     requires { (at ≤ l) × (l < length links.old) }
     ensures { links.new ≡ inserted at l link links.old }
 {
-    let mut carry = link;
-    let mut i = at;
-    while i < l {
-        let w = links[i];
-        links[i] = carry;
-        carry = w;
-        i += 1;
-    }
-    links[l] = carry;
+    links.copy_within(at..l, at + 1);
+    links[at] = link;
 }
 
 // The link put in behind the e links of its node, and the ranges moved.
+#[tactic(auto, unfolding(crate::specs::AddLink::nodes_after))]
 fn place_link(
     nodes: &mut [NodeWords],
     links: &mut [LinkWords],
@@ -57,11 +50,12 @@ fn place_link(
     let w = nodes[p];
     let s = link_start(w) as usize;
     let at = behind_of(s, e, l);
-    shift_all(nodes, n, at, l);
+    shift_all(&mut nodes[..n], at, l);
     nodes[p] = with_range(w, (at - e) as u32, (e + 1) as u8);
     insert(links, at, l, link);
 }
 
+#[tactic(auto, using(numbers::proofs::Refusing::tested), unfolding(crate::specs::AddLink::room_for_link))]
 fn room_for_link(
     ynd: Ynd,
     n: usize,
@@ -70,60 +64,51 @@ fn room_for_link(
     e: usize,
     nodes: usize,
     links: usize,
-) -> Answer
-    ensures { result ≡ room_for_link (over_limit ynd) n l p e nodes links }
+) -> Result<(), Refusal>
+    ensures value { result ≡ room_for_link (over_limit ynd) n l p e nodes links }
+    ensures room { OnOk result (LinkRoom n l p e nodes links) }
 {
     if n <= p {
-        return Answer::Refused(13, 0);
+        return Err(Refusal::NoSuchPlace);
     }
     if over_limit(ynd) {
-        return Answer::Refused(14, 0);
+        return Err(Refusal::AtLimit);
     }
     if 4294967295 <= l {
-        return Answer::Refused(14, 0);
+        return Err(Refusal::AtLimit);
     }
     if 255 <= e {
-        return Answer::Refused(14, 0);
+        return Err(Refusal::AtLimit);
     }
     if nodes < n {
-        return Answer::Refused(7, 0);
+        return Err(Refusal::TooShort(Lent::Nodes));
     }
     if links <= l {
-        return Answer::Refused(7, 1);
+        return Err(Refusal::TooShort(Lent::Links));
     }
-    Answer::Done
+    Ok(())
 }
 
 // A link behind those of the node at a place.
+#[tactic(auto, unfolding(crate::specs::AddLink::add_link, crate::specs::Add::with_counts))]
 pub fn add_link(
     ynd: Ynd,
     nodes: &mut [NodeWords],
     links: &mut [LinkWords],
     place: usize,
     link: PathLink,
-) -> Outcome
+) -> Result<Ynd, Refusal>
     ensures { (junctions refs : List (List ℕ)) (heights : List ℕ) →
-        left result nodes.new links.new junctions heights refs
+        left ynd result nodes.new links.new junctions heights refs
         ≡ add_link (memory ynd nodes.old links.old junctions heights refs) place link }
 {
     let n = ynd.node_count as usize;
     let l = ynd.link_count as usize;
     let e = held_in(link_range(nodes, place), l);
-    let a = room_for_link(ynd, n, l, place, e, nodes.len(), links.len());
-    let Answer::Done = a else {
-        return Outcome { answer: a, ynd };
-    };
+    room_for_link(ynd, n, l, place, e, nodes.len(), links.len())?;
     place_link(nodes, links, n, l, place, e, link_words(link));
-    let next = with_counts(
-        ynd,
-        ynd.node_count,
-        (l + 1) as u32,
-        ynd.junction_count,
-        ynd.heightmap_count,
-        ynd.ref_count,
-    );
-    Outcome {
-        answer: Answer::Done,
-        ynd: next,
-    }
+    Ok(Ynd {
+        link_count: (l + 1) as u32,
+        ..ynd
+    })
 }

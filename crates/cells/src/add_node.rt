@@ -4,34 +4,28 @@ ghost use Rattle.cells.specs.Memory.{memory, left};
 ghost use Rattle.cells.specs.Add.{add_node};
 
 use crate::node::{NodeWords, PathNode, node_words};
-use crate::recount::with_counts;
 use crate::room_check::room_for;
-use crate::ynd::{Outcome, Ynd};
-use numbers::answer::Answer;
+use crate::ynd::Ynd;
 use numbers::math::Vec3;
+use numbers::refusal::{Lent, Refusal};
 
 // A node without links behind all others; its number is its place.
-pub fn add_node(ynd: Ynd, nodes: &mut [NodeWords], area_id: u16, position: Vec3) -> Outcome
+#[tactic(auto, unfolding(crate::specs::Add::add_node, crate::specs::Add::with_counts))]
+pub fn add_node(
+    ynd: Ynd,
+    nodes: &mut [NodeWords],
+    area_id: u16,
+    position: Vec3,
+) -> Result<Ynd, Refusal>
     ensures { (links junctions refs : List (List ℕ)) (heights : List ℕ) →
-        left result nodes.new links junctions heights refs
+        left ynd result nodes.new links junctions heights refs
         ≡ add_node (memory ynd nodes.old links junctions heights refs) area_id position }
 {
     let n = ynd.node_count as usize;
-    let a = room_for(ynd, 65536, n, nodes.len(), 0);
-    let Answer::Done = a else {
-        return Outcome { answer: a, ynd };
-    };
+    room_for(ynd, 65536, n, nodes.len(), Lent::Nodes)?;
     nodes[n] = node_words(PathNode::new(area_id, n as u16, position));
-    let next = with_counts(
-        ynd,
-        (n + 1) as u32,
-        ynd.link_count,
-        ynd.junction_count,
-        ynd.heightmap_count,
-        ynd.ref_count,
-    );
-    Outcome {
-        answer: Answer::Done,
-        ynd: next,
-    }
+    Ok(Ynd {
+        node_count: (n + 1) as u32,
+        ..ynd
+    })
 }

@@ -7,37 +7,32 @@ use crate::node::NodeWords;
 use crate::node_words::area_of;
 
 // Whether a link or a ref of this area belongs to a cell of the area `own`: in full or, on an island, without its bit.
+#[tactic(auto, using(numbers::proofs::Refusing::tested), unfolding(crate::specs::Area::belongs))]
 pub fn belongs_to(own: u16, area: u16) -> bool
     ensures { result ≡ belongs own area }
 {
-    if area == own {
-        return true;
-    }
-    if own / 1024 % 2 == 1 {
-        return area == own - 1024;
-    }
-    false
+    area == own || own / 1024 % 2 == 1 && area == own - 1024
 }
 
 // In a cell of the area `own`, whether a ref of this area is one for `area_id`; one that belongs to the cell names
 // `own`.
+#[tactic(auto, unfolding(crate::specs::Area::ref_for))]
 pub fn ref_for(own: u16, area: u16, area_id: u16) -> bool
     ensures { result ≡ ref_for own area area_id }
 {
     if belongs_to(own, area) {
-        return own == area_id;
+        own == area_id
+    } else {
+        area == area_id
     }
-    area == area_id
 }
 
 // The area of the first of n nodes, 0 if there is none.
+#[tactic(auto, using(crate::proofs::Lookups::AreaLaws::own_areas))]
 pub fn own_area(nodes: &[NodeWords], n: usize) -> u16
     ensures { result ≡ first_area (take n nodes.now) }
 {
-    if n == 0 {
-        return 0;
-    }
-    if nodes.len() == 0 {
+    if n == 0 || nodes.is_empty() {
         return 0;
     }
     area_of(nodes[0])

@@ -1,9 +1,12 @@
 // Where a file's five arrays lie: cause 3, in its order.
 ghost use Rattle.std.specs.Prelude.{◌≡◌};
+ghost use Rattle.records.specs.Sections.{bytes_of};
 ghost use Rattle.cells.specs.Checks.{arrays_found};
 
+use crate::ranged::{FileJunctions, FileNodes};
+use numbers::refusal::{Array, Refusal};
 use records::root::Root;
-use records::section::{Located, Part, locate};
+use records::section::{Part, locate, named_part};
 
 #[derive(Clone, Copy)]
 pub struct Arrays {
@@ -14,36 +17,56 @@ pub struct Arrays {
     pub refs: Part,
 }
 
+// Their bytes: nodes and links, junctions and heightmaps, refs.
 #[derive(Clone, Copy)]
-pub enum Found {
-    Arrays(Arrays),
-    Refused(u32, usize),
+pub(crate) struct FileBytes<'a> {
+    pub nodes: FileNodes<'a>,
+    pub junctions: FileJunctions<'a>,
+    pub refs: &'a [u8],
 }
 
-pub(crate) fn find_arrays(root: Root, system: usize, graphics: usize) -> Found
+impl Arrays {
+    pub(crate) fn bytes<'a>(self, system: &'a [u8], graphics: &'a [u8]) -> FileBytes<'a>
+        ensures { (result.nodes.n.now ≡ bytes_of self.nodes system.now graphics.now)
+            × (result.nodes.l.now ≡ bytes_of self.links system.now graphics.now)
+            × (result.junctions.j.now ≡ bytes_of self.junctions system.now graphics.now)
+            × (result.junctions.h.now ≡ bytes_of self.heights system.now graphics.now)
+            × (result.refs.now ≡ bytes_of self.refs system.now graphics.now) }
+    {
+        FileBytes {
+            nodes: FileNodes {
+                n: named_part(system, graphics, self.nodes),
+                l: named_part(system, graphics, self.links),
+            },
+            junctions: FileJunctions {
+                j: named_part(system, graphics, self.junctions),
+                h: named_part(system, graphics, self.heights),
+            },
+            refs: named_part(system, graphics, self.refs),
+        }
+    }
+}
+
+#[tactic(auto, unfolding(crate::specs::Checks::arrays_found))]
+pub(crate) fn find_arrays(root: Root, system: usize, graphics: usize) -> Result<Arrays, Refusal>
     ensures { result ≡ arrays_found root system graphics }
 {
-    let a = locate(root.nodes, root.node_count, 40, system, graphics);
-    let Located::At(nodes) = a else {
-        return Found::Refused(3, 0);
+    let Some(nodes) = locate(root.nodes, root.node_count, 40, system, graphics) else {
+        return Err(Refusal::BadArray(Array::Nodes));
     };
-    let b = locate(root.links, root.link_count, 8, system, graphics);
-    let Located::At(links) = b else {
-        return Found::Refused(3, 1);
+    let Some(links) = locate(root.links, root.link_count, 8, system, graphics) else {
+        return Err(Refusal::BadArray(Array::Links));
     };
-    let c = locate(root.junctions, root.junction_count, 12, system, graphics);
-    let Located::At(junctions) = c else {
-        return Found::Refused(3, 2);
+    let Some(junctions) = locate(root.junctions, root.junction_count, 12, system, graphics) else {
+        return Err(Refusal::BadArray(Array::Junctions));
     };
-    let d = locate(root.heightmap, root.heightmap_count, 1, system, graphics);
-    let Located::At(heights) = d else {
-        return Found::Refused(3, 3);
+    let Some(heights) = locate(root.heightmap, root.heightmap_count, 1, system, graphics) else {
+        return Err(Refusal::BadArray(Array::Heightmap));
     };
-    let e = locate(root.refs, root.ref_count as u32, 8, system, graphics);
-    let Located::At(refs) = e else {
-        return Found::Refused(3, 4);
+    let Some(refs) = locate(root.refs, root.ref_count as u32, 8, system, graphics) else {
+        return Err(Refusal::BadArray(Array::Refs));
     };
-    Found::Arrays(Arrays {
+    Ok(Arrays {
         nodes,
         links,
         junctions,

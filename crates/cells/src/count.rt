@@ -1,14 +1,19 @@
 // How much a file holds, by all of reading's checks but 7, with nothing stored.
-ghost use Rattle.std.specs.Prelude.{◌≡◌};
+ghost use Rattle.std.specs.Prelude.{◌≡◌, OnOk, ◌≤◌};
 ghost use Rattle.cells.specs.Checks.{count_of};
+ghost use Rattle.cells.specs.Read.{room_check};
+ghost use Rattle.cells.specs.RenumberParts.{lengths_of};
 
-use crate::arrays::{Found, find_arrays};
-use crate::checks::{check_arrays, check_sizes, counted_of, found_answer};
+use crate::arrays::find_arrays;
+use crate::checks::{check_arrays, check_sizes};
+use crate::junction::JunctionWords;
+use crate::junction_ref::RefWords;
+use crate::link::LinkWords;
+use crate::node::NodeWords;
 use crate::root::read_root;
-use numbers::answer::Answer;
-use records::section::named_part;
+use numbers::refusal::{Lent, Refusal};
 
-#[derive(Clone, Copy)]
+#[derive(Clone, Copy, PartialEq, Eq, Debug)]
 pub struct Counts {
     pub nodes: usize,
     pub links: usize,
@@ -17,41 +22,59 @@ pub struct Counts {
     pub refs: usize,
 }
 
-#[derive(Clone, Copy)]
-pub enum Counted {
-    Held(Counts),
-    Refused(u32, usize),
+// How long the lent lists are.
+pub(crate) fn lengths(
+    nodes: &[NodeWords],
+    links: &[LinkWords],
+    junctions: &[JunctionWords],
+    heights: &[u8],
+    refs: &[RefWords],
+) -> Counts
+    ensures { result ≡ lengths_of nodes.now links.now junctions.now heights.now refs.now }
+{
+    Counts {
+        nodes: nodes.len(),
+        links: links.len(),
+        junctions: junctions.len(),
+        heights: heights.len(),
+        refs: refs.len(),
+    }
 }
 
-// What a check of all entries of one kind gives: how much they hold together.
-#[derive(Clone, Copy)]
-pub enum Total {
-    Sum(usize),
-    Refused(u32, usize),
+impl Counts {
+    // 7: whether lists of these lengths hold `k` entries.
+    #[tactic(auto, using(numbers::proofs::Refusing::tested), unfolding(crate::specs::Read::room_check))]
+    pub(crate) fn hold(self, k: Counts) -> Result<(), Refusal>
+        ensures value { result ≡ room_check k self.nodes self.links self.junctions self.heights self.refs }
+        ensures room { OnOk result ((k.nodes ≤ self.nodes) × (k.links ≤ self.links)
+            × (k.junctions ≤ self.junctions) × (k.heights ≤ self.heights) × (k.refs ≤ self.refs)) }
+    {
+        if self.nodes < k.nodes {
+            return Err(Refusal::TooShort(Lent::Nodes));
+        }
+        if self.links < k.links {
+            return Err(Refusal::TooShort(Lent::Links));
+        }
+        if self.junctions < k.junctions {
+            return Err(Refusal::TooShort(Lent::Junctions));
+        }
+        if self.heights < k.heights {
+            return Err(Refusal::TooShort(Lent::Heightmap));
+        }
+        if self.refs < k.refs {
+            return Err(Refusal::TooShort(Lent::Refs));
+        }
+        Ok(())
+    }
 }
 
 // Reading's checks except 7: how many nodes, links, junctions, values and refs the file holds.
-pub fn count<'a>(system: &'a [u8], graphics: &'a [u8]) -> Counted
+#[tactic(auto, unfolding(crate::specs::Checks::count_of))]
+pub fn count<'a>(system: &'a [u8], graphics: &'a [u8]) -> Result<Counts, Refusal>
     ensures { result ≡ count_of system.now graphics.now }
 {
-    let a = check_sizes(system.len(), graphics.len());
-    let Answer::Done = a else {
-        return counted_of(a);
-    };
+    check_sizes(system.len(), graphics.len())?;
     let root = read_root(system);
-    let b = find_arrays(root, system.len(), graphics.len());
-    let Found::Arrays(p) = b else {
-        return counted_of(found_answer(b));
-    };
-    let pn = p.nodes;
-    let pl = p.links;
-    let pj = p.junctions;
-    let ph = p.heights;
-    let pr = p.refs;
-    let n = named_part(system, graphics, pn);
-    let l = named_part(system, graphics, pl);
-    let j = named_part(system, graphics, pj);
-    let h = named_part(system, graphics, ph);
-    let r = named_part(system, graphics, pr);
-    check_arrays(n, l, j, h, r)
+    let a = find_arrays(root, system.len(), graphics.len())?;
+    check_arrays(a.bytes(system, graphics))
 }

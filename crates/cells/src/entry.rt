@@ -1,144 +1,212 @@
 // The entry of a lent list that a place names.
-ghost use Rattle.std.specs.Prelude.{◌≡◌, not, ◌&&◌, eqb, ltb, leb};
+ghost use Rattle.std.specs.Prelude.{◌≡◌, not, ◌&&◌, eqb, ltb, leb, IfOk, ◌<◌, length};
 ghost use Rattle.cells.specs.Memory.{over_limit};
-ghost use Rattle.cells.specs.Edit.{entry_at, range_entry, link_entry, sized_entry, height_entry};
+ghost use Rattle.cells.specs.Edit.{entry_at, node_entry, junction_entry, ref_entry, range_entry, link_entry};
+ghost use Rattle.cells.specs.Edit.{sized_entry, height_entry, value_range};
 
 use crate::junction::JunctionWords;
+use crate::junction_ref::RefWords;
 use crate::node::NodeWords;
 use crate::range::{Range, held_in, link_range, value_range};
 use crate::room::over_limit;
 use crate::ynd::Ynd;
+use numbers::refusal::{Lent, Refusal};
 
+// A lent list: how many entries it has by the cell's count, how many are lent, and its name.
 #[derive(Clone, Copy)]
-pub enum Entry {
-    At(usize),
-    Refused(u32, usize),
+struct LentList {
+    count: usize,
+    len: usize,
+    list: Lent,
 }
 
-// The entry at a place of n.
-pub(crate) fn entry_at(ynd: Ynd, n: usize, len: usize, list: usize, place: usize) -> Entry
-    ensures { result ≡ entry_at (over_limit ynd) n len list place }
+// The entry at a place of a list.
+#[tactic(auto, using(numbers::proofs::Refusing::tested), unfolding(crate::specs::Edit::entry_at))]
+fn entry_at(ynd: Ynd, held: LentList, place: usize) -> Result<usize, Refusal>
+    ensures value { result ≡ entry_at (over_limit ynd) held.count held.len held.list place }
+    ensures inside { IfOk result (λ i. i < held.len) }
 {
-    if n <= place {
-        return Entry::Refused(13, 0);
+    if held.count <= place {
+        return Err(Refusal::NoSuchPlace);
     }
     if over_limit(ynd) {
-        return Entry::Refused(14, 0);
+        return Err(Refusal::AtLimit);
     }
-    if len < n {
-        return Entry::Refused(7, list);
+    if held.len < held.count {
+        return Err(Refusal::TooShort(held.list));
     }
-    Entry::At(place)
+    Ok(place)
+}
+
+// The node, the junction and the ref at a place.
+#[tactic(auto, unfolding(crate::specs::Edit::node_entry))]
+pub(crate) fn node_entry(ynd: Ynd, nodes: &[NodeWords], place: usize) -> Result<usize, Refusal>
+    ensures value { result ≡ node_entry ynd nodes.now place }
+    ensures inside { IfOk result (λ i. i < length nodes.now) }
+{
+    let held = LentList {
+        count: ynd.node_count as usize,
+        len: nodes.len(),
+        list: Lent::Nodes,
+    };
+    entry_at(ynd, held, place)
+}
+
+#[tactic(auto, unfolding(crate::specs::Edit::junction_entry))]
+pub(crate) fn junction_entry(
+    ynd: Ynd,
+    junctions: &[JunctionWords],
+    place: usize,
+) -> Result<usize, Refusal>
+    ensures value { result ≡ junction_entry ynd junctions.now place }
+    ensures inside { IfOk result (λ i. i < length junctions.now) }
+{
+    let held = LentList {
+        count: ynd.junction_count as usize,
+        len: junctions.len(),
+        list: Lent::Junctions,
+    };
+    entry_at(ynd, held, place)
+}
+
+#[tactic(auto, unfolding(crate::specs::Edit::ref_entry))]
+pub(crate) fn ref_entry(ynd: Ynd, refs: &[RefWords], place: usize) -> Result<usize, Refusal>
+    ensures value { result ≡ ref_entry ynd refs.now place }
+    ensures inside { IfOk result (λ i. i < length refs.now) }
+{
+    let held = LentList {
+        count: ynd.ref_count as usize,
+        len: refs.len(),
+        list: Lent::Refs,
+    };
+    entry_at(ynd, held, place)
 }
 
 // Whether the place is lent, and its range has no entry k.
 fn none_there(place: usize, len: usize, held: usize, k: usize) -> bool
     ensures { result ≡ (ltb place len && leb held k) }
 {
-    if place < len {
-        return held <= k;
-    }
-    false
+    place < len && held <= k
 }
 
 // Whether the place is lent, and has another number of values.
 fn resized(place: usize, len: usize, values: usize, held: usize) -> bool
     ensures { result ≡ (ltb place len && not (eqb values held)) }
 {
-    if place < len {
-        return values != held;
-    }
-    false
+    place < len && values != held
 }
 
-// Entry k of a range that belongs to a place of n and lies among l entries of a pool; a and b are the places of the
-// two lists.
+// Entry k of a range that belongs to a place of a list and lies in a pool.
+#[tactic(auto, using(numbers::proofs::Refusing::tested), unfolding(crate::specs::Edit::range_entry))]
 fn range_entry(
     ynd: Ynd,
-    n: usize,
-    len: usize,
-    a: usize,
-    l: usize,
-    pool: usize,
-    b: usize,
+    held: LentList,
+    pool: LentList,
     place: usize,
     r: Range,
     k: usize,
-) -> Entry
-    ensures { result ≡ range_entry (over_limit ynd) n len a l pool b place r k }
+) -> Result<usize, Refusal>
+    ensures value { result ≡ range_entry (over_limit ynd) held.count held.len held.list pool.count pool.len
+        pool.list place r k }
+    ensures inside { IfOk result (λ i. i < pool.len) }
 {
-    if n <= place {
-        return Entry::Refused(13, 0);
+    if held.count <= place {
+        return Err(Refusal::NoSuchPlace);
     }
-    if none_there(place, len, held_in(r, l), k) {
-        return Entry::Refused(13, 0);
+    if none_there(place, held.len, held_in(r, pool.count), k) {
+        return Err(Refusal::NoSuchPlace);
     }
     if over_limit(ynd) {
-        return Entry::Refused(14, 0);
+        return Err(Refusal::AtLimit);
     }
-    if len < n {
-        return Entry::Refused(7, a);
+    if held.len < held.count {
+        return Err(Refusal::TooShort(held.list));
     }
-    if pool < l {
-        return Entry::Refused(7, b);
+    if pool.len < pool.count {
+        return Err(Refusal::TooShort(pool.list));
     }
-    Entry::At(r.start + k)
+    Ok(r.start + k)
 }
 
 // Link k of the node at a place.
+#[tactic(auto, unfolding(crate::specs::Edit::link_entry))]
 pub(crate) fn link_entry(
     ynd: Ynd,
     nodes: &[NodeWords],
     links: usize,
     place: usize,
     k: usize,
-) -> Entry
-    ensures { result ≡ link_entry ynd nodes.now links place k }
+) -> Result<usize, Refusal>
+    ensures value { result ≡ link_entry ynd nodes.now links place k }
+    ensures inside { IfOk result (λ i. i < links) }
 {
-    let n = ynd.node_count as usize;
-    let l = ynd.link_count as usize;
-    let r = link_range(nodes, place);
-    range_entry(ynd, n, nodes.len(), 0, l, links, 1, place, r, k)
+    let held = LentList {
+        count: ynd.node_count as usize,
+        len: nodes.len(),
+        list: Lent::Nodes,
+    };
+    let pool = LentList {
+        count: ynd.link_count as usize,
+        len: links,
+        list: Lent::Links,
+    };
+    range_entry(ynd, held, pool, place, link_range(nodes, place), k)
 }
 
 // Value k of the junction at a place.
+#[tactic(auto, unfolding(crate::specs::Edit::height_entry))]
 pub(crate) fn height_entry(
     ynd: Ynd,
     junctions: &[JunctionWords],
     heights: usize,
     place: usize,
     k: usize,
-) -> Entry
-    ensures { result ≡ height_entry ynd junctions.now heights place k }
+) -> Result<usize, Refusal>
+    ensures value { result ≡ height_entry ynd junctions.now heights place k }
+    ensures inside { IfOk result (λ i. i < heights) }
 {
-    let n = ynd.junction_count as usize;
-    let h = ynd.heightmap_count as usize;
-    let r = value_range(junctions, place);
-    range_entry(ynd, n, junctions.len(), 2, h, heights, 3, place, r, k)
+    let held = LentList {
+        count: ynd.junction_count as usize,
+        len: junctions.len(),
+        list: Lent::Junctions,
+    };
+    let pool = LentList {
+        count: ynd.heightmap_count as usize,
+        len: heights,
+        list: Lent::Heightmap,
+    };
+    range_entry(ynd, held, pool, place, value_range(junctions, place), k)
 }
 
-// The junction at a place of n that has as many values.
+// The junction at a place, which has as many values.
+#[tactic(auto, using(numbers::proofs::Refusing::tested), unfolding(crate::specs::Edit::sized_entry))]
 pub(crate) fn sized_entry(
     ynd: Ynd,
-    n: usize,
-    len: usize,
+    junctions: &[JunctionWords],
     place: usize,
     values: usize,
-    held: usize,
-) -> Entry
-    ensures { result ≡ sized_entry (over_limit ynd) n len place values held }
+) -> Result<usize, Refusal>
+    ensures value { result ≡ sized_entry (over_limit ynd) ynd.junction_count (length junctions.now) place values
+        (value_range junctions.now place).count }
+    ensures inside { IfOk result (λ i. i < length junctions.now) }
 {
+    let n = ynd.junction_count as usize;
     if n <= place {
-        return Entry::Refused(13, 0);
+        return Err(Refusal::NoSuchPlace);
     }
     if over_limit(ynd) {
-        return Entry::Refused(14, 0);
+        return Err(Refusal::AtLimit);
     }
-    if resized(place, len, values, held) {
-        return Entry::Refused(12, 0);
+    if resized(
+        place,
+        junctions.len(),
+        values,
+        value_range(junctions, place).count,
+    ) {
+        return Err(Refusal::WrongSize);
     }
-    if len < n {
-        return Entry::Refused(7, 2);
+    if junctions.len() < n {
+        return Err(Refusal::TooShort(Lent::Junctions));
     }
-    Entry::At(place)
+    Ok(place)
 }

@@ -9,6 +9,7 @@ fn power(k: u8) -> u16
     1 << k
 }
 
+#[tactic(auto, unfolding(crate::specs::Access::field_of))]
 pub(crate) fn field_of(f: u8, low: u8, width: u8) -> u8
     requires { low + width ≤ 8 }
     ensures { result ≡ field_of low width f }

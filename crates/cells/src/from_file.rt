@@ -13,6 +13,7 @@ use records::link::NodeLink;
 use records::node::Node;
 
 // Its links stand from `first` on in memory.
+#[tactic(auto, unfolding(crate::specs::Words::path_node))]
 pub(crate) fn path_node(n: Node, first: u32) -> PathNode
     ensures { result ≡ path_node n first }
 {
@@ -42,20 +43,24 @@ pub(crate) fn path_node(n: Node, first: u32) -> PathNode
     }
 }
 
-pub(crate) fn path_link(l: NodeLink) -> PathLink
-    ensures { result ≡ path_link l }
-{
-    PathLink {
-        area_id: l.area_id,
-        node_id: l.node_id,
-        flags0: l.flags0,
-        flags1: l.flags1,
-        flags2: l.flags2,
-        length: l.link_length,
+impl From<NodeLink> for PathLink {
+    ghost from_gives = { λ l p. p ≡ path_link l };
+
+    #[tactic(auto, unfolding(crate::specs::Words::path_link))]
+    fn from(l: NodeLink) -> PathLink {
+        PathLink {
+            area_id: l.area_id,
+            node_id: l.node_id,
+            flags0: l.flags0,
+            flags1: l.flags1,
+            flags2: l.flags2,
+            length: l.link_length,
+        }
     }
 }
 
 // Its heightmap stands from `first` on in memory.
+#[tactic(auto, unfolding(crate::specs::Words::path_junction))]
 pub(crate) fn path_junction(j: NodeJunction, first: u32) -> PathJunction
     ensures { result ≡ path_junction j first }
 {

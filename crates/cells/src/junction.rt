@@ -2,7 +2,6 @@
 ghost use Rattle.std.specs.Prelude.{◌≡◌};
 ghost use Rattle.cells.specs.Words.{to_junction, junction_words};
 
-use crate::pack::{byte0, byte1, pack8};
 use numbers::bits::{bits_of, float_of};
 use numbers::math::Vec2;
 
@@ -21,6 +20,7 @@ pub struct PathJunction {
 }
 
 // The junction that six words hold.
+#[tactic(auto, unfolding(crate::specs::Words::to_junction))]
 pub fn path_junction_of(w: JunctionWords) -> PathJunction
     ensures { result ≡ to_junction w }
 {
@@ -28,17 +28,19 @@ pub fn path_junction_of(w: JunctionWords) -> PathJunction
         x: float_of(w[0]),
         y: float_of(w[1]),
     };
+    let [width, height, _, _] = w[4].to_le_bytes();
     PathJunction {
         position,
         min_z: float_of(w[2]),
         max_z: float_of(w[3]),
-        width: byte0(w[4]),
-        height: byte1(w[4]),
+        width,
+        height,
         heightmap_ptr: w[5],
     }
 }
 
 // The six words that hold a junction.
+#[tactic(auto, unfolding(crate::specs::Words::junction_words))]
 pub fn junction_words(j: PathJunction) -> JunctionWords
     ensures { result ≡ junction_words j }
 {
@@ -48,7 +50,7 @@ pub fn junction_words(j: PathJunction) -> JunctionWords
         bits_of(p.y),
         bits_of(j.min_z),
         bits_of(j.max_z),
-        pack8(j.width, j.height, 0, 0),
+        u32::from_le_bytes([j.width, j.height, 0, 0]),
         j.heightmap_ptr,
     ]
 }

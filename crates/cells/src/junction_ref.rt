@@ -8,6 +8,7 @@ use records::junction_ref::NodeJunctionRef;
 pub type RefWords = [u16; 4];
 
 // The ref that four numbers hold.
+#[tactic(auto, unfolding(crate::specs::Words::to_ref))]
 pub fn ref_of(w: RefWords) -> NodeJunctionRef
     ensures { result ≡ to_ref w }
 {
@@ -20,6 +21,7 @@ pub fn ref_of(w: RefWords) -> NodeJunctionRef
 }
 
 // The four numbers that hold a ref.
+#[tactic(auto, unfolding(crate::specs::Words::ref_words))]
 pub fn ref_words(r: NodeJunctionRef) -> RefWords
     ensures { result ≡ ref_words r }
 {

@@ -2,8 +2,6 @@
 ghost use Rattle.std.specs.Prelude.{◌≡◌};
 ghost use Rattle.cells.specs.Words.{to_link, link_words};
 
-use crate::pack::{high8, low8, pair8};
-
 // The words of a link or a ref.
 pub type LinkWords = [u16; 4];
 
@@ -18,27 +16,31 @@ pub struct PathLink {
 }
 
 // The link that four numbers hold.
+#[tactic(auto, unfolding(crate::specs::Words::to_link))]
 pub fn link_of(w: LinkWords) -> PathLink
     ensures { result ≡ to_link w }
 {
+    let [flags0, flags1] = w[2].to_le_bytes();
+    let [flags2, length] = w[3].to_le_bytes();
     PathLink {
         area_id: w[0],
         node_id: w[1],
-        flags0: low8(w[2]),
-        flags1: high8(w[2]),
-        flags2: low8(w[3]),
-        length: high8(w[3]),
+        flags0,
+        flags1,
+        flags2,
+        length,
     }
 }
 
 // The four numbers that hold a link.
+#[tactic(auto, unfolding(crate::specs::Words::link_words))]
 pub fn link_words(l: PathLink) -> LinkWords
     ensures { result ≡ link_words l }
 {
     [
         l.area_id,
         l.node_id,
-        pair8(l.flags0, l.flags1),
-        pair8(l.flags2, l.length),
+        u16::from_le_bytes([l.flags0, l.flags1]),
+        u16::from_le_bytes([l.flags2, l.length]),
     ]
 }

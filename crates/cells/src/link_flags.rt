@@ -13,6 +13,7 @@ use numbers::{lane, length};
 
 impl PathLink {
     // A link to a node, with no flags.
+    #[tactic(auto, unfolding(crate::specs::LinkAccess::link_to))]
     pub fn to(area_id: u16, node_id: u16) -> PathLink
         ensures { result ≡ link_to area_id node_id }
     {
@@ -81,11 +82,14 @@ impl PathLink {
         has_bit(self.flags2, 1)
     }
 
-    pub fn set_shortcut(mut self, on: bool) -> PathLink
+    #[tactic(auto, unfolding(crate::specs::LinkAccess::with_flags2))]
+    pub fn set_shortcut(self, on: bool) -> PathLink
         ensures { result ≡ with_flags2 self (with_bit 1 self.flags2 on) }
     {
-        self.flags2 = with_bit(self.flags2, 1, on);
-        self
+        PathLink {
+            flags2: with_bit(self.flags2, 1, on),
+            ..self
+        }
     }
 
     pub fn lane_count_backward(self) -> u8
@@ -94,11 +98,14 @@ impl PathLink {
         field_of(self.flags2, 2, 3)
     }
 
-    pub fn set_lane_count_backward(mut self, n: u8) -> PathLink
+    #[tactic(auto, unfolding(crate::specs::LinkAccess::with_flags2))]
+    pub fn set_lane_count_backward(self, n: u8) -> PathLink
         ensures { result ≡ with_flags2 self (with_field 2 3 self.flags2 n) }
     {
-        self.flags2 = with_field(self.flags2, 2, 3, n);
-        self
+        PathLink {
+            flags2: with_field(self.flags2, 2, 3, n),
+            ..self
+        }
     }
 
     pub fn lane_count_forward(self) -> u8
@@ -107,13 +114,17 @@ impl PathLink {
         field_of(self.flags2, 5, 3)
     }
 
-    pub fn set_lane_count_forward(mut self, n: u8) -> PathLink
+    #[tactic(auto, unfolding(crate::specs::LinkAccess::with_flags2))]
+    pub fn set_lane_count_forward(self, n: u8) -> PathLink
         ensures { result ≡ with_flags2 self (with_field 5 3 self.flags2 n) }
     {
-        self.flags2 = with_field(self.flags2, 5, 3, n);
-        self
+        PathLink {
+            flags2: with_field(self.flags2, 5, 3, n),
+            ..self
+        }
     }
 
+    #[tactic(auto, unfolding(crate::specs::LinkAccess::two_way))]
     pub fn is_two_way(self) -> bool
         ensures { result ≡ two_way self.flags2 }
     {

@@ -4,7 +4,7 @@ ghost use Rattle.cells.specs.Words.{to_node, node_words};
 ghost use Rattle.numbers.specs.Positions.{quantised, dequantised};
 ghost use Rattle.cells.specs.NodeAccess.{new_node, with_position};
 
-use crate::pack::{byte0, byte1, byte2, byte3, high16, low16, pack8, pack16};
+use crate::node_words::{area_of, number_of};
 use numbers::bits::{bits_of, float_of};
 use numbers::math::Vec3;
 use numbers::position::stored_position;
@@ -36,6 +36,7 @@ pub struct PathNode {
 }
 
 // The node that its words hold.
+#[tactic(auto, unfolding(crate::specs::Words::to_node, crate::specs::NodeWords::area_of, crate::specs::NodeWords::number_of))]
 pub fn node_of(w: NodeWords) -> PathNode
     ensures { result ≡ to_node w }
 {
@@ -44,40 +45,43 @@ pub fn node_of(w: NodeWords) -> PathNode
         y: float_of(w[3]),
         z: float_of(w[4]),
     };
+    let [flags0, flags1, flags2, flags3] = w[5].to_le_bytes();
+    let [flags4, flags5, link_count, _] = w[6].to_le_bytes();
     PathNode {
-        area_id: low16(w[0]),
-        node_id: high16(w[0]),
+        area_id: area_of(w),
+        node_id: number_of(w),
         street_name: w[1],
         position,
-        flags0: byte0(w[5]),
-        flags1: byte1(w[5]),
-        flags2: byte2(w[5]),
-        flags3: byte3(w[5]),
-        flags4: byte0(w[6]),
-        flags5: byte1(w[6]),
+        flags0,
+        flags1,
+        flags2,
+        flags3,
+        flags4,
+        flags5,
         link_id: w[7],
-        link_count: byte2(w[6]),
+        link_count,
         unused0: w[8],
         unused1: w[9],
         unused2: w[10],
         unused3: w[11],
-        unused4: low16(w[12]),
+        unused4: (w[12] % 65536) as u16,
     }
 }
 
 // The words that hold a node.
+#[tactic(auto, unfolding(crate::specs::Words::node_words))]
 pub fn node_words(n: PathNode) -> NodeWords
     ensures { result ≡ node_words n }
 {
     let p = n.position;
     [
-        pack16(n.area_id, n.node_id),
+        n.area_id as u32 + n.node_id as u32 * 65536,
         n.street_name,
         bits_of(p.x),
         bits_of(p.y),
         bits_of(p.z),
-        pack8(n.flags0, n.flags1, n.flags2, n.flags3),
-        pack8(n.flags4, n.flags5, n.link_count, 0),
+        u32::from_le_bytes([n.flags0, n.flags1, n.flags2, n.flags3]),
+        u32::from_le_bytes([n.flags4, n.flags5, n.link_count, 0]),
         n.link_id,
         n.unused0,
         n.unused1,
@@ -89,6 +93,7 @@ pub fn node_words(n: PathNode) -> NodeWords
 
 impl PathNode {
     // A node at a position in whole steps, with no links.
+    #[tactic(auto, unfolding(crate::specs::NodeAccess::new_node))]
     pub fn new(area_id: u16, node_id: u16, position: Vec3) -> PathNode
         ensures { result ≡ new_node area_id node_id (dequantised (quantised position)) }
     {
@@ -115,10 +120,13 @@ impl PathNode {
     }
 
     // The position is stored in whole steps.
-    pub fn set_position(mut self, p: Vec3) -> PathNode
+    #[tactic(auto, unfolding(crate::specs::NodeAccess::changed))]
+    pub fn set_position(self, p: Vec3) -> PathNode
         ensures { result ≡ with_position self (dequantised (quantised p)) }
     {
-        self.position = stored_position(p);
-        self
+        PathNode {
+            position: stored_position(p),
+            ..self
+        }
     }
 }

@@ -1,5 +1,7 @@
 // The fields of a node's flags.
-ghost use Rattle.std.specs.Prelude.{◌≡◌, ◌*◌, ◌/◌, ◌<◌};
+#![tactic(auto, unfolding(crate::specs::NodeAccess::changed, crate::specs::NodeAccess::disabled))]
+
+ghost use Rattle.std.specs.Prelude.{◌≡◌, ◌*◌, ◌/◌};
 ghost use Rattle.cells.specs.Access.{field_of, with_field, has_bit, with_bit};
 ghost use Rattle.cells.specs.NodeWords.{ped_kind};
 ghost use Rattle.cells.specs.Special.{special_of, special_value, speed_of, speed_value};
@@ -8,18 +10,11 @@ ghost use Rattle.cells.specs.NodeAccess.{with_flags5, disabled};
 
 use crate::field::{field_of, has_bit, with_bit, with_field};
 use crate::node::PathNode;
+use crate::node_words::ped_kind;
 use crate::special::{NodeSpecial, NodeSpeed};
 
 impl PathNode {
     // flags0
-
-    fn set_flags0_bit(mut self, k: u8, on: bool) -> PathNode
-        requires { k < 8 }
-        ensures { result ≡ with_flags0 self (with_bit k self.flags0 on) }
-    {
-        self.flags0 = with_bit(self.flags0, k, on);
-        self
-    }
 
     pub fn off_road(self) -> bool
         ensures { result ≡ has_bit 3 self.flags0 }
@@ -30,7 +25,10 @@ impl PathNode {
     pub fn set_off_road(self, on: bool) -> PathNode
         ensures { result ≡ with_flags0 self (with_bit 3 self.flags0 on) }
     {
-        self.set_flags0_bit(3, on)
+        PathNode {
+            flags0: with_bit(self.flags0, 3, on),
+            ..self
+        }
     }
 
     pub fn no_big_vehicles(self) -> bool
@@ -42,7 +40,10 @@ impl PathNode {
     pub fn set_no_big_vehicles(self, on: bool) -> PathNode
         ensures { result ≡ with_flags0 self (with_bit 5 self.flags0 on) }
     {
-        self.set_flags0_bit(5, on)
+        PathNode {
+            flags0: with_bit(self.flags0, 5, on),
+            ..self
+        }
     }
 
     pub fn cannot_go_left(self) -> bool
@@ -54,18 +55,13 @@ impl PathNode {
     pub fn set_cannot_go_left(self, on: bool) -> PathNode
         ensures { result ≡ with_flags0 self (with_bit 7 self.flags0 on) }
     {
-        self.set_flags0_bit(7, on)
+        PathNode {
+            flags0: with_bit(self.flags0, 7, on),
+            ..self
+        }
     }
 
     // flags1
-
-    fn set_flags1_bit(mut self, k: u8, on: bool) -> PathNode
-        requires { k < 8 }
-        ensures { result ≡ with_flags1 self (with_bit k self.flags1 on) }
-    {
-        self.flags1 = with_bit(self.flags1, k, on);
-        self
-    }
 
     pub fn slip_road(self) -> bool
         ensures { result ≡ has_bit 0 self.flags1 }
@@ -76,7 +72,10 @@ impl PathNode {
     pub fn set_slip_road(self, on: bool) -> PathNode
         ensures { result ≡ with_flags1 self (with_bit 0 self.flags1 on) }
     {
-        self.set_flags1_bit(0, on)
+        PathNode {
+            flags1: with_bit(self.flags1, 0, on),
+            ..self
+        }
     }
 
     pub fn indicate_keep_left(self) -> bool
@@ -88,7 +87,10 @@ impl PathNode {
     pub fn set_indicate_keep_left(self, on: bool) -> PathNode
         ensures { result ≡ with_flags1 self (with_bit 1 self.flags1 on) }
     {
-        self.set_flags1_bit(1, on)
+        PathNode {
+            flags1: with_bit(self.flags1, 1, on),
+            ..self
+        }
     }
 
     pub fn indicate_keep_right(self) -> bool
@@ -100,7 +102,10 @@ impl PathNode {
     pub fn set_indicate_keep_right(self, on: bool) -> PathNode
         ensures { result ≡ with_flags1 self (with_bit 2 self.flags1 on) }
     {
-        self.set_flags1_bit(2, on)
+        PathNode {
+            flags1: with_bit(self.flags1, 2, on),
+            ..self
+        }
     }
 
     pub fn left_turns_only(self) -> bool
@@ -112,38 +117,35 @@ impl PathNode {
     pub fn set_left_turns_only(self, on: bool) -> PathNode
         ensures { result ≡ with_flags1 self (with_bit 7 self.flags1 on) }
     {
-        self.set_flags1_bit(7, on)
+        PathNode {
+            flags1: with_bit(self.flags1, 7, on),
+            ..self
+        }
     }
 
     pub fn special(self) -> NodeSpecial
         ensures { result ≡ special_of (field_of 3 5 self.flags1) }
     {
-        NodeSpecial::from_value(field_of(self.flags1, 3, 5))
+        NodeSpecial::from(field_of(self.flags1, 3, 5))
     }
 
     // Of a value over 31 the low five bits are stored.
-    pub fn set_special(mut self, s: NodeSpecial) -> PathNode
+    pub fn set_special(self, s: NodeSpecial) -> PathNode
         ensures { result ≡ with_flags1 self (with_field 3 5 self.flags1 (special_value s)) }
     {
-        self.flags1 = with_field(self.flags1, 3, 5, s.value());
-        self
+        PathNode {
+            flags1: with_field(self.flags1, 3, 5, s.value()),
+            ..self
+        }
     }
 
     pub fn is_ped_node(self) -> bool
         ensures { result ≡ ped_kind (self.flags1 / 8) }
     {
-        self.special().is_ped()
+        ped_kind(self.flags1 / 8)
     }
 
     // flags2
-
-    fn set_flags2_bit(mut self, k: u8, on: bool) -> PathNode
-        requires { k < 8 }
-        ensures { result ≡ with_flags2 self (with_bit k self.flags2 on) }
-    {
-        self.flags2 = with_bit(self.flags2, k, on);
-        self
-    }
 
     pub fn no_gps(self) -> bool
         ensures { result ≡ has_bit 0 self.flags2 }
@@ -154,7 +156,10 @@ impl PathNode {
     pub fn set_no_gps(self, on: bool) -> PathNode
         ensures { result ≡ with_flags2 self (with_bit 0 self.flags2 on) }
     {
-        self.set_flags2_bit(0, on)
+        PathNode {
+            flags2: with_bit(self.flags2, 0, on),
+            ..self
+        }
     }
 
     pub fn is_junction(self) -> bool
@@ -166,7 +171,10 @@ impl PathNode {
     pub fn set_is_junction(self, on: bool) -> PathNode
         ensures { result ≡ with_flags2 self (with_bit 2 self.flags2 on) }
     {
-        self.set_flags2_bit(2, on)
+        PathNode {
+            flags2: with_bit(self.flags2, 2, on),
+            ..self
+        }
     }
 
     pub fn is_disabled_unk1(self) -> bool
@@ -184,7 +192,10 @@ impl PathNode {
     pub fn set_highway(self, on: bool) -> PathNode
         ensures { result ≡ with_flags2 self (with_bit 6 self.flags2 on) }
     {
-        self.set_flags2_bit(6, on)
+        PathNode {
+            flags2: with_bit(self.flags2, 6, on),
+            ..self
+        }
     }
 
     pub fn is_disabled_unk0(self) -> bool
@@ -207,11 +218,13 @@ impl PathNode {
         has_bit(self.flags3, 0)
     }
 
-    pub fn set_tunnel(mut self, on: bool) -> PathNode
+    pub fn set_tunnel(self, on: bool) -> PathNode
         ensures { result ≡ with_flags3 self (with_bit 0 self.flags3 on) }
     {
-        self.flags3 = with_bit(self.flags3, 0, on);
-        self
+        PathNode {
+            flags3: with_bit(self.flags3, 0, on),
+            ..self
+        }
     }
 
     pub fn heuristic_value(self) -> u8
@@ -220,11 +233,13 @@ impl PathNode {
         field_of(self.flags3, 1, 7)
     }
 
-    pub fn set_heuristic_value(mut self, v: u8) -> PathNode
+    pub fn set_heuristic_value(self, v: u8) -> PathNode
         ensures { result ≡ with_flags3 self (with_field 1 7 self.flags3 v) }
     {
-        self.flags3 = with_field(self.flags3, 1, 7, v);
-        self
+        PathNode {
+            flags3: with_field(self.flags3, 1, 7, v),
+            ..self
+        }
     }
 
     // flags4
@@ -235,13 +250,16 @@ impl PathNode {
         field_of(self.flags4, 0, 4)
     }
 
-    pub fn set_density(mut self, v: u8) -> PathNode
+    pub fn set_density(self, v: u8) -> PathNode
         ensures { result ≡ with_flags4 self (with_field 0 4 self.flags4 v) }
     {
-        self.flags4 = with_field(self.flags4, 0, 4, v);
-        self
+        PathNode {
+            flags4: with_field(self.flags4, 0, 4, v),
+            ..self
+        }
     }
 
+    #[tactic(auto, using(crate::proofs::Forms::FieldLaws::field_below))]
     pub fn dead_endness(self) -> u8
         ensures { result ≡ field_of 4 3 self.flags4 * 16 }
     {
@@ -253,13 +271,15 @@ impl PathNode {
     pub fn speed(self) -> NodeSpeed
         ensures { result ≡ speed_of (field_of 1 2 self.flags5) }
     {
-        NodeSpeed::from_value(field_of(self.flags5, 1, 2))
+        NodeSpeed::from(field_of(self.flags5, 1, 2))
     }
 
-    pub fn set_speed(mut self, s: NodeSpeed) -> PathNode
+    pub fn set_speed(self, s: NodeSpeed) -> PathNode
         ensures { result ≡ with_flags5 self (with_field 1 2 self.flags5 (speed_value s)) }
     {
-        self.flags5 = with_field(self.flags5, 1, 2, s.value());
-        self
+        PathNode {
+            flags5: with_field(self.flags5, 1, 2, s.value()),
+            ..self
+        }
     }
 }

@@ -4,12 +4,14 @@ ghost use Rattle.cells.specs.NodeWords.{area_of, number_of, is_ped, ped_kind, nu
 
 use crate::node::NodeWords;
 
+#[tactic(auto, unfolding(crate::specs::NodeWords::area_of))]
 pub fn area_of(w: NodeWords) -> u16
     ensures { result ≡ area_of w }
 {
     (w[0] % 65536) as u16
 }
 
+#[tactic(auto, unfolding(crate::specs::NodeWords::number_of))]
 pub fn number_of(w: NodeWords) -> u16
     ensures { result ≡ number_of w }
 {
@@ -17,25 +19,22 @@ pub fn number_of(w: NodeWords) -> u16
 }
 
 // Whether the upper five bits of flags1 are a ped node's.
-fn ped_kind(k: u32) -> bool
+pub(crate) fn ped_kind(k: u8) -> bool
     ensures { result ≡ ped_kind k }
 {
-    if k == 10 {
-        return true;
-    }
-    if k == 14 {
-        return true;
-    }
-    k == 18
+    matches!(k, 10 | 14 | 18)
 }
 
+#[tactic(auto, unfolding(crate::specs::NodeWords::is_ped))]
 pub(crate) fn is_ped(w: NodeWords) -> bool
     ensures { result ≡ is_ped w }
 {
-    ped_kind(w[5] / 256 % 256 / 8)
+    let [_, flags1, _, _] = w[5].to_le_bytes();
+    ped_kind(flags1 / 8)
 }
 
 // The node with another number; its later words stay.
+#[tactic(auto, unfolding(crate::specs::NodeWords::numbered))]
 pub(crate) fn with_number(w: NodeWords, k: u16) -> NodeWords
     ensures { result ≡ numbered k w }
 {

@@ -1,20 +1,19 @@
 // A junction's heightmap, replaced by one of any size.
-ghost use Rattle.std.specs.Prelude.{◌≡◌, List, [], ℕ, ◌+◌, ◌<◌, ◌≤◌, length, get_or, set};
+ghost use Rattle.std.specs.Prelude.{◌≡◌, List, [], ℕ, ◌+◌, ◌<◌, ◌≤◌, length, get_or, set, OnOk};
 ghost use Rattle.records.specs.Put.{put};
-ghost use Rattle.cells.specs.Memory.{memory, left};
-ghost use Rattle.cells.specs.PutHeightmap.{room_for_map, mapped, put_heightmap};
+ghost use Rattle.cells.specs.Memory.{memory, left, over_limit};
+ghost use Rattle.cells.specs.PutHeightmap.{room_for_map, MapRoom, mapped, put_heightmap};
 
 use crate::junction::JunctionWords;
 use crate::range::{held_in, map_size, value_range};
-use crate::recount::with_counts;
 use crate::replace::{place_for, pool_after};
 use crate::room::over_limit;
-use crate::ynd::{Outcome, Ynd};
-use numbers::answer::Answer;
-use records::put::put_bytes;
+use crate::ynd::Ynd;
+use numbers::refusal::{Lent, Refusal};
 
+#[tactic(auto, using(numbers::proofs::Refusing::tested), unfolding(crate::specs::PutHeightmap::room_for_map))]
 fn room_for_map(
-    over: bool,
+    ynd: Ynd,
     n: usize,
     p: usize,
     c: usize,
@@ -22,28 +21,29 @@ fn room_for_map(
     after: usize,
     junctions: usize,
     heights: usize,
-) -> Answer
-    ensures { result ≡ room_for_map over n p c size after junctions heights }
+) -> Result<(), Refusal>
+    ensures value { result ≡ room_for_map (over_limit ynd) n p c size after junctions heights }
+    ensures room { OnOk result (MapRoom n p c size after junctions heights) }
 {
     if n <= p {
-        return Answer::Refused(13, 0);
+        return Err(Refusal::NoSuchPlace);
     }
-    if over {
-        return Answer::Refused(14, 0);
+    if over_limit(ynd) {
+        return Err(Refusal::AtLimit);
     }
     if 4294967295 < after {
-        return Answer::Refused(14, 0);
+        return Err(Refusal::AtLimit);
     }
     if c != size {
-        return Answer::Refused(12, 0);
+        return Err(Refusal::WrongSize);
     }
     if junctions < n {
-        return Answer::Refused(7, 2);
+        return Err(Refusal::TooShort(Lent::Junctions));
     }
     if heights < after {
-        return Answer::Refused(7, 3);
+        return Err(Refusal::TooShort(Lent::Heightmap));
     }
-    Answer::Done
+    Ok(())
 }
 
 // The junction with a map of this size from s on.
@@ -74,10 +74,11 @@ fn place_map(
 {
     let w = junctions[p];
     junctions[p] = with_map(w, width, height, at as u32);
-    put_bytes(heights, at, values);
+    heights[at..at + values.len()].copy_from_slice(values);
 }
 
 // The heightmap of the junction at a place is the new one.
+#[tactic(auto, unfolding(crate::specs::PutHeightmap::put_heightmap, crate::specs::Add::with_counts))]
 pub fn put_heightmap(
     ynd: Ynd,
     junctions: &mut [JunctionWords],
@@ -86,9 +87,9 @@ pub fn put_heightmap(
     width: u8,
     height: u8,
     values: &[u8],
-) -> Outcome
+) -> Result<Ynd, Refusal>
     ensures { (nodes links refs : List (List ℕ)) →
-        left result nodes links junctions.new heights.new refs
+        left ynd result nodes links junctions.new heights.new refs
         ≡ put_heightmap (memory ynd nodes links junctions.old heights.old refs) place
         width height values.now }
 {
@@ -97,10 +98,9 @@ pub fn put_heightmap(
     let r = value_range(junctions, place);
     let e = held_in(r, h);
     let after = pool_after(e, values.len(), h);
-    let over = over_limit(ynd);
     let size = map_size(width, height);
-    let a = room_for_map(
-        over,
+    room_for_map(
+        ynd,
         n,
         place,
         values.len(),
@@ -108,22 +108,11 @@ pub fn put_heightmap(
         after,
         junctions.len(),
         heights.len(),
-    );
-    let Answer::Done = a else {
-        return Outcome { answer: a, ynd };
-    };
+    )?;
     let at = place_for(r.start, e, values.len(), h);
     place_map(junctions, heights, place, at, width, height, values);
-    let next = with_counts(
-        ynd,
-        ynd.node_count,
-        ynd.link_count,
-        ynd.junction_count,
-        after as u32,
-        ynd.ref_count,
-    );
-    Outcome {
-        answer: Answer::Done,
-        ynd: next,
-    }
+    Ok(Ynd {
+        heightmap_count: after as u32,
+        ..ynd
+    })
 }

@@ -6,9 +6,8 @@ ghost use Rattle.cells.specs.Entries.{stored_start};
 
 use crate::junction::{JunctionWords, PathJunction};
 use crate::node::NodeWords;
-use crate::pack::{byte0, byte1, byte2};
 
-#[derive(Clone, Copy)]
+#[derive(Clone, Copy, PartialEq, Eq, Debug)]
 pub struct Range {
     pub start: usize,
     pub count: usize,
@@ -24,7 +23,8 @@ pub fn link_start(w: NodeWords) -> u32
 pub fn link_count(w: NodeWords) -> u8
     ensures { result ≡ link_count w }
 {
-    byte2(w[6])
+    let [_, _, count, _] = w[6].to_le_bytes();
+    count
 }
 
 // The same of a junction's heightmap values.
@@ -43,29 +43,31 @@ pub(crate) fn map_size(width: u8, height: u8) -> usize
 pub fn value_count(w: JunctionWords) -> usize
     ensures { (result ≡ value_count w) × (result < 65536) }
 {
-    map_size(byte0(w[4]), byte1(w[4]))
+    let [width, height, _, _] = w[4].to_le_bytes();
+    map_size(width, height)
 }
 
 // A junction whose heightmap starts at a place.
+#[tactic(auto, unfolding(crate::specs::Edit::start_at))]
 pub(crate) fn start_at(j: PathJunction, start: u32) -> PathJunction
     ensures { result ≡ start_at j start }
 {
-    let mut m = j;
-    m.heightmap_ptr = start;
-    m
+    PathJunction {
+        heightmap_ptr: start,
+        ..j
+    }
 }
 
 // The links of the node at a place, none where the list ends before it.
 pub(crate) fn link_range(nodes: &[NodeWords], place: usize) -> Range
     ensures { result ≡ link_range nodes.now place }
 {
-    if nodes.len() <= place {
-        return Range { start: 0, count: 0 };
-    }
-    let w = nodes[place];
-    Range {
-        start: link_start(w) as usize,
-        count: link_count(w) as usize,
+    match nodes.get(place) {
+        Some(w) => Range {
+            start: link_start(*w) as usize,
+            count: link_count(*w) as usize,
+        },
+        None => Range { start: 0, count: 0 },
     }
 }
 
@@ -73,13 +75,12 @@ pub(crate) fn link_range(nodes: &[NodeWords], place: usize) -> Range
 pub(crate) fn value_range(junctions: &[JunctionWords], place: usize) -> Range
     ensures { result ≡ value_range junctions.now place }
 {
-    if junctions.len() <= place {
-        return Range { start: 0, count: 0 };
-    }
-    let w = junctions[place];
-    Range {
-        start: value_start(w) as usize,
-        count: value_count(w),
+    match junctions.get(place) {
+        Some(w) => Range {
+            start: value_start(*w) as usize,
+            count: value_count(*w),
+        },
+        None => Range { start: 0, count: 0 },
     }
 }
 
@@ -87,13 +88,7 @@ pub(crate) fn value_range(junctions: &[JunctionWords], place: usize) -> Range
 pub fn cut(start: usize, count: usize, pool: usize) -> usize
     ensures { result ≡ min count (pool - start) }
 {
-    if pool <= start {
-        return 0;
-    }
-    if pool - start < count {
-        return pool - start;
-    }
-    count
+    count.min(pool.saturating_sub(start))
 }
 
 // The start that a node with `count` links stores behind `before` links of other nodes (T-05: 0 if it has none).
@@ -107,6 +102,7 @@ pub fn stored_start(before: usize, count: usize) -> usize
 }
 
 // How many of a range are among the first l.
+#[tactic(auto, unfolding(crate::specs::Edit::held_in))]
 pub(crate) fn held_in(r: Range, l: usize) -> usize
     ensures { result ≡ held_in r l }
 {

@@ -1,80 +1,81 @@
 // The numbers of links and refs after renumbering.
-ghost use Rattle.std.specs.Prelude.{◌≡◌, map, ℕ, ◌≤◌, ◌<◌, length, get_or, take};
-ghost use Rattle.cells.specs.Area.{belongs};
-ghost use Rattle.cells.specs.Order.{new_place};
+ghost use Rattle.std.specs.Prelude.{◌≡◌, map, ◌≤◌, length};
+ghost use Rattle.cells.specs.Order.{new_number, new_places};
 ghost use Rattle.cells.specs.NodeWords.{is_ped, first_area, old_of, relinked};
-ghost use Rattle.cells.specs.Renumber.{over};
 ghost use Rattle.cells.specs.RenumberParts.{Ready};
 
 use crate::area::{belongs_to, own_area};
 use crate::link::LinkWords;
 use crate::node::NodeWords;
-use crate::number_index::{index_numbers, new_number};
+use crate::node_words::number_of;
+use crate::number_index::index_numbers;
 
-// A link or a ref of a cell of the area `own`, as it is after renumbering.
-fn relink(
-    nodes: &[NodeWords],
-    scratch: &[u32],
-    places: &[u32],
-    n: usize,
+// What the numbers of links and refs are looked up in: the nodes of a cell of the area `own` before they move, a
+// scratch that leads from each number that a node has to the last node that has it, and each node's new place.
+#[derive(Clone, Copy)]
+struct Old<'a> {
+    nodes: &'a [NodeWords],
     own: u16,
-    w: LinkWords,
-) -> LinkWords
-    requires { Ready n nodes.now scratch.now places.now × (own ≡ first_area (take n nodes.now)) }
-    ensures { result ≡ relinked (old_of n nodes.now) w }
-{
-    if belongs_to(own, w[0]) {
-        return [
-            w[0],
-            new_number(nodes, scratch, places, n, w[1]),
-            w[2],
-            w[3],
-        ];
-    }
-    [w[0], w[1], w[2], w[3]]
+    scratch: &'a [u32],
+    places: &'a [u32],
+    ghost ready: { Ready nodes.now scratch.now places.now },
+    ghost area: { own ≡ first_area nodes.now },
 }
 
-// The first `count` links or refs.
-fn relink_all(
-    nodes: &[NodeWords],
-    scratch: &[u32],
-    places: &[u32],
-    n: usize,
-    own: u16,
-    links: &mut [LinkWords],
-    count: usize,
-)
-    requires { Ready n nodes.now scratch.now places.now × (own ≡ first_area (take n nodes.now))
-        × (count ≤ length links.old) }
-    ensures { links.new ≡ over (map (relinked (old_of n nodes.now))) count links.old }
-{
-    let mut i = 0;
-    while i < count {
-        let w = links[i];
-        links[i] = relink(nodes, scratch, places, n, own, w);
-        i += 1;
+impl Old<'_> {
+    // The new number of the last node that had the number `k`; `k` if none had.
+    // An entry of the scratch counts only if the node that it leads to has the number.
+    fn new_number(&self, k: u16) -> u16
+        ensures { result ≡ new_number (old_of (length self.now.nodes.now) self.now.nodes.now) k }
+    {
+        let t = self.scratch[k as usize] as usize;
+        if t < self.nodes.len() && number_of(self.nodes[t]) == k {
+            return self.places[t] as u16;
+        }
+        k
+    }
+
+    // A link or a ref, as it is after renumbering.
+    fn relink(&self, w: LinkWords) -> LinkWords
+        ensures { result ≡ relinked (old_of (length self.now.nodes.now) self.now.nodes.now) w }
+    {
+        if belongs_to(self.own, w[0]) {
+            return [w[0], self.new_number(w[1]), w[2], w[3]];
+        }
+        w
+    }
+
+    // The links or refs.
+    fn relink_all(&self, links: &mut [LinkWords])
+        ensures { links.new ≡ map (relinked (old_of (length self.now.nodes.now) self.now.nodes.now)) links.old }
+    {
+        for w in links.iter_mut() {
+            *w = self.relink(*w);
+        }
     }
 }
 
-// The first `l` links and the first `r` refs, by the nodes before they move.
+// The links and the refs, by the nodes before they move.
 pub(crate) fn relink_lists(
     nodes: &[NodeWords],
     links: &mut [LinkWords],
     refs: &mut [LinkWords],
     scratch: &mut [u32],
     places: &[u32],
-    n: usize,
-    l: usize,
-    r: usize,
 )
-    requires { (n ≤ 65536) × (n ≤ length nodes.now) × (l ≤ length links.old) × (r ≤ length refs.old)
-        × (65536 ≤ length scratch.old) × (n ≤ length places.now)
-        × ((p : ℕ) → p < n → get_or places.now p 0 ≡ new_place (map is_ped (take n nodes.now)) p) }
-    ensures { (links.new ≡ over (map (relinked (old_of n nodes.now))) l links.old)
-        × (refs.new ≡ over (map (relinked (old_of n nodes.now))) r refs.old) }
+    requires { (length nodes.now ≤ 65536) × (65536 ≤ length scratch.old)
+        × (places.now ≡ new_places (map is_ped nodes.now)) }
+    ensures { (links.new ≡ map (relinked (old_of (length nodes.now) nodes.now)) links.old)
+        × (refs.new ≡ map (relinked (old_of (length nodes.now) nodes.now)) refs.old) }
 {
-    let own = own_area(nodes, n);
-    index_numbers(nodes, scratch, n);
-    relink_all(nodes, scratch, places, n, own, links, l);
-    relink_all(nodes, scratch, places, n, own, refs, r);
+    let own = own_area(nodes, nodes.len());
+    index_numbers(nodes, scratch);
+    let old = Old {
+        nodes,
+        own,
+        scratch,
+        places,
+    };
+    old.relink_all(links);
+    old.relink_all(refs);
 }

@@ -1,74 +1,80 @@
 // Renumbering: nodes, links and refs, with the cell's two node counts.
-ghost use Rattle.std.specs.Prelude.{◌≡◌, ◌≤◌, length};
-ghost use Rattle.cells.specs.Memory.{memory, over_limit};
-ghost use Rattle.cells.specs.Renumber.{lists, renumbered_by, vehicles, renumber_lists, recounted, answer_of};
-ghost use Rattle.cells.specs.Renumber.{renumber, scratch_left};
+ghost use Rattle.std.specs.Prelude.{◌≡◌, map, OnOk, ◌≤◌, length};
+ghost use Rattle.cells.specs.Memory.{memory, over_limit, short_of};
+ghost use Rattle.cells.specs.NodeWords.{is_ped, is_vehicle, old_of, relinked, reordered};
+ghost use Rattle.cells.specs.Order.{keep, new_places};
+ghost use Rattle.cells.specs.Renumber.{renumbered_by, recounted, answer_of, renumber, scratch_left};
 
+use crate::count::{Counts, lengths};
 use crate::junction::JunctionWords;
 use crate::link::LinkWords;
 use crate::node::NodeWords;
 use crate::order::{count_vehicles, fill_places};
 use crate::permute::move_nodes;
 use crate::relink::relink_lists;
-use crate::room::{lacking, over_limit};
-use crate::ynd::{Outcome, Ynd};
-use numbers::answer::Answer;
+use crate::room::over_limit;
+use crate::ynd::Ynd;
+use numbers::refusal::{Lent, Refusal};
 
-// All lists, where they are long enough; answers how many nodes are no ped nodes.
+// All lists; answers how many nodes are no ped nodes.
 fn renumber_lists(
     nodes: &mut [NodeWords],
     links: &mut [LinkWords],
     refs: &mut [LinkWords],
     scratch: &mut [u32],
     places: &mut [u32],
-    n: usize,
-    l: usize,
-    r: usize,
 ) -> usize
-    requires { (n ≤ 65536) × (n ≤ length nodes.old) × (l ≤ length links.old) × (r ≤ length refs.old)
-        × (65536 ≤ length scratch.old) × (n ≤ length places.old) }
-    ensures { (result ≡ vehicles n nodes.old)
-        × (lists nodes.new links.new refs.new places.new
-        ≡ renumber_lists n l r (lists nodes.old links.old refs.old places.old)) }
+    requires { (length nodes.old ≤ 65536) × (65536 ≤ length scratch.old) × (length places.old ≡ length nodes.old) }
+    ensures count { (result ≡ length (keep is_vehicle nodes.old)) × (result ≤ length nodes.old) }
+    ensures lists { (nodes.new ≡ reordered nodes.old)
+        × (links.new ≡ map (relinked (old_of (length nodes.old) nodes.old)) links.old)
+        × (refs.new ≡ map (relinked (old_of (length nodes.old) nodes.old)) refs.old)
+        × (places.new ≡ new_places (map is_ped nodes.old)) }
 {
-    let v = count_vehicles(nodes, n);
-    fill_places(nodes, places, n, v);
-    relink_lists(nodes, links, refs, scratch, places, n, l, r);
-    move_nodes(nodes, scratch, places, n);
+    let v = count_vehicles(nodes);
+    fill_places(nodes, places, v);
+    relink_lists(nodes, links, refs, scratch, places);
+    move_nodes(nodes, &mut scratch[..nodes.len()], places);
     v
 }
 
-// Whether the call is accepted: `lack` is the first list that is too short.
-fn answer_of(ynd: Ynd, n: usize, lack: usize, scratch: usize, places: usize) -> Answer
-    ensures { result ≡ answer_of (over_limit ynd) n lack scratch places }
+// Whether the call is accepted, with lists of these lengths.
+#[tactic(auto, using(numbers::proofs::Refusing::tested), unfolding(crate::specs::Renumber::answer_of, crate::specs::Memory::short_of, crate::specs::Read::room_check))]
+fn check_call(ynd: Ynd, lent: Counts, scratch: usize, places: usize) -> Result<(), Refusal>
+    ensures value { result ≡ answer_of (over_limit ynd) ynd.node_count
+        (short_of ynd lent.nodes lent.links lent.junctions lent.heights lent.refs) scratch places }
+    ensures room { OnOk result ((ynd.node_count ≤ 65536) × (ynd.node_count ≤ lent.nodes)
+        × (ynd.link_count ≤ lent.links) × (ynd.ref_count ≤ lent.refs) × (65536 ≤ scratch)
+        × (ynd.node_count ≤ places)) }
 {
     if over_limit(ynd) {
-        return Answer::Refused(14, 0);
+        return Err(Refusal::AtLimit);
     }
-    if lack < 5 {
-        return Answer::Refused(7, lack);
-    }
+    lent.hold(ynd.counts())?;
     if scratch < 65536 {
-        return Answer::Refused(7, 6);
+        return Err(Refusal::TooShort(Lent::Scratch));
     }
-    if places < n {
-        return Answer::Refused(7, 7);
+    if places < ynd.node_count as usize {
+        return Err(Refusal::TooShort(Lent::NewPlaces));
     }
-    Answer::Done
+    Ok(())
 }
 
 // The cell with new counts of nodes.
+#[tactic(auto, unfolding(crate::specs::Renumber::recounted))]
 fn recount(ynd: Ynd, v: u32, p: u32) -> Ynd
     ensures { result ≡ recounted ynd v p }
 {
-    let mut y = ynd;
-    y.vehicle_node_count = v;
-    y.ped_node_count = p;
-    y
+    Ynd {
+        vehicle_node_count: v,
+        ped_node_count: p,
+        ..ynd
+    }
 }
 
 // Renumbers the cell, and fills `places` with each node's new place. The scratch holds anything after an accepted
 // call; a refusal changes nothing.
+#[tactic(auto, unfolding(crate::specs::Renumber::renumber))]
 pub fn recalculate_node_indices(
     ynd: Ynd,
     nodes: &mut [NodeWords],
@@ -78,31 +84,23 @@ pub fn recalculate_node_indices(
     refs: &mut [LinkWords],
     scratch: &mut [u32],
     places: &mut [u32],
-) -> Outcome
-    ensures places_after { renumbered_by result nodes.new links.new junctions.now heights.now refs.new places.new
+) -> Result<Ynd, Refusal>
+    ensures places_after { renumbered_by ynd result nodes.new links.new junctions.now heights.now refs.new places.new
         ≡ renumber (memory ynd nodes.old links.old junctions.now heights.now refs.old) (length scratch.old)
         places.old }
-    ensures scratch_left { scratch_left result.answer scratch.old scratch.new }
+    ensures scratch_left { scratch_left result scratch.old scratch.new }
 {
     let n = ynd.node_count as usize;
     let l = ynd.link_count as usize;
     let r = ynd.ref_count as usize;
-    let lack = lacking(
-        ynd,
-        nodes.len(),
-        links.len(),
-        junctions.len(),
-        heights.len(),
-        refs.len(),
+    let lent = lengths(nodes, links, junctions, heights, refs);
+    check_call(ynd, lent, scratch.len(), places.len())?;
+    let v = renumber_lists(
+        &mut nodes[..n],
+        &mut links[..l],
+        &mut refs[..r],
+        scratch,
+        &mut places[..n],
     );
-    let a = answer_of(ynd, n, lack, scratch.len(), places.len());
-    let Answer::Done = a else {
-        return Outcome { answer: a, ynd };
-    };
-    let v = renumber_lists(nodes, links, refs, scratch, places, n, l, r);
-    let next = recount(ynd, v as u32, (n - v) as u32);
-    Outcome {
-        answer: Answer::Done,
-        ynd: next,
-    }
+    Ok(recount(ynd, v as u32, (n - v) as u32))
 }

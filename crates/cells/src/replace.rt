@@ -3,6 +3,7 @@ ghost use Rattle.std.specs.Prelude.{◌≡◌, ◌+◌, ◌<◌};
 ghost use Rattle.cells.specs.Replace.{place_for, pool_after};
 
 // c new entries in place of e from s on, of l.
+#[tactic(auto, using(numbers::proofs::Refusing::tested), unfolding(crate::specs::Replace::place_for))]
 pub(crate) fn place_for(s: usize, e: usize, c: usize, l: usize) -> usize
     ensures { result ≡ place_for s e c l }
 {
@@ -15,6 +16,7 @@ pub(crate) fn place_for(s: usize, e: usize, c: usize, l: usize) -> usize
     l
 }
 
+#[tactic(auto, using(numbers::proofs::Refusing::tested), unfolding(crate::specs::Replace::pool_after))]
 pub(crate) fn pool_after(e: usize, c: usize, l: usize) -> usize
     requires { l + c < 18446744073709551616 }
     ensures { result ≡ pool_after e c l }

@@ -2,43 +2,36 @@
 ghost use Rattle.std.specs.Prelude.{◌≡◌};
 ghost use Rattle.cells.specs.Memory.{over_limit, short_of};
 
+use crate::count::Counts;
 use crate::ynd::Ynd;
+use numbers::refusal::Refusal;
 
 // Over 65,536 nodes or 4,096 junctions: a struct made by hand.
+#[tactic(auto, using(numbers::proofs::Refusing::tested), unfolding(crate::specs::Memory::over_limit))]
 pub fn over_limit(ynd: Ynd) -> bool
     ensures { result ≡ over_limit ynd }
 {
-    if 65536 < ynd.node_count {
-        return true;
-    }
-    4096 < ynd.junction_count
+    65536 < ynd.node_count || 4096 < ynd.junction_count
 }
 
-// The first list that is shorter than its count, 5 if none is.
-pub fn lacking(
+// 7: whether each list has as many entries as its count says.
+#[tactic(auto, unfolding(crate::specs::Memory::short_of, crate::specs::Read::room_check))]
+pub fn check_lent(
     ynd: Ynd,
     nodes: usize,
     links: usize,
     junctions: usize,
     heights: usize,
     refs: usize,
-) -> usize
+) -> Result<(), Refusal>
     ensures { result ≡ short_of ynd nodes links junctions heights refs }
 {
-    if nodes < ynd.node_count as usize {
-        return 0;
-    }
-    if links < ynd.link_count as usize {
-        return 1;
-    }
-    if junctions < ynd.junction_count as usize {
-        return 2;
-    }
-    if heights < ynd.heightmap_count as usize {
-        return 3;
-    }
-    if refs < ynd.ref_count as usize {
-        return 4;
-    }
-    5
+    let lent = Counts {
+        nodes,
+        links,
+        junctions,
+        heights,
+        refs,
+    };
+    lent.hold(ynd.counts())
 }

@@ -5,10 +5,11 @@ ghost use Rattle.cells.specs.Checks.{root_read, sizes_check};
 
 use crate::checks::check_sizes;
 use crate::ynd::Ynd;
-use numbers::answer::Answer;
+use numbers::refusal::Refusal;
 use records::root::{Root, root_of};
 
 // The root of a section that holds nothing yet.
+#[tactic(auto, unfolding(crate::specs::NewYnd::new_root))]
 fn new_root() -> Root
     ensures { result ≡ new_root }
 {
@@ -43,7 +44,7 @@ pub fn read_root(system: &[u8]) -> Root
 }
 
 // Whether a system section of so many bytes has a root: 2, 1.
-pub fn check_root(system: usize) -> Answer
+pub fn check_root(system: usize) -> Result<(), Refusal>
     ensures { result ≡ sizes_check system 0 }
 {
     check_sizes(system, 0)

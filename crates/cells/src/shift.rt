@@ -21,30 +21,23 @@ pub(crate) fn with_range(w: NodeWords, s: u32, c: u8) -> NodeWords
     v
 }
 
-fn shift(w: NodeWords, at: usize, l: usize) -> NodeWords
+#[tactic(auto, using(numbers::proofs::Refusing::tested), unfolding(crate::specs::AddLink::shifted))]
+fn shift(w: &mut NodeWords, at: usize, l: usize)
     requires { l < 4294967295 }
-    ensures { result ≡ shifted at l w }
+    ensures { w.new ≡ shifted at l w.old }
 {
-    let s = link_start(w) as usize;
-    if s < at {
-        return w;
+    let s = link_start(*w) as usize;
+    if at <= s && s < l {
+        *w = with_range(*w, (s + 1) as u32, link_count(*w));
     }
-    if l <= s {
-        return w;
-    }
-    let c = link_count(w);
-    with_range(w, (s + 1) as u32, c)
 }
 
-// The first n nodes, each with its range moved if it starts at or behind a place of l.
-pub(crate) fn shift_all(nodes: &mut [NodeWords], n: usize, at: usize, l: usize)
-    requires { (n ≤ length nodes.old) × (l < 4294967295) }
-    ensures { nodes.new ≡ map (shifted at l) (take n nodes.old) ++ drop n nodes.old }
+// The nodes, each with its range moved if it starts at or behind a place of l.
+pub(crate) fn shift_all(nodes: &mut [NodeWords], at: usize, l: usize)
+    requires { l < 4294967295 }
+    ensures { nodes.new ≡ map (shifted at l) nodes.old }
 {
-    let mut i = 0;
-    while i < n {
-        let w = nodes[i];
-        nodes[i] = shift(w, at, l);
-        i += 1;
+    for w in nodes.iter_mut() {
+        shift(w, at, l);
     }
 }

@@ -2,7 +2,7 @@
 ghost use Rattle.std.specs.Prelude.{◌≡◌};
 ghost use Rattle.cells.specs.Special.{special_of, special_value, is_ped_special, speed_of, speed_value};
 
-#[derive(Clone, Copy)]
+#[derive(Clone, Copy, PartialEq, Eq, Debug)]
 pub enum NodeSpecial {
     None,
     ParkingSpace,
@@ -17,10 +17,11 @@ pub enum NodeSpecial {
     Other(u8),
 }
 
-impl NodeSpecial {
-    pub fn from_value(v: u8) -> NodeSpecial
-        ensures { result ≡ special_of v }
-    {
+impl From<u8> for NodeSpecial {
+    ghost from_gives = { λ v s. s ≡ special_of v };
+
+    #[tactic(auto, unfolding(crate::specs::Special::special_of))]
+    fn from(v: u8) -> NodeSpecial {
         match v {
             0 => NodeSpecial::None,
             2 => NodeSpecial::ParkingSpace,
@@ -34,6 +35,14 @@ impl NodeSpecial {
             20 => NodeSpecial::OffRoadJunction,
             n => NodeSpecial::Other(n),
         }
+    }
+}
+
+impl NodeSpecial {
+    pub fn from_value(v: u8) -> NodeSpecial
+        ensures { result ≡ special_of v }
+    {
+        NodeSpecial::from(v)
     }
 
     pub fn value(self) -> u8
@@ -57,23 +66,16 @@ impl NodeSpecial {
     pub fn is_ped(self) -> bool
         ensures { result ≡ is_ped_special self }
     {
-        match self {
-            NodeSpecial::None => false,
-            NodeSpecial::ParkingSpace => false,
-            NodeSpecial::PedNodeRoadCrossing => true,
-            NodeSpecial::PedNodeAssistedMovement => true,
-            NodeSpecial::TrafficLightJunctionStop => false,
-            NodeSpecial::StopSign => false,
-            NodeSpecial::Caution => false,
-            NodeSpecial::PedRoadCrossingNoWait => true,
-            NodeSpecial::EmergencyVehiclesOnly => false,
-            NodeSpecial::OffRoadJunction => false,
-            NodeSpecial::Other(_) => false,
-        }
+        matches!(
+            self,
+            NodeSpecial::PedNodeRoadCrossing
+                | NodeSpecial::PedNodeAssistedMovement
+                | NodeSpecial::PedRoadCrossingNoWait
+        )
     }
 }
 
-#[derive(Clone, Copy)]
+#[derive(Clone, Copy, PartialEq, Eq, Debug)]
 pub enum NodeSpeed {
     Slow,
     Normal,
@@ -81,11 +83,12 @@ pub enum NodeSpeed {
     Faster,
 }
 
-impl NodeSpeed {
-    // The speed of a field of two bits.
-    pub(crate) fn from_value(v: u8) -> NodeSpeed
-        ensures { result ≡ speed_of v }
-    {
+impl From<u8> for NodeSpeed {
+    ghost from_gives = { λ v s. s ≡ speed_of v };
+
+    // A speed over 3 is 3.
+    #[tactic(auto, unfolding(crate::specs::Special::speed_of))]
+    fn from(v: u8) -> NodeSpeed {
         match v {
             0 => NodeSpeed::Slow,
             1 => NodeSpeed::Normal,
@@ -93,7 +96,9 @@ impl NodeSpeed {
             _ => NodeSpeed::Faster,
         }
     }
+}
 
+impl NodeSpeed {
     pub fn value(self) -> u8
         ensures { result ≡ speed_value self }
     {

@@ -1,94 +1,60 @@
 // Nodes, junctions and refs cut off at the end, as `Vec::truncate` of the Rust's lists.
-ghost use Rattle.std.specs.Prelude.{◌≡◌, List, ℕ};
-ghost use Rattle.cells.specs.Memory.{memory, left};
+ghost use Rattle.std.specs.Prelude.{◌≡◌, List, ℕ, IfOk};
+ghost use Rattle.cells.specs.Memory.{memory, left, over_limit};
+ghost use Rattle.numbers.specs.Refusals.{answered};
 ghost use Rattle.cells.specs.Truncate.{fewer, truncate_nodes, truncate_junctions, truncate_refs};
 
-use crate::recount::with_counts;
 use crate::room::over_limit;
-use crate::ynd::{Outcome, Ynd};
-use numbers::answer::Answer;
+use crate::ynd::Ynd;
+use numbers::refusal::Refusal;
 
-// Whether k entries can be left of n.
-fn fewer_of(over: bool, n: usize, k: usize) -> Answer
-    ensures { result ≡ fewer over n k }
+// How many are left, if k entries can be left of n.
+#[tactic(auto, using(numbers::proofs::Refusing::tested), unfolding(crate::specs::Truncate::fewer))]
+fn fewer_of(ynd: Ynd, n: u32, k: usize) -> Result<u32, Refusal>
+    ensures value { answered result ≡ fewer (over_limit ynd) n k }
+    ensures left { IfOk result (λ left. left ≡ k) }
 {
-    if n < k {
-        return Answer::Refused(13, 0);
+    if (n as usize) < k {
+        return Err(Refusal::NoSuchPlace);
     }
-    if over {
-        return Answer::Refused(14, 0);
+    if over_limit(ynd) {
+        return Err(Refusal::AtLimit);
     }
-    Answer::Done
+    Ok(k as u32)
 }
 
 // The first k nodes stay. Both counts of kinds stay too: renumbering sets them.
-pub fn truncate_nodes(ynd: Ynd, k: usize) -> Outcome
+#[tactic(auto, unfolding(crate::specs::Truncate::truncate_nodes, crate::specs::Add::with_counts))]
+pub fn truncate_nodes(ynd: Ynd, k: usize) -> Result<Ynd, Refusal>
     ensures { (nodes links junctions refs : List (List ℕ)) (heights : List ℕ) →
-        left result nodes links junctions heights refs
+        left ynd result nodes links junctions heights refs
         ≡ truncate_nodes (memory ynd nodes links junctions heights refs) k }
 {
-    let a = fewer_of(over_limit(ynd), ynd.node_count as usize, k);
-    let Answer::Done = a else {
-        return Outcome { answer: a, ynd };
-    };
-    let next = with_counts(
-        ynd,
-        k as u32,
-        ynd.link_count,
-        ynd.junction_count,
-        ynd.heightmap_count,
-        ynd.ref_count,
-    );
-    Outcome {
-        answer: Answer::Done,
-        ynd: next,
-    }
+    let node_count = fewer_of(ynd, ynd.node_count, k)?;
+    Ok(Ynd { node_count, ..ynd })
 }
 
 // The first k junctions stay.
-pub fn truncate_junctions(ynd: Ynd, k: usize) -> Outcome
+#[tactic(auto, unfolding(crate::specs::Truncate::truncate_junctions, crate::specs::Add::with_counts))]
+pub fn truncate_junctions(ynd: Ynd, k: usize) -> Result<Ynd, Refusal>
     ensures { (nodes links junctions refs : List (List ℕ)) (heights : List ℕ) →
-        left result nodes links junctions heights refs
+        left ynd result nodes links junctions heights refs
         ≡ truncate_junctions (memory ynd nodes links junctions heights refs) k }
 {
-    let a = fewer_of(over_limit(ynd), ynd.junction_count as usize, k);
-    let Answer::Done = a else {
-        return Outcome { answer: a, ynd };
-    };
-    let next = with_counts(
-        ynd,
-        ynd.node_count,
-        ynd.link_count,
-        k as u32,
-        ynd.heightmap_count,
-        ynd.ref_count,
-    );
-    Outcome {
-        answer: Answer::Done,
-        ynd: next,
-    }
+    let junction_count = fewer_of(ynd, ynd.junction_count, k)?;
+    Ok(Ynd {
+        junction_count,
+        ..ynd
+    })
 }
 
 // The first k refs stay.
-pub fn truncate_refs(ynd: Ynd, k: usize) -> Outcome
+#[tactic(auto, unfolding(crate::specs::Truncate::truncate_refs, crate::specs::Add::with_counts))]
+pub fn truncate_refs(ynd: Ynd, k: usize) -> Result<Ynd, Refusal>
     ensures { (nodes links junctions refs : List (List ℕ)) (heights : List ℕ) →
-        left result nodes links junctions heights refs
+        left ynd result nodes links junctions heights refs
         ≡ truncate_refs (memory ynd nodes links junctions heights refs) k }
 {
-    let a = fewer_of(over_limit(ynd), ynd.ref_count as usize, k);
-    let Answer::Done = a else {
-        return Outcome { answer: a, ynd };
-    };
-    let next = with_counts(
-        ynd,
-        ynd.node_count,
-        ynd.link_count,
-        ynd.junction_count,
-        ynd.heightmap_count,
-        k as u32,
-    );
-    Outcome {
-        answer: Answer::Done,
-        ynd: next,
-    }
+    let ref_count = fewer_of(ynd, ynd.ref_count, k)?;
+    Ok(Ynd { ref_count, ..ynd })
 }

@@ -1,9 +1,10 @@
 // A cell's own words and counts; its entries stand in five lent lists beside it.
 ghost use Rattle.std.specs.Prelude.{◌≡◌};
 ghost use Rattle.cells.specs.NewYnd.{new_ynd};
+ghost use Rattle.cells.specs.RenumberParts.{counts_of};
 ghost use Rattle.cells.specs.OwnWords.{with_vft, with_vehicles, with_peds, with_unknowns};
 
-use numbers::answer::Answer;
+use crate::count::Counts;
 
 pub const NODE_DICTIONARY_VFT: u32 = 0x4061_E3B0;
 
@@ -21,15 +22,9 @@ pub struct Ynd {
     pub ref_count: u32,
 }
 
-// A call's answer, and the cell after it.
-#[derive(Clone, Copy)]
-pub struct Outcome {
-    pub answer: Answer,
-    pub ynd: Ynd,
-}
-
 impl Ynd {
     // A cell that holds nothing.
+    #[tactic(auto, unfolding(crate::specs::NewYnd::new_ynd))]
     pub fn new() -> Ynd
         ensures { result ≡ new_ynd }
     {
@@ -47,32 +42,54 @@ impl Ynd {
         }
     }
 
+    // How many entries of each list it has.
+    pub(crate) fn counts(self) -> Counts
+        ensures { result ≡ counts_of self }
+    {
+        Counts {
+            nodes: self.node_count as usize,
+            links: self.link_count as usize,
+            junctions: self.junction_count as usize,
+            heights: self.heightmap_count as usize,
+            refs: self.ref_count as usize,
+        }
+    }
+
     // The cell's own words, each stored as it is given; renumbering alone sets both counts by the nodes.
-    pub fn set_vft(mut self, vft: u32) -> Ynd
+    #[tactic(auto, unfolding(crate::specs::OwnWords::with_own))]
+    pub fn set_vft(self, vft: u32) -> Ynd
         ensures { result ≡ with_vft self vft }
     {
-        self.vft = vft;
-        self
+        Ynd { vft, ..self }
     }
 
-    pub fn set_vehicle_node_count(mut self, count: u32) -> Ynd
+    #[tactic(auto, unfolding(crate::specs::OwnWords::with_own))]
+    pub fn set_vehicle_node_count(self, count: u32) -> Ynd
         ensures { result ≡ with_vehicles self count }
     {
-        self.vehicle_node_count = count;
-        self
+        Ynd {
+            vehicle_node_count: count,
+            ..self
+        }
     }
 
-    pub fn set_ped_node_count(mut self, count: u32) -> Ynd
+    #[tactic(auto, unfolding(crate::specs::OwnWords::with_own))]
+    pub fn set_ped_node_count(self, count: u32) -> Ynd
         ensures { result ≡ with_peds self count }
     {
-        self.ped_node_count = count;
-        self
+        Ynd {
+            ped_node_count: count,
+            ..self
+        }
     }
 
-    pub fn set_unknowns(mut self, u: [u32; 7]) -> Ynd
+    #[tactic(auto, unfolding(crate::specs::OwnWords::with_own))]
+    pub fn set_unknowns(self, u: [u32; 7]) -> Ynd
         ensures { result ≡ with_unknowns self u }
     {
-        self.unknowns = u;
-        self
+        Ynd {
+            unknowns: u,
+            ..self
+        }
     }
 }

@@ -1,9 +1,10 @@
 -- Section 6: the one line that `cellsum` prints.
 use Rattle.std.specs.Prelude.{ℕ, ◌++◌, List, [], ltb, length, if◌then◌else◌, codes, decimal}
 use Rattle.cells.specs.declared.count.Counts.{Counts}
-use Rattle.cells.specs.declared.count.Counted.{Counted}
-use Rattle.cells.specs.declared.count.Counted.TheVariants.{Held, Refused}
 use Rattle.cells.specs.Checks.{count_of}
+use Rattle.std.specs.Prelude.{Result, Ok, Err}
+use Rattle.numbers.specs.Refusals.{number_of, place_of}
+use Rattle.numbers.specs.declared.refusal.Refusal.{Refusal}
 
 -- nodes held, links held over all nodes, junctions, refs
 abbrev pub counts_line_of : Counts → List ℕ
@@ -15,9 +16,9 @@ counts_line_of k =
 abbrev pub refused_line_of : ℕ → ℕ → List ℕ
 refused_line_of number place = codes "refused " ++ decimal number ++ codes " " ++ decimal place ++ codes "\n"
 
-abbrev pub counted_line_of : Counted → List ℕ
-counted_line_of (Held k) = counts_line_of k
-counted_line_of (Refused number place) = refused_line_of number place
+abbrev pub counted_line_of : Result Counts Refusal → List ℕ
+counted_line_of (Ok k) = counts_line_of k
+counted_line_of (Err r) = refused_line_of (number_of r) (place_of r)
 
 -- what is read is the system section, graphics empty; more than 65,536 bytes are too long
 abbrev pub line_of : List ℕ → List ℕ

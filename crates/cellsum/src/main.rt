@@ -5,7 +5,7 @@ ghost use Rattle.std.specs.Prelude.{◌≡◌, ◌+◌, take, IfOk, IfSome, OnOk
 ghost use Rattle.std.specs.Io.KnownBytes.{Appends};
 ghost use Rattle.cellsum.specs.Line.{counts_line_of, refused_line_of, line_of};
 
-use cells::count::{Counted, Counts, count};
+use cells::count::{Counts, count};
 use std::alloc::{AllocError, Global};
 use std::io;
 use std::io::{Read, Write};
@@ -25,7 +25,7 @@ fn counts_line(alloc: Global, k: Counts) -> Result<String, AllocError>
 fn refused_line(alloc: Global, number: u32, place: usize) -> Result<String, AllocError>
     ensures { IfOk result (λ text. string_bytes text ≡ refused_line_of number place) }
 {
-    format!(in alloc; "refused {number} {place}\n")
+    format!(in alloc; "refused {} {}\n", number, place)
 }
 
 fn line(alloc: Global, input: &[u8]) -> Result<String, AllocError>
@@ -35,8 +35,8 @@ fn line(alloc: Global, input: &[u8]) -> Result<String, AllocError>
         return format!(in alloc; "too long\n");
     }
     match count(input, &[]) {
-        Counted::Held(k) => counts_line(alloc, k),
-        Counted::Refused(number, place) => refused_line(alloc, number, place),
+        Ok(k) => counts_line(alloc, k),
+        Err(refusal) => refused_line(alloc, refusal.number(), refusal.place()),
     }
 }
 

@@ -1,20 +1,17 @@
 -- Demand 3 over the calls themselves: a cell is read and checked; a walk, a renumbering, a write-then-read; and the
 -- walk again, from where its start then stands.
-use Rattle.std.specs.Prelude.{ℕ, ◌≡◌, cond, List, [], ◌∷◌, map, leb, length, get_or, take}
+use Rattle.std.specs.Prelude.{ℕ, ◌≡◌, Bool, true, false, cond, List, [], ◌∷◌, map, leb, length, get_or, take}
+use Rattle.std.specs.Prelude.{Result, Ok, Err}
+use Rattle.numbers.specs.Refusals.{Answer}
+use Rattle.numbers.specs.declared.refusal.Refusal.{Refusal}
 use Rattle.cells.specs.Memory.{Memory, memory}
 use Rattle.cells.specs.Read.{read_of}
 use Rattle.cells.specs.Renumber.{renumber, scratch_left}
-use Rattle.cells.specs.declared.ynd.Outcome.{Outcome}
 use Rattle.cells.specs.WriteRead.{write_read_of}
-use Rattle.numbers.specs.declared.answer.Answer.{Answer}
-use Rattle.numbers.specs.declared.answer.Answer.TheVariants as answer
 use Rattle.walks.specs.SoundCall.{sound_call}
 use Rattle.walks.specs.WalkCall.{walk_call}
 use Rattle.walks.specs.Calls.{Call, renumbering, write_read}
-use Rattle.walks.specs.declared.sound.Soundness.{Soundness}
-use Rattle.walks.specs.declared.sound.Soundness.TheVariants as soundness
 use Rattle.walks.specs.declared.walk.Walked.{Walked}
-use Rattle.walks.specs.declared.walk.Walked.TheVariants as walked
 use Rattle.demand3.specs.declared.again.Walks.{Walks}
 use Rattle.demand3.specs.declared.again.Walks.TheVariants.{Both, NoStart, Unsound, NotChecked, Refused}
 use Rattle.demand3.specs.declared.again.Again.{Again}
@@ -47,20 +44,10 @@ pub record RenewLeft : Type 0 where
   pub places : List ℕ
   pub section : List ℕ
 
-abbrev pub renew_left : Outcome → List (List ℕ) → List (List ℕ) → List (List ℕ) → List ℕ
-    → List (List ℕ) → List ℕ → List ℕ → RenewLeft
-renew_left r nodes links junctions heights refs places section =
-    record {
-      answer = r.answer;
-      memory = memory r.ynd nodes links junctions heights refs;
-      places = places;
-      section = section;
-    }
-
 -- where the node at place p stands after a renumbering that gave this answer and left these new places
 abbrev pub place_after : Answer → List ℕ → ℕ → ℕ
-place_after answer.Done places p = get_or places p 0
-place_after (answer.Refused cause at) places p = p
+place_after (Ok tt) places p = get_or places p 0
+place_after (Err cause) places p = p
 
 -- with a scratch of so many entries
 unfoldable pub renew : Memory → ℕ → List ℕ → List ℕ → RenewLeft
@@ -95,10 +82,10 @@ stopped m places section visited later w = record {
   later = later;
 }
 
-abbrev pub if_sound : Soundness → (Walks → AgainLeft) → AgainLeft → AgainLeft
-if_sound soundness.Sound stop next = next
-if_sound soundness.Unsound stop next = stop Unsound
-if_sound (soundness.Refused cause place) stop next = stop (NotChecked cause place)
+abbrev pub if_sound : Result Bool Refusal → (Walks → AgainLeft) → AgainLeft → AgainLeft
+if_sound (Ok true) stop next = next
+if_sound (Ok false) stop next = stop Unsound
+if_sound (Err cause) stop next = stop (NotChecked cause)
 
 -- from the memory that a reading left
 unfoldable pub sound_walks : Memory → List ℕ → List ℕ → List ℕ → List ℕ → ℕ → List ℕ → List ℕ → AgainLeft
@@ -109,8 +96,8 @@ sound_walks m scratch places section choices start visited later =
     (both_walks m (length scratch) places section choices start visited later))
 
 abbrev pub if_read : Answer → (Walks → AgainLeft) → AgainLeft → AgainLeft
-if_read answer.Done stop next = next
-if_read (answer.Refused cause place) stop next = stop (Refused cause place)
+if_read (Ok tt) stop next = next
+if_read (Err cause) stop next = stop (Refused cause)
 
 unfoldable pub walk_again : List ℕ → List ℕ → Memory → List ℕ → List ℕ → List ℕ → List ℕ
     → ℕ → List ℕ → List ℕ → AgainLeft
@@ -126,8 +113,8 @@ scratch_after (Both before after) m places scratch left =
     scratch_left (renumber m (length scratch) places).answer (sound_call m scratch).scratch left
 scratch_after NoStart m places scratch left = left ≡ (sound_call m scratch).scratch
 scratch_after Unsound m places scratch left = left ≡ (sound_call m scratch).scratch
-scratch_after (NotChecked cause place) m places scratch left = left ≡ (sound_call m scratch).scratch
-scratch_after (Refused cause place) m places scratch left = left ≡ scratch
+scratch_after (NotChecked cause) m places scratch left = left ≡ (sound_call m scratch).scratch
+scratch_after (Refused cause) m places scratch left = left ≡ scratch
 
 -- ---- what demand 3 says of it
 
@@ -135,14 +122,14 @@ scratch_after (Refused cause place) m places scratch left = left ≡ scratch
 abbrev pub calls : List ℕ → List ℕ → List ℕ → List Call
 calls scratch places section = renumbering scratch places ∷ write_read section ∷ []
 
-abbrev pub SamePlaces : (ℕ → ℕ) → Walked → List ℕ → List ℕ → Type 0
-SamePlaces f (walked.Ended e n) visited later = take n later ≡ map f (take n visited)
-SamePlaces f (walked.Refused cause place) visited later = Unit {0}
+abbrev pub SamePlaces : (ℕ → ℕ) → Result Walked Refusal → List ℕ → List ℕ → Type 0
+SamePlaces f (Ok w) visited later = take w.count later ≡ map f (take w.count visited)
+SamePlaces f (Err cause) visited later = Unit {0}
 
 -- Both walks answer the same, and the places visited are those of the first, each moved on.
 abbrev pub SameWalks : (ℕ → ℕ) → Walks → List ℕ → List ℕ → Type 0
 SameWalks f (Both before after) visited later = (after ≡ before) × SamePlaces f after visited later
 SameWalks f NoStart visited later = Unit {0}
 SameWalks f Unsound visited later = Unit {0}
-SameWalks f (NotChecked cause place) visited later = Unit {0}
-SameWalks f (Refused cause place) visited later = Unit {0}
+SameWalks f (NotChecked cause) visited later = Unit {0}
+SameWalks f (Refused cause) visited later = Unit {0}

@@ -1,15 +1,15 @@
--- Closed facts: what a caller in C gets of an address, and of a round's version, at named inputs. A wrong definition is
--- refused here.
+-- Closed facts: what a caller in C gets of an address, and of a round's version, at named inputs. A wrong definition
+-- is refused here.
 use mathlib.Core.Path.{◌≡◌, refl}
 use mathlib.Core.List.{[], ◌∷◌}
 use Rattle.records.specs.Sections.{located}
-use Rattle.cells.specs.declared.write.Written.TheVariants as wrote
 use Rattle.rounds.specs.Round.{head_bytes, written, written_left}
 use Rattle.rounds.specs.declared.file.Version.TheVariants.{One, Two}
-use Rattle.rounds.specs.declared.file.VersionRead.TheVariants as version
 use Rattle.exports.specs.Found.{told}
 use Rattle.exports.specs.Parts.{part_or}
 use Rattle.exports.specs.Versions.{version_head, version_told, written_as}
+use Rattle.std.specs.Prelude.{Ok, Err}
+use Rattle.numbers.specs.declared.refusal.Refusal.TheVariants.{NoRoundFile}
 
 -- Eight bytes at 0x60000008 and at 0x50000008, in a system section of 112 bytes and a graphics section of 16: the
 -- section's number, the offset and the length.
@@ -27,17 +27,19 @@ unfolding located
 no_part = refl
 
 -- Area 1027, number 258, two choices: version 2. Version 1 tells area 0.
-two_told : version_told (version.Round (Two 1027) 258 2) (version_head 9 9 9 9) ≡ told 0 0 (version_head 2 1027 258 2)
+two_told : version_told (Ok (record { version = Two 1027; start = 258; count = 2 })) (version_head 9 9 9 9)
+    ≡ told 0 0 (version_head 2 1027 258 2)
 two_told = refl
 
-one_told : version_told (version.Round One 258 2) (version_head 9 9 9 9) ≡ told 0 0 (version_head 1 0 258 2)
+one_told : version_told (Ok (record { version = One; start = 258; count = 2 })) (version_head 9 9 9 9)
+    ≡ told 0 0 (version_head 1 0 258 2)
 one_told = refl
 
 -- the numbers 0 and 3 are no versions; 2 has the head with the area
-no_version_0 : written_as 0 1027 258 [] (9 ∷ []) ≡ written_left (wrote.Refused 15 0) (9 ∷ [])
+no_version_0 : written_as 0 1027 258 [] (9 ∷ []) ≡ written_left (Err NoRoundFile) (9 ∷ [])
 no_version_0 = refl
 
-no_version_3 : written_as 3 1027 258 [] (9 ∷ []) ≡ written_left (wrote.Refused 15 0) (9 ∷ [])
+no_version_3 : written_as 3 1027 258 [] (9 ∷ []) ≡ written_left (Err NoRoundFile) (9 ∷ [])
 no_version_3 = refl
 
 version_2 : written_as 2 1027 258 [] (9 ∷ []) ≡ written (head_bytes (Two 1027)) 258 [] (9 ∷ [])

@@ -4,8 +4,7 @@ use Rattle.cells.specs.declared.ynd.Ynd.{Ynd}
 use Rattle.cells.specs.Memory.{Memory, memory, Left}
 use Rattle.cells.specs.Renumber.{Renumbered}
 use Rattle.cells.specs.WriteRead.{Both}
-use Rattle.exports.specs.Answers.{answer_number, answer_place, if_done, if_wrote}
-use Rattle.exports.specs.Found.{written_told}
+use Rattle.exports.specs.Answers.{answer_number, answer_place, if_done}
 
 -- fifteen words: vft, the counts of vehicle and ped nodes, the seven unknowns, the counts of nodes, links, junctions,
 -- heightmap values and refs
@@ -79,8 +78,7 @@ call_of w l =
 -- the same of write-then-read, whose section and length stand beside it
 unfoldable pub both_called : List ℕ → Both → Called
 both_called w b =
-    called (written_told b.answer 0).number (written_told b.answer 0).place
-    (if_wrote b.answer (ynd_words b.memory.ynd) w)
+    called (answer_number b.answer) (answer_place b.answer) (if_done b.answer (ynd_words b.memory.ynd) w)
     b.memory.nodes b.memory.links b.memory.junctions b.memory.heights b.memory.refs
 
 -- the same of renumbering, whose list of new places stands beside it

@@ -1,23 +1,56 @@
-// Number and place of an answer, 0 and 0 where the call was accepted.
+// What a caller in C gets of a call's answer: its number and place, 0 and 0 where it was accepted.
 ghost use Rattle.std.specs.Prelude.{◌≡◌};
+ghost use Rattle.numbers.specs.Refusals.{number_of, place_of};
 ghost use Rattle.exports.specs.Answers.{answer_number, answer_place};
+ghost use Rattle.exports.specs.Found.{told, told_of, value_told};
 
-use numbers::answer::Answer;
+use numbers::refusal::Refusal;
 
-pub(crate) fn number_of(a: Answer) -> u32
-    ensures { result ≡ answer_number a }
+pub(crate) fn refuse(refusal: Refusal, place: &mut usize) -> u32
+    ensures number { result ≡ number_of refusal }
+    ensures place { place.new ≡ place_of refusal }
 {
-    match a {
-        Answer::Done => 0,
-        Answer::Refused(number, _) => number,
+    *place = refusal.place();
+    refusal.number()
+}
+
+pub(crate) fn answer<T: Copy>(r: Result<T, Refusal>, place: &mut usize) -> u32
+    ensures number { result ≡ answer_number r }
+    ensures place { place.new ≡ answer_place r }
+{
+    match r {
+        Ok(_) => {
+            *place = 0;
+            0
+        }
+        Err(refusal) => refuse(refusal, place),
     }
 }
 
-pub(crate) fn place_of(a: Answer) -> usize
-    ensures { result ≡ answer_place a }
+// The value goes into the lent cell. A refusal leaves that as it was.
+pub(crate) fn tell<T: Copy>(r: Result<T, Refusal>, cell: &mut T, place: &mut usize) -> u32
+    ensures { told result place.new cell.new ≡ value_told r cell.old }
 {
-    match a {
-        Answer::Done => 0,
-        Answer::Refused(_, place) => place,
+    tell_as(r, |value| value, cell, place)
+}
+
+// The same of what is made of the value.
+pub(crate) fn tell_as<T: Copy, U: Copy, F: Fn(T) -> U>(
+    r: Result<T, Refusal>,
+    form: F,
+    cell: &mut U,
+    place: &mut usize,
+) -> u32
+    requires { F.IsAlwaysCallable form }
+    ensures { (f : T → U) → ((x : T) (y : U) → F.post form x y → y ≡ f x)
+        → told result place.new cell.new ≡ told_of r f cell.old }
+{
+    match r {
+        Ok(value) => {
+            *cell = form(value);
+            *place = 0;
+            0
+        }
+        Err(refusal) => refuse(refusal, place),
     }
 }

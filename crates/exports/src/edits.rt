@@ -5,8 +5,7 @@ ghost use Rattle.cells.specs.AddLink.{add_link};
 ghost use Rattle.cells.specs.Words.{to_link, to_ref, to_junction};
 ghost use Rattle.exports.specs.Cells.{lent, called, call_of};
 
-use crate::answers::{number_of, place_of};
-use crate::words::{words_done, ynd_of};
+use crate::words::{tell_ynd, ynd_of};
 use cells::junction::path_junction_of;
 use cells::junction_ref::ref_of;
 use cells::link::link_of;
@@ -15,7 +14,6 @@ use numbers::math::Vec3;
 
 // A node without links behind all others; its number is its place.
 #[unsafe(no_mangle)]
-#[tactic(auto, unfolding(crate::specs::Cells::call_of))]
 pub extern "C" fn ynd_add_node(
     ynd: &mut [u32; 15],
     nodes: &mut [NodeWords],
@@ -31,19 +29,12 @@ pub extern "C" fn ynd_add_node(
         (add_node (lent ynd.old nodes.old links junctions heights refs) area_id
         (record { x = x; y = y; z = z })) }
 {
-    let old = *ynd;
-    let cell = ynd_of(old);
-    let o = cells::add_node::add_node(cell, nodes, area_id, Vec3 { x, y, z });
-    let a = o.answer;
-    let w = words_done(a, o.ynd, old);
-    *ynd = w;
-    *place = place_of(a);
-    number_of(a)
+    let r = cells::add_node::add_node(ynd_of(*ynd), nodes, area_id, Vec3 { x, y, z });
+    tell_ynd(r, ynd, place)
 }
 
 // A link behind those of the node at a place.
 #[unsafe(no_mangle)]
-#[tactic(auto, unfolding(crate::specs::Cells::call_of))]
 pub extern "C" fn ynd_add_link(
     ynd: &mut [u32; 15],
     nodes: &mut [NodeWords],
@@ -58,20 +49,12 @@ pub extern "C" fn ynd_add_link(
         (add_link (lent ynd.old nodes.old links.old junctions heights refs) at
         (to_link link.now)) }
 {
-    let old = *ynd;
-    let cell = ynd_of(old);
-    let l = link_of(*link);
-    let o = cells::add_link::add_link(cell, nodes, links, at, l);
-    let a = o.answer;
-    let w = words_done(a, o.ynd, old);
-    *ynd = w;
-    *place = place_of(a);
-    number_of(a)
+    let r = cells::add_link::add_link(ynd_of(*ynd), nodes, links, at, link_of(*link));
+    tell_ynd(r, ynd, place)
 }
 
 // A ref behind all others. (`added` is the ref: area, number, junction, unk0.)
 #[unsafe(no_mangle)]
-#[tactic(auto, unfolding(crate::specs::Cells::call_of))]
 pub extern "C" fn ynd_add_ref(
     ynd: &mut [u32; 15],
     refs: &mut [[u16; 4]],
@@ -84,20 +67,12 @@ pub extern "C" fn ynd_add_ref(
         (add_ref (lent ynd.old nodes links junctions heights refs.old)
         (to_ref added.now)) }
 {
-    let old = *ynd;
-    let cell = ynd_of(old);
-    let f = ref_of(*added);
-    let o = cells::add_ref::add_ref(cell, refs, f);
-    let a = o.answer;
-    let w = words_done(a, o.ynd, old);
-    *ynd = w;
-    *place = place_of(a);
-    number_of(a)
+    let r = cells::add_ref::add_ref(ynd_of(*ynd), refs, ref_of(*added));
+    tell_ynd(r, ynd, place)
 }
 
 // A junction behind all others, its values behind all others.
 #[unsafe(no_mangle)]
-#[tactic(auto, unfolding(crate::specs::Cells::call_of))]
 pub extern "C" fn ynd_add_junction(
     ynd: &mut [u32; 15],
     junctions: &mut [[u32; 6]],
@@ -112,13 +87,12 @@ pub extern "C" fn ynd_add_junction(
         (add_junction (lent ynd.old nodes links junctions.old heights.old refs)
         (to_junction junction.now) values.now) }
 {
-    let old = *ynd;
-    let cell = ynd_of(old);
-    let j = path_junction_of(*junction);
-    let o = cells::add_junction::add_junction(cell, junctions, heights, j, values);
-    let a = o.answer;
-    let w = words_done(a, o.ynd, old);
-    *ynd = w;
-    *place = place_of(a);
-    number_of(a)
+    let r = cells::add_junction::add_junction(
+        ynd_of(*ynd),
+        junctions,
+        heights,
+        path_junction_of(*junction),
+        values,
+    );
+    tell_ynd(r, ynd, place)
 }

@@ -4,12 +4,12 @@ ghost use Rattle.cells.specs.Edit.{node_entry, got_node, link_entry, got_link, r
 ghost use Rattle.cells.specs.Edit.{got_junction, height_entry, got_height};
 ghost use Rattle.cells.specs.Edit.{put_node, set_position, put_link, put_ref, put_junction, put_height};
 ghost use Rattle.cells.specs.Words.{to_node, to_link, to_ref, to_junction};
+ghost use Rattle.cells.specs.Words.{node_words, link_words, ref_words, junction_words};
 ghost use Rattle.exports.specs.Cells.{to_ynd};
-ghost use Rattle.exports.specs.Found.{told, stored_told, node_told, link_told, ref_told, junction_told, height_told};
+ghost use Rattle.exports.specs.Found.{told, told_of, value_told, stored_told};
 
-use crate::answers::{number_of, place_of};
+use crate::answers::{answer, tell, tell_as};
 use crate::words::ynd_of;
-use cells::get::{GotHeight, GotJunction, GotLink, GotNode, GotRef};
 use cells::junction::{junction_words, path_junction_of};
 use cells::junction_ref::{ref_of, ref_words};
 use cells::link::{link_of, link_words};
@@ -25,22 +25,10 @@ pub extern "C" fn ynd_get_node(
     place: &mut usize,
 ) -> u32
     ensures { told result place.new node.new
-        ≡ node_told (got_node (node_entry (to_ynd ynd.now) nodes.now at) nodes.now)
-        node.old }
+        ≡ told_of (got_node (node_entry (to_ynd ynd.now) nodes.now at) nodes.now) node_words node.old }
 {
-    let y = ynd_of(*ynd);
-    let g = cells::get::get_node(y, nodes, at);
-    match g {
-        GotNode::Node(n) => {
-            *node = node_words(n);
-            *place = 0;
-            0
-        }
-        GotNode::Refused(number, list) => {
-            *place = list;
-            number
-        }
-    }
+    let r = cells::get::get_node(ynd_of(*ynd), nodes, at);
+    tell_as(r, node_words, node, place)
 }
 
 // Link k of the node at a place.
@@ -55,22 +43,11 @@ pub extern "C" fn ynd_get_link(
     place: &mut usize,
 ) -> u32
     ensures { told result place.new link.new
-        ≡ link_told (got_link (link_entry (to_ynd ynd.now) nodes.now (length links.now)
-        at k) links.now) link.old }
+        ≡ told_of (got_link (link_entry (to_ynd ynd.now) nodes.now (length links.now)
+        at k) links.now) link_words link.old }
 {
-    let y = ynd_of(*ynd);
-    let g = cells::get::get_link(y, nodes, links, at, k);
-    match g {
-        GotLink::Link(l) => {
-            *link = link_words(l);
-            *place = 0;
-            0
-        }
-        GotLink::Refused(number, list) => {
-            *place = list;
-            number
-        }
-    }
+    let r = cells::get::get_link(ynd_of(*ynd), nodes, links, at, k);
+    tell_as(r, link_words, link, place)
 }
 
 // The ref at a place: area, number, junction, unk0.
@@ -83,22 +60,10 @@ pub extern "C" fn ynd_get_ref(
     place: &mut usize,
 ) -> u32
     ensures { told result place.new taken.new
-        ≡ ref_told (got_ref (ref_entry (to_ynd ynd.now) refs.now at) refs.now)
-        taken.old }
+        ≡ told_of (got_ref (ref_entry (to_ynd ynd.now) refs.now at) refs.now) ref_words taken.old }
 {
-    let y = ynd_of(*ynd);
-    let g = cells::get::get_ref(y, refs, at);
-    match g {
-        GotRef::Ref(f) => {
-            *taken = ref_words(f);
-            *place = 0;
-            0
-        }
-        GotRef::Refused(number, list) => {
-            *place = list;
-            number
-        }
-    }
+    let r = cells::get::get_ref(ynd_of(*ynd), refs, at);
+    tell_as(r, ref_words, taken, place)
 }
 
 #[unsafe(no_mangle)]
@@ -110,22 +75,11 @@ pub extern "C" fn ynd_get_junction(
     place: &mut usize,
 ) -> u32
     ensures { told result place.new junction.new
-        ≡ junction_told (got_junction (junction_entry (to_ynd ynd.now) junctions.now at)
-        junctions.now) junction.old }
+        ≡ told_of (got_junction (junction_entry (to_ynd ynd.now) junctions.now at)
+        junctions.now) junction_words junction.old }
 {
-    let y = ynd_of(*ynd);
-    let g = cells::get::get_junction(y, junctions, at);
-    match g {
-        GotJunction::Junction(j) => {
-            *junction = junction_words(j);
-            *place = 0;
-            0
-        }
-        GotJunction::Refused(number, list) => {
-            *place = list;
-            number
-        }
-    }
+    let r = cells::get::get_junction(ynd_of(*ynd), junctions, at);
+    tell_as(r, junction_words, junction, place)
 }
 
 // Value k of the junction at a place.
@@ -140,22 +94,11 @@ pub extern "C" fn ynd_get_height(
     place: &mut usize,
 ) -> u32
     ensures { told result place.new value.new
-        ≡ height_told (got_height (height_entry (to_ynd ynd.now) junctions.now
+        ≡ value_told (got_height (height_entry (to_ynd ynd.now) junctions.now
         (length heights.now) at k) heights.now) value.old }
 {
-    let y = ynd_of(*ynd);
-    let g = cells::get::get_height(y, junctions, heights, at, k);
-    match g {
-        GotHeight::Value(v) => {
-            *value = v;
-            *place = 0;
-            0
-        }
-        GotHeight::Refused(number, list) => {
-            *place = list;
-            number
-        }
-    }
+    let r = cells::get::get_height(ynd_of(*ynd), junctions, heights, at, k);
+    tell(r, value, place)
 }
 
 // Stores every field but where the node's links are.
@@ -170,11 +113,8 @@ pub extern "C" fn ynd_put_node(
     ensures { told result place.new nodes.new
         ≡ stored_told (put_node (to_ynd ynd.now) nodes.old at (to_node node.now)) }
 {
-    let y = ynd_of(*ynd);
-    let n = node_of(*node);
-    let a = cells::put::put_node(y, nodes, at, n);
-    *place = place_of(a);
-    number_of(a)
+    let r = cells::put::put_node(ynd_of(*ynd), nodes, at, node_of(*node));
+    answer(r, place)
 }
 
 // The position is stored in whole steps.
@@ -192,10 +132,8 @@ pub extern "C" fn ynd_set_position(
         ≡ stored_told (set_position (to_ynd ynd.now) nodes.old at
         (record { x = x; y = y; z = z })) }
 {
-    let cell = ynd_of(*ynd);
-    let a = cells::put::set_position(cell, nodes, at, Vec3 { x, y, z });
-    *place = place_of(a);
-    number_of(a)
+    let r = cells::put::set_position(ynd_of(*ynd), nodes, at, Vec3 { x, y, z });
+    answer(r, place)
 }
 
 // Link k of the node at a place.
@@ -213,11 +151,8 @@ pub extern "C" fn ynd_put_link(
         ≡ stored_told (put_link (to_ynd ynd.now) nodes.now links.old at k
         (to_link link.now)) }
 {
-    let y = ynd_of(*ynd);
-    let l = link_of(*link);
-    let a = cells::put::put_link(y, nodes, links, at, k, l);
-    *place = place_of(a);
-    number_of(a)
+    let r = cells::put::put_link(ynd_of(*ynd), nodes, links, at, k, link_of(*link));
+    answer(r, place)
 }
 
 #[unsafe(no_mangle)]
@@ -231,11 +166,8 @@ pub extern "C" fn ynd_put_ref(
     ensures { told result place.new refs.new
         ≡ stored_told (put_ref (to_ynd ynd.now) refs.old at (to_ref put.now)) }
 {
-    let y = ynd_of(*ynd);
-    let f = ref_of(*put);
-    let a = cells::put::put_ref(y, refs, at, f);
-    *place = place_of(a);
-    number_of(a)
+    let r = cells::put::put_ref(ynd_of(*ynd), refs, at, ref_of(*put));
+    answer(r, place)
 }
 
 // Stores every field but where the heightmap starts. It keeps as many values.
@@ -251,11 +183,8 @@ pub extern "C" fn ynd_put_junction(
         ≡ stored_told (put_junction (to_ynd ynd.now) junctions.old at
         (to_junction junction.now)) }
 {
-    let y = ynd_of(*ynd);
-    let j = path_junction_of(*junction);
-    let a = cells::put::put_junction(y, junctions, at, j);
-    *place = place_of(a);
-    number_of(a)
+    let r = cells::put::put_junction(ynd_of(*ynd), junctions, at, path_junction_of(*junction));
+    answer(r, place)
 }
 
 // Value k of the junction at a place.
@@ -273,8 +202,6 @@ pub extern "C" fn ynd_put_height(
         ≡ stored_told (put_height (to_ynd ynd.now) junctions.now heights.old at k
         value) }
 {
-    let y = ynd_of(*ynd);
-    let a = cells::put::put_height(y, junctions, heights, at, k, value);
-    *place = place_of(a);
-    number_of(a)
+    let r = cells::put::put_height(ynd_of(*ynd), junctions, heights, at, k, value);
+    answer(r, place)
 }

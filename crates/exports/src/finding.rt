@@ -4,9 +4,9 @@ ghost use Rattle.exports.specs.Cells.{lent};
 ghost use Rattle.exports.specs.Found.{told};
 ghost use Rattle.exports.specs.Paths.{measured, PathTold};
 
+use crate::answers::answer;
 use crate::words::ynd_of;
 use cells::node::NodeWords;
-use paths::path::Shortest;
 
 // A walk from one place to another whose links' lengths add up to least. `distance` gets their sum, `count` the number
 // of links; `choices` gets as many bytes, `places` one place more. The scratch has four entries for each node.
@@ -31,17 +31,10 @@ pub extern "C" fn ynd_shortest_path(
         scratch.new choices.new places.new }
 {
     let y = ynd_of(*ynd);
-    let a = paths::path::shortest_path(y, nodes, links, from, to, scratch, choices, places);
-    match a {
-        Shortest::Path(d, n) => {
-            *distance = d;
-            *count = n;
-            *place = 0;
-            0
-        }
-        Shortest::Refused(number, at) => {
-            *place = at;
-            number
-        }
+    let r = paths::path::shortest_path(y, nodes, links, from, to, scratch, choices, places);
+    if let Ok(path) = r {
+        *distance = path.distance;
+        *count = path.links;
     }
+    answer(r, place)
 }

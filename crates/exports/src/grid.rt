@@ -1,9 +1,9 @@
 // The grid of cells.
 ghost use Rattle.std.specs.Prelude.{◌≡◌, [], ◌∷◌};
 ghost use Rattle.numbers.specs.Grid.{cell_along, area_id, cell_of_area, is_island_area, same_cell, cell_bounds};
-ghost use Rattle.exports.specs.Answers.{area_number, area_place, area_or, bounds_number, bounds_place, bounds_or};
+ghost use Rattle.exports.specs.Answers.{answer_number, answer_place, value_or, corners};
 
-use numbers::grid::{CellBounds, GridArea};
+use crate::answers::{answer, tell};
 
 // The cell that holds a position: its numbers along x and y.
 #[unsafe(no_mangle)]
@@ -17,22 +17,11 @@ pub extern "C" fn ynd_cell_for_position(x: f32, y: f32, cell: &mut [u32; 2])
 // A cell's area.
 #[unsafe(no_mangle)]
 pub extern "C" fn ynd_area_id(cx: u32, cy: u32, area: &mut u32, place: &mut usize) -> u32
-    ensures value { result ≡ area_number (area_id cx cy) }
-    ensures area_after { area.new ≡ area_or (area_id cx cy) area.old }
-    ensures place_after { place.new ≡ area_place (area_id cx cy) }
+    ensures value { result ≡ answer_number (area_id cx cy) }
+    ensures area_after { area.new ≡ value_or (area_id cx cy) (λ n. n) area.old }
+    ensures place_after { place.new ≡ answer_place (area_id cx cy) }
 {
-    let a = numbers::grid::area_id(cx, cy);
-    match a {
-        GridArea::Area(n) => {
-            *area = n;
-            *place = 0;
-            0
-        }
-        GridArea::Refused(number, at) => {
-            *place = at;
-            number
-        }
-    }
+    tell(numbers::grid::area_id(cx, cy), area, place)
 }
 
 // The cell that an area names, the island's bit aside.
@@ -63,20 +52,13 @@ pub extern "C" fn ynd_same_cell(a: u32, b: u32) -> bool
 // The corners of a cell: x0, y0, x1, y1.
 #[unsafe(no_mangle)]
 pub extern "C" fn ynd_cell_bounds(cx: u32, cy: u32, bounds: &mut [f32; 4], place: &mut usize) -> u32
-    ensures value { result ≡ bounds_number (cell_bounds cx cy) }
-    ensures bounds_after { bounds.new ≡ bounds_or (cell_bounds cx cy) bounds.old }
-    ensures place_after { place.new ≡ bounds_place (cell_bounds cx cy) }
+    ensures value { result ≡ answer_number (cell_bounds cx cy) }
+    ensures bounds_after { bounds.new ≡ value_or (cell_bounds cx cy) corners bounds.old }
+    ensures place_after { place.new ≡ answer_place (cell_bounds cx cy) }
 {
-    let c = numbers::grid::cell_bounds(cx, cy);
-    match c {
-        CellBounds::Bounds(b) => {
-            *bounds = [b.x0, b.y0, b.x1, b.y1];
-            *place = 0;
-            0
-        }
-        CellBounds::Refused(number, at) => {
-            *place = at;
-            number
-        }
+    let r = numbers::grid::cell_bounds(cx, cy);
+    if let Ok(b) = r {
+        *bounds = [b.x0, b.y0, b.x1, b.y1];
     }
+    answer(r, place)
 }

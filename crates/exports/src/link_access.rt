@@ -11,107 +11,91 @@ use cells::link::{PathLink, link_of, link_words};
 pub extern "C" fn ynd_link_gps_both_ways(link: &[u16; 4]) -> bool
     ensures { result ≡ has_bit 0 (to_link link.now).flags0 }
 {
-    let l = link_of(*link);
-    l.gps_both_ways()
+    link_of(*link).gps_both_ways()
 }
 
 #[unsafe(no_mangle)]
 pub extern "C" fn ynd_link_narrow_road(link: &[u16; 4]) -> bool
     ensures { result ≡ has_bit 1 (to_link link.now).flags1 }
 {
-    let l = link_of(*link);
-    l.narrow_road()
+    link_of(*link).narrow_road()
 }
 
 #[unsafe(no_mangle)]
 pub extern "C" fn ynd_link_offset_value(link: &[u16; 4]) -> u8
     ensures { result ≡ field_of 4 3 (to_link link.now).flags1 }
 {
-    let l = link_of(*link);
-    l.offset_value()
+    link_of(*link).offset_value()
 }
 
 #[unsafe(no_mangle)]
 pub extern "C" fn ynd_link_negative_offset(link: &[u16; 4]) -> bool
     ensures { result ≡ has_bit 7 (to_link link.now).flags1 }
 {
-    let l = link_of(*link);
-    l.negative_offset()
+    link_of(*link).negative_offset()
 }
 
 #[unsafe(no_mangle)]
 pub extern "C" fn ynd_link_lane_offset(link: &[u16; 4]) -> f32
     ensures { result ≡ lane_offset (field_of 4 3 (to_link link.now).flags1) (has_bit 7 (to_link link.now).flags1) }
 {
-    let l = link_of(*link);
-    l.lane_offset()
+    link_of(*link).lane_offset()
 }
 
 #[unsafe(no_mangle)]
 pub extern "C" fn ynd_link_dont_use_for_navigation(link: &[u16; 4]) -> bool
     ensures { result ≡ has_bit 0 (to_link link.now).flags2 }
 {
-    let l = link_of(*link);
-    l.dont_use_for_navigation()
+    link_of(*link).dont_use_for_navigation()
 }
 
 #[unsafe(no_mangle)]
 pub extern "C" fn ynd_link_shortcut(link: &[u16; 4]) -> bool
     ensures { result ≡ has_bit 1 (to_link link.now).flags2 }
 {
-    let l = link_of(*link);
-    l.shortcut()
+    link_of(*link).shortcut()
 }
 
 #[unsafe(no_mangle)]
 pub extern "C" fn ynd_link_lane_count_backward(link: &[u16; 4]) -> u8
     ensures { result ≡ field_of 2 3 (to_link link.now).flags2 }
 {
-    let l = link_of(*link);
-    l.lane_count_backward()
+    link_of(*link).lane_count_backward()
 }
 
 #[unsafe(no_mangle)]
 pub extern "C" fn ynd_link_lane_count_forward(link: &[u16; 4]) -> u8
     ensures { result ≡ field_of 5 3 (to_link link.now).flags2 }
 {
-    let l = link_of(*link);
-    l.lane_count_forward()
+    link_of(*link).lane_count_forward()
 }
 
 #[unsafe(no_mangle)]
 pub extern "C" fn ynd_link_is_two_way(link: &[u16; 4]) -> bool
     ensures { result ≡ two_way (to_link link.now).flags2 }
 {
-    let l = link_of(*link);
-    l.is_two_way()
+    link_of(*link).is_two_way()
 }
 
 #[unsafe(no_mangle)]
 pub extern "C" fn ynd_link_set_shortcut(link: &mut [u16; 4], on: bool)
     ensures { link.new ≡ link_words (with_flags2 (to_link link.old) (with_bit 1 (to_link link.old).flags2 on)) }
 {
-    let l = link_of(*link);
-    let w = link_words(l.set_shortcut(on));
-    *link = w;
+    *link = link_words(link_of(*link).set_shortcut(on));
 }
 
 #[unsafe(no_mangle)]
 pub extern "C" fn ynd_link_set_lane_count_backward(link: &mut [u16; 4], n: u8)
     ensures { link.new ≡ link_words (with_flags2 (to_link link.old) (with_field 2 3 (to_link link.old).flags2 n)) }
 {
-    let l = link_of(*link);
-    let w = link_words(l.set_lane_count_backward(n));
-    *link = w;
+    *link = link_words(link_of(*link).set_lane_count_backward(n));
 }
 
 #[unsafe(no_mangle)]
 pub extern "C" fn ynd_link_set_lane_count_forward(link: &mut [u16; 4], n: u8)
     ensures { link.new ≡ link_words (with_flags2 (to_link link.old) (with_field 5 3 (to_link link.old).flags2 n)) }
 {
-    let l = link_of(*link);
-    let w = link_words(l.set_lane_count_forward(n));
-    *link = w;
+    *link = link_words(link_of(*link).set_lane_count_forward(n));
 }
 
 // A link to a node, with no flags.
@@ -119,7 +103,5 @@ pub extern "C" fn ynd_link_set_lane_count_forward(link: &mut [u16; 4], n: u8)
 pub extern "C" fn ynd_link_to(area_id: u16, node_id: u16, link: &mut [u16; 4])
     ensures { link.new ≡ link_words (link_to area_id node_id) }
 {
-    let l = PathLink::to(area_id, node_id);
-    let w = link_words(l);
-    *link = w;
+    *link = link_words(PathLink::to(area_id, node_id));
 }

@@ -2,11 +2,36 @@
 ghost use Rattle.std.specs.Prelude.{◌≡◌};
 ghost use Rattle.cells.specs.LookupCall.{area_id_call, node_call, junction_of_call};
 ghost use Rattle.exports.specs.Cells.{to_ynd};
-ghost use Rattle.exports.specs.Found.{told, whether, place_told, area_told};
+ghost use Rattle.exports.specs.Found.{told, whether, whether_told};
 
+use crate::answers::refuse;
 use crate::words::ynd_of;
-use cells::lookup::{OwnArea, Place};
 use cells::node::NodeWords;
+use numbers::refusal::Refusal;
+
+fn tell_found<T: Copy>(
+    r: Result<Option<T>, Refusal>,
+    found: &mut bool,
+    at: &mut T,
+    place: &mut usize,
+) -> u32
+    ensures { told result place.new (whether found.new at.new) ≡ whether_told r found.old at.old }
+{
+    match r {
+        Ok(Some(x)) => {
+            *found = true;
+            *at = x;
+            *place = 0;
+            0
+        }
+        Ok(None) => {
+            *found = false;
+            *place = 0;
+            0
+        }
+        Err(refusal) => refuse(refusal, place),
+    }
+}
 
 // The place of the node that has the number.
 #[unsafe(no_mangle)]
@@ -19,27 +44,10 @@ pub extern "C" fn ynd_node(
     place: &mut usize,
 ) -> u32
     ensures { told result place.new (whether found.new at.new)
-        ≡ place_told (node_call (to_ynd ynd.now) nodes.now node_id) found.old at.old }
+        ≡ whether_told (node_call (to_ynd ynd.now) nodes.now node_id) found.old at.old }
 {
-    let y = ynd_of(*ynd);
-    let p = cells::lookup::node(y, nodes, node_id);
-    match p {
-        Place::At(i) => {
-            *found = true;
-            *at = i;
-            *place = 0;
-            0
-        }
-        Place::Nothing => {
-            *found = false;
-            *place = 0;
-            0
-        }
-        Place::Refused(number, list) => {
-            *place = list;
-            number
-        }
-    }
+    let r = cells::lookup::node(ynd_of(*ynd), nodes, node_id);
+    tell_found(r, found, at, place)
 }
 
 // The place of the junction that the refs give the node.
@@ -55,27 +63,10 @@ pub extern "C" fn ynd_junction_of(
     place: &mut usize,
 ) -> u32
     ensures { told result place.new (whether found.new at.new)
-        ≡ place_told (junction_of_call (to_ynd ynd.now) nodes.now refs.now area_id node_id) found.old at.old }
+        ≡ whether_told (junction_of_call (to_ynd ynd.now) nodes.now refs.now area_id node_id) found.old at.old }
 {
-    let y = ynd_of(*ynd);
-    let p = cells::lookup::junction_of(y, nodes, refs, area_id, node_id);
-    match p {
-        Place::At(i) => {
-            *found = true;
-            *at = i;
-            *place = 0;
-            0
-        }
-        Place::Nothing => {
-            *found = false;
-            *place = 0;
-            0
-        }
-        Place::Refused(number, list) => {
-            *place = list;
-            number
-        }
-    }
+    let r = cells::lookup::junction_of(ynd_of(*ynd), nodes, refs, area_id, node_id);
+    tell_found(r, found, at, place)
 }
 
 // The area of the first node.
@@ -88,25 +79,8 @@ pub extern "C" fn ynd_area_of_cell(
     place: &mut usize,
 ) -> u32
     ensures { told result place.new (whether found.new area.new)
-        ≡ area_told (area_id_call (to_ynd ynd.now) nodes.now) found.old area.old }
+        ≡ whether_told (area_id_call (to_ynd ynd.now) nodes.now) found.old area.old }
 {
-    let y = ynd_of(*ynd);
-    let p = cells::lookup::area_id(y, nodes);
-    match p {
-        OwnArea::Area(a) => {
-            *found = true;
-            *area = a;
-            *place = 0;
-            0
-        }
-        OwnArea::Nothing => {
-            *found = false;
-            *place = 0;
-            0
-        }
-        OwnArea::Refused(number, list) => {
-            *place = list;
-            number
-        }
-    }
+    let r = cells::lookup::area_id(ynd_of(*ynd), nodes);
+    tell_found(r, found, area, place)
 }

@@ -1,10 +1,9 @@
 // The names of cell files.
 ghost use Rattle.std.specs.Prelude.{◌≡◌};
 ghost use Rattle.numbers.specs.Names.{cell_file_name, area_id_from_file_name};
-ghost use Rattle.exports.specs.Answers.{answer_number, answer_place, if_done, is_known, known_or};
+ghost use Rattle.exports.specs.Answers.{answer_number, answer_place, value_or, is_known, known_or};
 
-use numbers::answer::Answer;
-use numbers::names::AreaId;
+use crate::answers::answer;
 
 // The file name of a cell: its bytes, zero from `count` on.
 #[unsafe(no_mangle)]
@@ -15,26 +14,18 @@ pub extern "C" fn ynd_cell_file_name(
     count: &mut usize,
     place: &mut usize,
 ) -> u32
-    ensures value { result ≡ answer_number (cell_file_name cx cy).answer }
-    ensures name_after { name.new ≡ if_done (cell_file_name cx cy).answer (cell_file_name cx cy).bytes name.old }
-    ensures count_after { count.new ≡ if_done (cell_file_name cx cy).answer (cell_file_name cx cy).count count.old }
-    ensures place_after { place.new ≡ answer_place (cell_file_name cx cy).answer }
+    ensures value { result ≡ answer_number (cell_file_name cx cy) }
+    ensures name_after { name.new ≡ value_or (cell_file_name cx cy) (λ n. n.bytes) name.old }
+    ensures count_after { count.new ≡ value_or (cell_file_name cx cy) (λ n. n.count) count.old }
+    ensures place_after { place.new ≡ answer_place (cell_file_name cx cy) }
 {
-    let n = numbers::names::cell_file_name(cx, cy);
-    let a = n.answer;
-    match a {
-        Answer::Done => {
-            let bytes = n.bytes;
-            *name = bytes;
-            *count = n.count;
-            *place = 0;
-            0
-        }
-        Answer::Refused(number, at) => {
-            *place = at;
-            number
-        }
+    let r = numbers::names::cell_file_name(cx, cy);
+    if let Ok(n) = r {
+        let bytes = n.bytes;
+        *name = bytes;
+        *count = n.count;
     }
+    answer(r, place)
 }
 
 // Whether a file name says an area, and which.
@@ -43,12 +34,9 @@ pub extern "C" fn ynd_area_id_from_file_name(name: &[u8], area: &mut u32) -> boo
     ensures value { result ≡ is_known (area_id_from_file_name name.now) }
     ensures area_after { area.new ≡ known_or (area_id_from_file_name name.now) area.old }
 {
-    let a = numbers::names::area_id_from_file_name(name);
-    match a {
-        AreaId::Known(n) => {
-            *area = n;
-            true
-        }
-        AreaId::Nothing => false,
+    let known = numbers::names::area_id_from_file_name(name);
+    if let Some(n) = known {
+        *area = n;
     }
+    known.is_some()
 }

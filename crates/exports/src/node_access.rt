@@ -16,144 +16,126 @@ use numbers::math::Vec3;
 pub extern "C" fn ynd_node_off_road(node: &NodeWords) -> bool
     ensures { result ≡ has_bit 3 (to_node node.now).flags0 }
 {
-    let n = node_of(*node);
-    n.off_road()
+    node_of(*node).off_road()
 }
 
 #[unsafe(no_mangle)]
 pub extern "C" fn ynd_node_no_big_vehicles(node: &NodeWords) -> bool
     ensures { result ≡ has_bit 5 (to_node node.now).flags0 }
 {
-    let n = node_of(*node);
-    n.no_big_vehicles()
+    node_of(*node).no_big_vehicles()
 }
 
 #[unsafe(no_mangle)]
 pub extern "C" fn ynd_node_cannot_go_left(node: &NodeWords) -> bool
     ensures { result ≡ has_bit 7 (to_node node.now).flags0 }
 {
-    let n = node_of(*node);
-    n.cannot_go_left()
+    node_of(*node).cannot_go_left()
 }
 
 #[unsafe(no_mangle)]
 pub extern "C" fn ynd_node_slip_road(node: &NodeWords) -> bool
     ensures { result ≡ has_bit 0 (to_node node.now).flags1 }
 {
-    let n = node_of(*node);
-    n.slip_road()
+    node_of(*node).slip_road()
 }
 
 #[unsafe(no_mangle)]
 pub extern "C" fn ynd_node_indicate_keep_left(node: &NodeWords) -> bool
     ensures { result ≡ has_bit 1 (to_node node.now).flags1 }
 {
-    let n = node_of(*node);
-    n.indicate_keep_left()
+    node_of(*node).indicate_keep_left()
 }
 
 #[unsafe(no_mangle)]
 pub extern "C" fn ynd_node_indicate_keep_right(node: &NodeWords) -> bool
     ensures { result ≡ has_bit 2 (to_node node.now).flags1 }
 {
-    let n = node_of(*node);
-    n.indicate_keep_right()
+    node_of(*node).indicate_keep_right()
 }
 
 #[unsafe(no_mangle)]
 pub extern "C" fn ynd_node_left_turns_only(node: &NodeWords) -> bool
     ensures { result ≡ has_bit 7 (to_node node.now).flags1 }
 {
-    let n = node_of(*node);
-    n.left_turns_only()
+    node_of(*node).left_turns_only()
 }
 
 #[unsafe(no_mangle)]
 pub extern "C" fn ynd_node_is_ped_node(node: &NodeWords) -> bool
     ensures { result ≡ ped_kind ((to_node node.now).flags1 / 8) }
 {
-    let n = node_of(*node);
-    n.is_ped_node()
+    node_of(*node).is_ped_node()
 }
 
 #[unsafe(no_mangle)]
 pub extern "C" fn ynd_node_no_gps(node: &NodeWords) -> bool
     ensures { result ≡ has_bit 0 (to_node node.now).flags2 }
 {
-    let n = node_of(*node);
-    n.no_gps()
+    node_of(*node).no_gps()
 }
 
 #[unsafe(no_mangle)]
 pub extern "C" fn ynd_node_is_junction(node: &NodeWords) -> bool
     ensures { result ≡ has_bit 2 (to_node node.now).flags2 }
 {
-    let n = node_of(*node);
-    n.is_junction()
+    node_of(*node).is_junction()
 }
 
 #[unsafe(no_mangle)]
 pub extern "C" fn ynd_node_is_disabled_unk1(node: &NodeWords) -> bool
     ensures { result ≡ has_bit 4 (to_node node.now).flags2 }
 {
-    let n = node_of(*node);
-    n.is_disabled_unk1()
+    node_of(*node).is_disabled_unk1()
 }
 
 #[unsafe(no_mangle)]
 pub extern "C" fn ynd_node_highway(node: &NodeWords) -> bool
     ensures { result ≡ has_bit 6 (to_node node.now).flags2 }
 {
-    let n = node_of(*node);
-    n.highway()
+    node_of(*node).highway()
 }
 
 #[unsafe(no_mangle)]
 pub extern "C" fn ynd_node_is_disabled_unk0(node: &NodeWords) -> bool
     ensures { result ≡ has_bit 7 (to_node node.now).flags2 }
 {
-    let n = node_of(*node);
-    n.is_disabled_unk0()
+    node_of(*node).is_disabled_unk0()
 }
 
 #[unsafe(no_mangle)]
 pub extern "C" fn ynd_node_is_disabled(node: &NodeWords) -> bool
     ensures { result ≡ disabled (to_node node.now).flags2 }
 {
-    let n = node_of(*node);
-    n.is_disabled()
+    node_of(*node).is_disabled()
 }
 
 #[unsafe(no_mangle)]
 pub extern "C" fn ynd_node_tunnel(node: &NodeWords) -> bool
     ensures { result ≡ has_bit 0 (to_node node.now).flags3 }
 {
-    let n = node_of(*node);
-    n.tunnel()
+    node_of(*node).tunnel()
 }
 
 #[unsafe(no_mangle)]
 pub extern "C" fn ynd_node_heuristic_value(node: &NodeWords) -> u8
     ensures { result ≡ field_of 1 7 (to_node node.now).flags3 }
 {
-    let n = node_of(*node);
-    n.heuristic_value()
+    node_of(*node).heuristic_value()
 }
 
 #[unsafe(no_mangle)]
 pub extern "C" fn ynd_node_density(node: &NodeWords) -> u8
     ensures { result ≡ field_of 0 4 (to_node node.now).flags4 }
 {
-    let n = node_of(*node);
-    n.density()
+    node_of(*node).density()
 }
 
 #[unsafe(no_mangle)]
 pub extern "C" fn ynd_node_dead_endness(node: &NodeWords) -> u8
     ensures { result ≡ field_of 4 3 (to_node node.now).flags4 * 16 }
 {
-    let n = node_of(*node);
-    n.dead_endness()
+    node_of(*node).dead_endness()
 }
 
 #[unsafe(no_mangle)]
@@ -161,9 +143,7 @@ pub extern "C" fn ynd_node_set_off_road(node: &mut NodeWords, on: bool)
     ensures { node.new ≡ node_words
         (with_flags0 (to_node node.old) (with_bit 3 (to_node node.old).flags0 on)) }
 {
-    let n = node_of(*node);
-    let w = node_words(n.set_off_road(on));
-    *node = w;
+    *node = node_words(node_of(*node).set_off_road(on));
 }
 
 #[unsafe(no_mangle)]
@@ -171,9 +151,7 @@ pub extern "C" fn ynd_node_set_no_big_vehicles(node: &mut NodeWords, on: bool)
     ensures { node.new ≡ node_words
         (with_flags0 (to_node node.old) (with_bit 5 (to_node node.old).flags0 on)) }
 {
-    let n = node_of(*node);
-    let w = node_words(n.set_no_big_vehicles(on));
-    *node = w;
+    *node = node_words(node_of(*node).set_no_big_vehicles(on));
 }
 
 #[unsafe(no_mangle)]
@@ -181,9 +159,7 @@ pub extern "C" fn ynd_node_set_cannot_go_left(node: &mut NodeWords, on: bool)
     ensures { node.new ≡ node_words
         (with_flags0 (to_node node.old) (with_bit 7 (to_node node.old).flags0 on)) }
 {
-    let n = node_of(*node);
-    let w = node_words(n.set_cannot_go_left(on));
-    *node = w;
+    *node = node_words(node_of(*node).set_cannot_go_left(on));
 }
 
 #[unsafe(no_mangle)]
@@ -191,9 +167,7 @@ pub extern "C" fn ynd_node_set_slip_road(node: &mut NodeWords, on: bool)
     ensures { node.new ≡ node_words
         (with_flags1 (to_node node.old) (with_bit 0 (to_node node.old).flags1 on)) }
 {
-    let n = node_of(*node);
-    let w = node_words(n.set_slip_road(on));
-    *node = w;
+    *node = node_words(node_of(*node).set_slip_road(on));
 }
 
 #[unsafe(no_mangle)]
@@ -201,9 +175,7 @@ pub extern "C" fn ynd_node_set_indicate_keep_left(node: &mut NodeWords, on: bool
     ensures { node.new ≡ node_words
         (with_flags1 (to_node node.old) (with_bit 1 (to_node node.old).flags1 on)) }
 {
-    let n = node_of(*node);
-    let w = node_words(n.set_indicate_keep_left(on));
-    *node = w;
+    *node = node_words(node_of(*node).set_indicate_keep_left(on));
 }
 
 #[unsafe(no_mangle)]
@@ -211,9 +183,7 @@ pub extern "C" fn ynd_node_set_indicate_keep_right(node: &mut NodeWords, on: boo
     ensures { node.new ≡ node_words
         (with_flags1 (to_node node.old) (with_bit 2 (to_node node.old).flags1 on)) }
 {
-    let n = node_of(*node);
-    let w = node_words(n.set_indicate_keep_right(on));
-    *node = w;
+    *node = node_words(node_of(*node).set_indicate_keep_right(on));
 }
 
 #[unsafe(no_mangle)]
@@ -221,9 +191,7 @@ pub extern "C" fn ynd_node_set_left_turns_only(node: &mut NodeWords, on: bool)
     ensures { node.new ≡ node_words
         (with_flags1 (to_node node.old) (with_bit 7 (to_node node.old).flags1 on)) }
 {
-    let n = node_of(*node);
-    let w = node_words(n.set_left_turns_only(on));
-    *node = w;
+    *node = node_words(node_of(*node).set_left_turns_only(on));
 }
 
 #[unsafe(no_mangle)]
@@ -231,9 +199,7 @@ pub extern "C" fn ynd_node_set_no_gps(node: &mut NodeWords, on: bool)
     ensures { node.new ≡ node_words
         (with_flags2 (to_node node.old) (with_bit 0 (to_node node.old).flags2 on)) }
 {
-    let n = node_of(*node);
-    let w = node_words(n.set_no_gps(on));
-    *node = w;
+    *node = node_words(node_of(*node).set_no_gps(on));
 }
 
 #[unsafe(no_mangle)]
@@ -241,9 +207,7 @@ pub extern "C" fn ynd_node_set_is_junction(node: &mut NodeWords, on: bool)
     ensures { node.new ≡ node_words
         (with_flags2 (to_node node.old) (with_bit 2 (to_node node.old).flags2 on)) }
 {
-    let n = node_of(*node);
-    let w = node_words(n.set_is_junction(on));
-    *node = w;
+    *node = node_words(node_of(*node).set_is_junction(on));
 }
 
 #[unsafe(no_mangle)]
@@ -251,9 +215,7 @@ pub extern "C" fn ynd_node_set_highway(node: &mut NodeWords, on: bool)
     ensures { node.new ≡ node_words
         (with_flags2 (to_node node.old) (with_bit 6 (to_node node.old).flags2 on)) }
 {
-    let n = node_of(*node);
-    let w = node_words(n.set_highway(on));
-    *node = w;
+    *node = node_words(node_of(*node).set_highway(on));
 }
 
 #[unsafe(no_mangle)]
@@ -261,9 +223,7 @@ pub extern "C" fn ynd_node_set_tunnel(node: &mut NodeWords, on: bool)
     ensures { node.new ≡ node_words
         (with_flags3 (to_node node.old) (with_bit 0 (to_node node.old).flags3 on)) }
 {
-    let n = node_of(*node);
-    let w = node_words(n.set_tunnel(on));
-    *node = w;
+    *node = node_words(node_of(*node).set_tunnel(on));
 }
 
 #[unsafe(no_mangle)]
@@ -271,9 +231,7 @@ pub extern "C" fn ynd_node_set_heuristic_value(node: &mut NodeWords, v: u8)
     ensures { node.new ≡ node_words
         (with_flags3 (to_node node.old) (with_field 1 7 (to_node node.old).flags3 v)) }
 {
-    let n = node_of(*node);
-    let w = node_words(n.set_heuristic_value(v));
-    *node = w;
+    *node = node_words(node_of(*node).set_heuristic_value(v));
 }
 
 #[unsafe(no_mangle)]
@@ -281,9 +239,7 @@ pub extern "C" fn ynd_node_set_density(node: &mut NodeWords, v: u8)
     ensures { node.new ≡ node_words
         (with_flags4 (to_node node.old) (with_field 0 4 (to_node node.old).flags4 v)) }
 {
-    let n = node_of(*node);
-    let w = node_words(n.set_density(v));
-    *node = w;
+    *node = node_words(node_of(*node).set_density(v));
 }
 
 // The kind of node: the value of flags1's upper five bits.
@@ -291,9 +247,7 @@ pub extern "C" fn ynd_node_set_density(node: &mut NodeWords, v: u8)
 pub extern "C" fn ynd_node_special(node: &NodeWords) -> u8
     ensures { result ≡ special_value (special_of (field_of 3 5 (to_node node.now).flags1)) }
 {
-    let n = node_of(*node);
-    let s = n.special();
-    s.value()
+    node_of(*node).special().value()
 }
 
 // Of a value over 31 the low five bits are stored.
@@ -303,10 +257,7 @@ pub extern "C" fn ynd_node_set_special(node: &mut NodeWords, v: u8)
         (with_flags1 (to_node node.old)
         (with_field 3 5 (to_node node.old).flags1 (special_value (special_of v)))) }
 {
-    let n = node_of(*node);
-    let s = NodeSpecial::from_value(v);
-    let w = node_words(n.set_special(s));
-    *node = w;
+    *node = node_words(node_of(*node).set_special(NodeSpecial::from_value(v)));
 }
 
 // The speed: 0 slow, 1 normal, 2 fast, 3 faster.
@@ -314,9 +265,7 @@ pub extern "C" fn ynd_node_set_special(node: &mut NodeWords, v: u8)
 pub extern "C" fn ynd_node_speed(node: &NodeWords) -> u8
     ensures { result ≡ speed_value (speed_of (field_of 1 2 (to_node node.now).flags5)) }
 {
-    let n = node_of(*node);
-    let s = n.speed();
-    s.value()
+    node_of(*node).speed().value()
 }
 
 #[tactic(auto, unfolding(cells::specs::Special::speed_of))]
@@ -338,10 +287,7 @@ pub extern "C" fn ynd_node_set_speed(node: &mut NodeWords, v: u8)
         (with_flags5 (to_node node.old)
         (with_field 1 2 (to_node node.old).flags5 (speed_value (speed_of v)))) }
 {
-    let n = node_of(*node);
-    let s = speed_of(v);
-    let w = node_words(n.set_speed(s));
-    *node = w;
+    *node = node_words(node_of(*node).set_speed(speed_of(v)));
 }
 
 // Whether a kind is one of the three kinds of ped node.
@@ -349,8 +295,7 @@ pub extern "C" fn ynd_node_set_speed(node: &mut NodeWords, v: u8)
 pub extern "C" fn ynd_special_is_ped(v: u8) -> bool
     ensures { result ≡ is_ped_special (special_of v) }
 {
-    let s = NodeSpecial::from_value(v);
-    s.is_ped()
+    NodeSpecial::from_value(v).is_ped()
 }
 
 // A node at a position in whole steps, with no flags and no links.
@@ -366,9 +311,7 @@ pub extern "C" fn ynd_node_new(
     ensures { node.new ≡ node_words
         (new_node area_id node_id (dequantised (quantised (record { x = x; y = y; z = z })))) }
 {
-    let n = PathNode::new(area_id, node_id, Vec3 { x, y, z });
-    let w = node_words(n);
-    *node = w;
+    *node = node_words(PathNode::new(area_id, node_id, Vec3 { x, y, z }));
 }
 
 // The position is stored in whole steps.
@@ -377,7 +320,5 @@ pub extern "C" fn ynd_node_set_position(node: &mut NodeWords, x: f32, y: f32, z:
     ensures { node.new ≡ node_words
         (with_position (to_node node.old) (dequantised (quantised (record { x = x; y = y; z = z })))) }
 {
-    let n = node_of(*node);
-    let w = node_words(n.set_position(Vec3 { x, y, z }));
-    *node = w;
+    *node = node_words(node_of(*node).set_position(Vec3 { x, y, z }));
 }

@@ -2,12 +2,12 @@
 ghost use Rattle.std.specs.Prelude.{◌≡◌};
 ghost use Rattle.reach.specs.Reach.{within_call, nearest_call};
 ghost use Rattle.exports.specs.Cells.{to_ynd};
-ghost use Rattle.exports.specs.Found.{told};
-ghost use Rattle.exports.specs.Near.{listing_told, nearby, nearest_told};
+ghost use Rattle.exports.specs.Found.{told, value_told, whether, whether_told};
+ghost use Rattle.exports.specs.Near.{near};
 
+use crate::answers::{answer, tell};
 use crate::words::ynd_of;
 use cells::node::NodeWords;
-use reach::reach::{Listing, NearestNode};
 
 // The places of the nodes at most the radius away, as many as `count` says, ascending by squared distance, equal
 // distances by place.
@@ -23,25 +23,14 @@ pub extern "C" fn ynd_within(
     place: &mut usize,
 ) -> u32
     ensures answer { told result place.new count.new
-        ≡ listing_told
+        ≡ value_told
         (within_call (to_ynd ynd.now) nodes.now x y radius places.old).answer
         count.old }
     ensures places_after { places.new
         ≡ (within_call (to_ynd ynd.now) nodes.now x y radius places.old).places }
 {
-    let cell = ynd_of(*ynd);
-    let a = reach::reach::within(cell, nodes, x, y, radius, places);
-    match a {
-        Listing::Places(n) => {
-            *count = n;
-            *place = 0;
-            0
-        }
-        Listing::Refused(number, at) => {
-            *place = at;
-            number
-        }
-    }
+    let r = reach::reach::within(ynd_of(*ynd), nodes, x, y, radius, places);
+    tell(r, count, place)
 }
 
 // The node with the least squared distance, the lowest place where equal. `found` is false in a cell without nodes.
@@ -56,28 +45,17 @@ pub extern "C" fn ynd_nearest(
     square: &mut u64,
     place: &mut usize,
 ) -> u32
-    ensures { told result place.new (nearby found.new at.new square.new)
-        ≡ nearest_told (nearest_call (to_ynd ynd.now) nodes.now x y)
-        found.old at.old square.old }
+    ensures { told result place.new (whether found.new (near at.new square.new))
+        ≡ whether_told (nearest_call (to_ynd ynd.now) nodes.now x y)
+        found.old (near at.old square.old) }
 {
-    let cell = ynd_of(*ynd);
-    let a = reach::reach::nearest(cell, nodes, x, y);
-    match a {
-        NearestNode::At(p, d) => {
-            *found = true;
-            *at = p;
-            *square = d;
-            *place = 0;
-            0
-        }
-        NearestNode::Nothing => {
-            *found = false;
-            *place = 0;
-            0
-        }
-        NearestNode::Refused(number, list) => {
-            *place = list;
-            number
+    let r = reach::reach::nearest(ynd_of(*ynd), nodes, x, y);
+    if let Ok(held) = r {
+        *found = held.is_some();
+        if let Some(node) = held {
+            *at = node.place;
+            *square = node.square;
         }
     }
+    answer(r, place)
 }

@@ -4,11 +4,11 @@ ghost use Rattle.cells.specs.Checks.{count_of};
 ghost use Rattle.cells.specs.NewYnd.{new_ynd};
 ghost use Rattle.cells.specs.Read.{read_of};
 ghost use Rattle.exports.specs.Cells.{ynd_words, lent, called, call_of};
-ghost use Rattle.exports.specs.Found.{told, counts_told};
+ghost use Rattle.exports.specs.Found.{told, told_of, counts_words};
 
-use crate::answers::{number_of, place_of};
-use crate::words::{words_done, ynd_of, ynd_words};
-use cells::count::Counted;
+use crate::answers::tell_as;
+use crate::words::{tell_ynd, ynd_of, ynd_words};
+use cells::count::Counts;
 use cells::node::NodeWords;
 
 // A cell that holds nothing.
@@ -16,13 +16,11 @@ use cells::node::NodeWords;
 pub extern "C" fn ynd_new(ynd: &mut [u32; 15])
     ensures { ynd.new ≡ ynd_words new_ynd }
 {
-    let w = ynd_words(cells::ynd::Ynd::new());
-    *ynd = w;
+    *ynd = ynd_words(cells::ynd::Ynd::new());
 }
 
 // Reads a cell from two sections into the memory lent.
 #[unsafe(no_mangle)]
-#[tactic(auto, unfolding(crate::specs::Cells::call_of))]
 pub extern "C" fn ynd_read<'a>(
     ynd: &mut [u32; 15],
     system: &'a [u8],
@@ -39,14 +37,23 @@ pub extern "C" fn ynd_read<'a>(
         (read_of system.now graphics.now
         (lent ynd.old nodes.old links.old junctions.old heights.old refs.old)) }
 {
-    let old = *ynd;
-    let y = ynd_of(old);
-    let o = cells::read::read(y, system, graphics, nodes, links, junctions, heights, refs);
-    let a = o.answer;
-    let w = words_done(a, o.ynd, old);
-    *ynd = w;
-    *place = place_of(a);
-    number_of(a)
+    let r = cells::read::read(
+        ynd_of(*ynd),
+        system,
+        graphics,
+        nodes,
+        links,
+        junctions,
+        heights,
+        refs,
+    );
+    tell_ynd(r, ynd, place)
+}
+
+fn counts_words(k: Counts) -> [usize; 5]
+    ensures { result ≡ counts_words k }
+{
+    [k.nodes, k.links, k.junctions, k.heights, k.refs]
 }
 
 // How many nodes, links, junctions, heightmap values and refs the file holds.
@@ -57,18 +64,12 @@ pub extern "C" fn ynd_count<'a>(
     counts: &mut [usize; 5],
     place: &mut usize,
 ) -> u32
-    ensures { told result place.new counts.new ≡ counts_told (count_of system.now graphics.now) counts.old }
+    ensures { told result place.new counts.new ≡ told_of (count_of system.now graphics.now) counts_words counts.old }
 {
-    let a = cells::count::count(system, graphics);
-    match a {
-        Counted::Held(k) => {
-            *counts = [k.nodes, k.links, k.junctions, k.heights, k.refs];
-            *place = 0;
-            0
-        }
-        Counted::Refused(number, at) => {
-            *place = at;
-            number
-        }
-    }
+    tell_as(
+        cells::count::count(system, graphics),
+        counts_words,
+        counts,
+        place,
+    )
 }

@@ -3,13 +3,12 @@ ghost use Rattle.std.specs.Prelude.{◌≡◌, length};
 ghost use Rattle.cells.specs.Renumber.{renumber, scratch_left};
 ghost use Rattle.exports.specs.Cells.{lent, called, renumbered_of};
 
-use crate::answers::{number_of, place_of};
-use crate::words::{words_done, ynd_of};
+use crate::words::{tell_ynd, ynd_of};
 use cells::node::NodeWords;
 
 // `recalculate_node_indices`. `places` gets each node's new place; the scratch holds anything after an accepted call.
 #[unsafe(no_mangle)]
-#[tactic(auto, unfolding(crate::specs::Cells::call_of, crate::specs::Cells::renumbered_of))]
+#[tactic(auto, unfolding(crate::specs::Cells::renumbered_of))]
 pub extern "C" fn ynd_renumber(
     ynd: &mut [u32; 15],
     nodes: &mut [NodeWords],
@@ -32,14 +31,15 @@ pub extern "C" fn ynd_renumber(
         (renumber (lent ynd.old nodes.old links.old junctions.now heights.now refs.old)
         (length scratch.old) places.old).answer scratch.old scratch.new }
 {
-    let old = *ynd;
-    let y = ynd_of(old);
-    let o = cells::renumber::recalculate_node_indices(
-        y, nodes, links, junctions, heights, refs, scratch, places,
+    let r = cells::renumber::recalculate_node_indices(
+        ynd_of(*ynd),
+        nodes,
+        links,
+        junctions,
+        heights,
+        refs,
+        scratch,
+        places,
     );
-    let a = o.answer;
-    let w = words_done(a, o.ynd, old);
-    *ynd = w;
-    *place = place_of(a);
-    number_of(a)
+    tell_ynd(r, ynd, place)
 }

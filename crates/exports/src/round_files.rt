@@ -4,15 +4,13 @@ ghost use Rattle.rounds.specs.declared.file.Version.TheVariants.{One};
 ghost use Rattle.rounds.specs.Round.{head_bytes, round_read, written};
 ghost use Rattle.rounds.specs.Follow.{follow_round};
 ghost use Rattle.exports.specs.Cells.{lent};
-ghost use Rattle.exports.specs.Found.{told, written_told, trail, walk_told};
-ghost use Rattle.exports.specs.RoundTold.{round_head, round_told};
+ghost use Rattle.exports.specs.Found.{told, value_told, trail, walk_told};
+ghost use Rattle.exports.specs.RoundTold.{round};
 
-use crate::walking::end_words;
+use crate::answers::{answer, tell};
+use crate::walking::tell_walk;
 use crate::words::ynd_of;
 use cells::node::NodeWords;
-use cells::write::Written;
-use rounds::file::RoundRead;
-use walks::walk::Walked;
 
 // Reads a round file: `start` gets the start node's number, `choices` the choices, as many as `count` says.
 #[unsafe(no_mangle)]
@@ -23,24 +21,16 @@ pub extern "C" fn ynd_read_round(
     count: &mut usize,
     place: &mut usize,
 ) -> u32
-    ensures answer { told result place.new (round_head start.new count.new)
-        ≡ round_told (round_read file.now choices.old).answer
-        start.old count.old }
+    ensures answer { told result place.new (round start.new count.new)
+        ≡ value_told (round_read file.now choices.old).answer (round start.old count.old) }
     ensures choices_after { choices.new ≡ (round_read file.now choices.old).choices }
 {
-    let a = rounds::file::read_round(file, choices);
-    match a {
-        RoundRead::Round(number, n) => {
-            *start = number;
-            *count = n;
-            *place = 0;
-            0
-        }
-        RoundRead::Refused(number, at) => {
-            *place = at;
-            number
-        }
+    let r = rounds::file::read_round(file, choices);
+    if let Ok(round) = r {
+        *start = round.start;
+        *count = round.count;
     }
+    answer(r, place)
 }
 
 // Writes a round file; `length` gets how many bytes were written.
@@ -53,23 +43,16 @@ pub extern "C" fn ynd_write_round(
     place: &mut usize,
 ) -> u32
     ensures answer { told result place.new length.new
-        ≡ written_told (written (head_bytes One) start choices.now file.old).answer
+        ≡ value_told (written (head_bytes One) start choices.now file.old).answer
         length.old }
     ensures file_after { file.new
         ≡ (written (head_bytes One) start choices.now file.old).file }
 {
-    let a = rounds::file::write_round(start, choices, file);
-    match a {
-        Written::Wrote(n) => {
-            *length = n;
-            *place = 0;
-            0
-        }
-        Written::Refused(number, at) => {
-            *place = at;
-            number
-        }
-    }
+    tell(
+        rounds::file::write_round(start, choices, file),
+        length,
+        place,
+    )
 }
 
 // Walks a round from the node that has the start number. `end`, `count` and `visited` as for `ynd_walk`.
@@ -96,18 +79,6 @@ pub extern "C" fn ynd_follow_round(
         ≡ (follow_round (lent ynd.now nodes.now links.now junctions heights refs) start
         choices.now visited.old).visited }
 {
-    let y = ynd_of(*ynd);
-    let a = rounds::follow::follow_round(y, nodes, links, start, choices, visited);
-    match a {
-        Walked::Ended(e, n) => {
-            *end = end_words(e);
-            *count = n;
-            *place = 0;
-            0
-        }
-        Walked::Refused(number, at) => {
-            *place = at;
-            number
-        }
-    }
+    let r = rounds::follow::follow_round(ynd_of(*ynd), nodes, links, start, choices, visited);
+    tell_walk(r, end, count, place)
 }

@@ -4,20 +4,22 @@ ghost use Rattle.cells.specs.Memory.{memory};
 ghost use Rattle.walks.specs.WalkCall.{walk_left};
 ghost use Rattle.rounds.specs.Round.{version_read, written_left};
 ghost use Rattle.exports.specs.Cells.{lent};
-ghost use Rattle.exports.specs.Found.{told, written_told, trail, walk_told};
+ghost use Rattle.exports.specs.Found.{told, value_told, trail, walk_told};
 ghost use Rattle.exports.specs.Versions.{version_number, version_area, version_head, version_told};
-ghost use Rattle.exports.specs.Versions.{written_as, followed_as};
+ghost use Rattle.exports.specs.Versions.{version_of, written_as, followed_as};
 
-use crate::walking::end_words;
+use crate::answers::{answer, tell};
+use crate::walking::tell_walk;
 use crate::words::ynd_of;
 use cells::link::LinkWords;
 use cells::node::NodeWords;
-use cells::write::Written;
 use cells::ynd::Ynd;
-use rounds::file::{Version, VersionRead};
+use numbers::refusal::Refusal;
+use rounds::file::{Version, read_version, write_version};
+use rounds::follow::follow_version;
 use walks::walk::Walked;
 
-fn number_of(version: Version) -> u16
+fn version_number(version: Version) -> u16
     ensures { result ≡ version_number version }
 {
     match version {
@@ -26,12 +28,22 @@ fn number_of(version: Version) -> u16
     }
 }
 
-fn area_of(version: Version) -> u16
+fn version_area(version: Version) -> u16
     ensures { result ≡ version_area version }
 {
     match version {
         Version::One => 0,
         Version::Two(area) => area,
+    }
+}
+
+fn version_of(number: u16, area: u16) -> Result<Version, Refusal>
+    ensures { result ≡ version_of number area }
+{
+    match number {
+        1 => Ok(Version::One),
+        2 => Ok(Version::Two(area)),
+        _ => Err(Refusal::NoRoundFile),
     }
 }
 
@@ -52,34 +64,27 @@ pub extern "C" fn ynd_read_round_versioned(
         (version_head version.old area.old start.old count.old) }
     ensures choices_after { choices.new ≡ (version_read file.now choices.old).choices }
 {
-    let a = rounds::file::read_version(file, choices);
-    match a {
-        VersionRead::Round(v, number, n) => {
-            *version = number_of(v);
-            *area = area_of(v);
-            *start = number;
-            *count = n;
-            *place = 0;
-            0
-        }
-        VersionRead::Refused(number, at) => {
-            *place = at;
-            number
-        }
+    let r = read_version(file, choices);
+    if let Ok(round) = r {
+        *version = version_number(round.version);
+        *area = version_area(round.version);
+        *start = round.start;
+        *count = round.count;
     }
+    answer(r, place)
 }
 
-fn write_as(version: u16, area: u16, start: u16, choices: &[u8], file: &mut [u8]) -> Written
+fn write_as(
+    version: u16,
+    area: u16,
+    start: u16,
+    choices: &[u8],
+    file: &mut [u8],
+) -> Result<usize, Refusal>
     ensures { written_left result file.new
         ≡ written_as version area start choices.now file.old }
 {
-    if version == 1 {
-        return rounds::file::write_version(Version::One, start, choices, file);
-    }
-    if version == 2 {
-        return rounds::file::write_version(Version::Two(area), start, choices, file);
-    }
-    Written::Refused(15, 0)
+    write_version(version_of(version, area)?, start, choices, file)
 }
 
 // Writes a round file of the version named, as `ynd_write_round` writes version 1. A version 1 file has no area.
@@ -94,21 +99,10 @@ pub extern "C" fn ynd_write_round_versioned(
     place: &mut usize,
 ) -> u32
     ensures length_after { told result place.new length.new
-        ≡ written_told (written_as version area start choices.now file.old).answer length.old }
+        ≡ value_told (written_as version area start choices.now file.old).answer length.old }
     ensures file_after { file.new ≡ (written_as version area start choices.now file.old).file }
 {
-    let a = write_as(version, area, start, choices, file);
-    match a {
-        Written::Wrote(n) => {
-            *length = n;
-            *place = 0;
-            0
-        }
-        Written::Refused(number, at) => {
-            *place = at;
-            number
-        }
-    }
+    tell(write_as(version, area, start, choices, file), length, place)
 }
 
 fn follow_as(
@@ -120,28 +114,14 @@ fn follow_as(
     start: u16,
     choices: &[u8],
     visited: &mut [u32],
-) -> Walked
+) -> Result<Walked, Refusal>
     ensures { (junctions : List (List ℕ)) (heights : List ℕ) (refs : List (List ℕ))
         → walk_left result visited.new
         ≡ followed_as (memory ynd nodes.now links.now junctions heights refs) version area start
         choices.now visited.old }
 {
-    if version == 1 {
-        return rounds::follow::follow_version(
-            ynd,
-            nodes,
-            links,
-            Version::One,
-            start,
-            choices,
-            visited,
-        );
-    }
-    if version == 2 {
-        let two = Version::Two(area);
-        return rounds::follow::follow_version(ynd, nodes, links, two, start, choices, visited);
-    }
-    Walked::Refused(15, 0)
+    let version = version_of(version, area)?;
+    follow_version(ynd, nodes, links, version, start, choices, visited)
 }
 
 // Walks a round of the version named, as `ynd_follow_round` walks one of version 1.
@@ -171,17 +151,6 @@ pub extern "C" fn ynd_follow_round_versioned(
         choices.now visited.old).visited }
 {
     let y = ynd_of(*ynd);
-    let a = follow_as(y, nodes, links, version, area, start, choices, visited);
-    match a {
-        Walked::Ended(e, n) => {
-            *end = end_words(e);
-            *count = n;
-            *place = 0;
-            0
-        }
-        Walked::Refused(number, at) => {
-            *place = at;
-            number
-        }
-    }
+    let r = follow_as(y, nodes, links, version, area, start, choices, visited);
+    tell_walk(r, end, count, place)
 }

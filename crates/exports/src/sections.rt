@@ -1,14 +1,33 @@
 // Sections, the root and the four records.
-ghost use Rattle.std.specs.Prelude.{◌≡◌};
+ghost use Rattle.std.specs.Prelude.{◌≡◌, ◌≤◌};
 ghost use Rattle.records.specs.Records.{node_at, node_bytes, link_at, link_bytes};
 ghost use Rattle.records.specs.Records.{junction_at, junction_bytes, ref_at, ref_bytes};
 ghost use Rattle.records.specs.Sections.{located};
 ghost use Rattle.records.specs.Layout.{places_of, sizes};
+ghost use Rattle.numbers.specs.declared.refusal.Array.TheVariants as array;
+ghost use Rattle.exports.specs.Answers.{is_known};
 ghost use Rattle.exports.specs.Found.{told};
-ghost use Rattle.exports.specs.Parts.{is_at, part_or, root_told, record_told, laid, laid_told};
+ghost use Rattle.exports.specs.Parts.{section_number, part_or, root_told, record_told, laid, laid_out, laid_told};
 
-use numbers::answer::Answer;
-use records::section::{Located, Section};
+use crate::answers::{answer, tell};
+use cells::root::{check_root, read_root};
+use numbers::refusal::{Array, Refusal};
+use records::junction::{junction_at, junction_bytes};
+use records::junction_ref::{ref_at, ref_bytes};
+use records::layout::{Places, lay_out};
+use records::link::{link_at, link_bytes};
+use records::node::{node_at, node_bytes};
+use records::root::root_words;
+use records::section::{Section, locate};
+
+fn section_number(section: Section) -> usize
+    ensures { result ≡ section_number section }
+{
+    match section {
+        Section::System => 0,
+        Section::Graphics => 1,
+    }
+}
 
 // Where an array of `count` entries of `width` bytes lies, in sections of so many bytes: whether its address is good,
 // and then its section (0 system, 1 graphics), offset and length.
@@ -21,26 +40,14 @@ pub extern "C" fn ynd_locate(
     graphics: usize,
     part: &mut [usize; 3],
 ) -> bool
-    ensures value { result ≡ is_at (located address count width system graphics) }
+    ensures value { result ≡ is_known (located address count width system graphics) }
     ensures part_after { part.new ≡ part_or (located address count width system graphics) part.old }
 {
-    let l = records::section::locate(address, count, width, system, graphics);
-    match l {
-        Located::At(p) => {
-            let section = p.section;
-            match section {
-                Section::System => {
-                    *part = [0, p.offset, p.len];
-                    true
-                }
-                Section::Graphics => {
-                    *part = [1, p.offset, p.len];
-                    true
-                }
-            }
-        }
-        Located::Bad => false,
+    let located = locate(address, count, width, system, graphics);
+    if let Some(p) = located {
+        *part = [section_number(p.section), p.offset, p.len];
     }
+    located.is_some()
 }
 
 // The root that reading goes by, as it is written: 28 words.
@@ -50,24 +57,36 @@ pub extern "C" fn ynd_root(section: &[u8], words: &mut [u32; 28], place: &mut us
     ensures { told result place.new words.new
         ≡ root_told section.now words.old }
 {
-    let a = cells::root::check_root(section.len());
-    match a {
-        Answer::Refused(number, at) => {
-            *place = at;
-            number
-        }
-        Answer::Done => {
-            let w = records::root::root_words(cells::root::read_root(section));
-            *words = w;
-            *place = 0;
-            0
-        }
+    let r = check_root(section.len());
+    if r.is_ok() {
+        *words = root_words(read_root(section));
     }
+    answer(r, place)
+}
+
+// A record at `at`, as it is written, if it ends inside the section.
+#[tactic(auto, unfolding(crate::specs::Parts::record_told))]
+fn tell_record<const N: usize>(
+    section: &[u8],
+    at: u32,
+    array: Array,
+    written: [u8; N],
+    bytes: &mut [u8; N],
+    place: &mut usize,
+) -> u32
+    requires { N ≤ 40 }
+    ensures { told result place.new bytes.new ≡ record_told array N section.now at written.entry bytes.old }
+{
+    let r = if at as usize + N <= section.len() {
+        Ok(written)
+    } else {
+        Err(Refusal::BadArray(array))
+    };
+    tell(r, bytes, place)
 }
 
 // The node at `at`, as it is written.
 #[unsafe(no_mangle)]
-#[tactic(auto, unfolding(crate::specs::Parts::record_told))]
 pub extern "C" fn ynd_node_record(
     section: &[u8],
     at: u32,
@@ -75,22 +94,15 @@ pub extern "C" fn ynd_node_record(
     place: &mut usize,
 ) -> u32
     ensures { told result place.new bytes.new
-        ≡ record_told 0 40 section.now at
+        ≡ record_told array.Nodes 40 section.now at
         (node_bytes (node_at section.now at)) bytes.old }
 {
-    if section.len() < at as usize + 40 {
-        *place = 0;
-        return 3;
-    }
-    let b = records::node::node_bytes(records::node::node_at(section, at));
-    *bytes = b;
-    *place = 0;
-    0
+    let written = node_bytes(node_at(section, at));
+    tell_record(section, at, Array::Nodes, written, bytes, place)
 }
 
 // The link at `at`, as it is written.
 #[unsafe(no_mangle)]
-#[tactic(auto, unfolding(crate::specs::Parts::record_told))]
 pub extern "C" fn ynd_link_record(
     section: &[u8],
     at: u32,
@@ -98,22 +110,15 @@ pub extern "C" fn ynd_link_record(
     place: &mut usize,
 ) -> u32
     ensures { told result place.new bytes.new
-        ≡ record_told 1 8 section.now at
+        ≡ record_told array.Links 8 section.now at
         (link_bytes (link_at section.now at)) bytes.old }
 {
-    if section.len() < at as usize + 8 {
-        *place = 1;
-        return 3;
-    }
-    let b = records::link::link_bytes(records::link::link_at(section, at));
-    *bytes = b;
-    *place = 0;
-    0
+    let written = link_bytes(link_at(section, at));
+    tell_record(section, at, Array::Links, written, bytes, place)
 }
 
 // The junction at `at`, as it is written.
 #[unsafe(no_mangle)]
-#[tactic(auto, unfolding(crate::specs::Parts::record_told))]
 pub extern "C" fn ynd_junction_record(
     section: &[u8],
     at: u32,
@@ -121,22 +126,15 @@ pub extern "C" fn ynd_junction_record(
     place: &mut usize,
 ) -> u32
     ensures { told result place.new bytes.new
-        ≡ record_told 2 12 section.now at
+        ≡ record_told array.Junctions 12 section.now at
         (junction_bytes (junction_at section.now at)) bytes.old }
 {
-    if section.len() < at as usize + 12 {
-        *place = 2;
-        return 3;
-    }
-    let b = records::junction::junction_bytes(records::junction::junction_at(section, at));
-    *bytes = b;
-    *place = 0;
-    0
+    let written = junction_bytes(junction_at(section, at));
+    tell_record(section, at, Array::Junctions, written, bytes, place)
 }
 
 // The ref at `at`, as it is written.
 #[unsafe(no_mangle)]
-#[tactic(auto, unfolding(crate::specs::Parts::record_told))]
 pub extern "C" fn ynd_ref_record(
     section: &[u8],
     at: u32,
@@ -144,23 +142,37 @@ pub extern "C" fn ynd_ref_record(
     place: &mut usize,
 ) -> u32
     ensures { told result place.new bytes.new
-        ≡ record_told 4 8 section.now at
+        ≡ record_told array.Refs 8 section.now at
         (ref_bytes (ref_at section.now at)) bytes.old }
 {
-    if section.len() < at as usize + 8 {
-        *place = 4;
-        return 3;
+    let written = ref_bytes(ref_at(section, at));
+    tell_record(section, at, Array::Refs, written, bytes, place)
+}
+
+// Where the blocks lie, of a file within its limits.
+#[tactic(auto, using(numbers::proofs::Refusing::tested))]
+fn laid_out(
+    refs: u32,
+    heightmap: u32,
+    junctions: u32,
+    links: u32,
+    nodes: u32,
+) -> Result<Places, Refusal>
+    ensures { result ≡ laid_out nodes junctions (places_of (sizes refs heightmap junctions links nodes)) }
+{
+    if 65536 < nodes || 4096 < junctions {
+        return Err(Refusal::AtLimit);
     }
-    let b = records::junction_ref::ref_bytes(records::junction_ref::ref_at(section, at));
-    *bytes = b;
-    *place = 0;
-    0
+    let p = lay_out(refs, heightmap, junctions, links, nodes);
+    if 16777216 < p.total {
+        return Err(Refusal::SystemTooLong);
+    }
+    Ok(p)
 }
 
 // Where the blocks of a written file lie, by their counts: the addresses of refs, heightmap bytes, junctions, links
 // and nodes, 0 for an empty one, and the file's length.
 #[unsafe(no_mangle)]
-#[tactic(auto, unfolding(crate::specs::Parts::laid_told))]
 pub extern "C" fn ynd_lay_out(
     refs: u32,
     heightmap: u32,
@@ -175,22 +187,10 @@ pub extern "C" fn ynd_lay_out(
         ≡ laid_told nodes junctions (places_of (sizes refs heightmap junctions links nodes))
         (laid addresses.old total.old) }
 {
-    if 65536 < nodes {
-        *place = 0;
-        return 14;
+    let r = laid_out(refs, heightmap, junctions, links, nodes);
+    if let Ok(p) = r {
+        *addresses = [p.refs, p.heightmap, p.junctions, p.links, p.nodes];
+        *total = p.total;
     }
-    if 4096 < junctions {
-        *place = 0;
-        return 14;
-    }
-    let p = records::layout::lay_out(refs, heightmap, junctions, links, nodes);
-    let end = p.total;
-    if 16777216 < end {
-        *place = 0;
-        return 2;
-    }
-    *addresses = [p.refs, p.heightmap, p.junctions, p.links, p.nodes];
-    *total = end;
-    *place = 0;
-    0
+    answer(r, place)
 }

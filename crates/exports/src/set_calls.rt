@@ -7,13 +7,11 @@ ghost use Rattle.sets.specs.CrossMember.{cross_member};
 ghost use Rattle.sets.specs.RenumberMember.{renumber_member};
 ghost use Rattle.sets.specs.SetSoundCall.{set_sound_call};
 ghost use Rattle.exports.specs.Answers.{answer_number, answer_place};
-ghost use Rattle.exports.specs.Found.{told, trail, walk_told, sound_told};
+ghost use Rattle.exports.specs.Found.{told, trail, walk_told, value_told};
 
-use crate::answers::{number_of, place_of};
-use crate::walking::end_words;
+use crate::answers::{answer, tell};
+use crate::walking::tell_walk;
 use cells::node::NodeWords;
-use walks::sound::Soundness;
-use walks::walk::Walked;
 
 // Renumbers a member, and corrects the links of the others that name it. `places` gets each of its nodes' new place;
 // the scratch holds anything after an accepted call.
@@ -48,11 +46,10 @@ pub extern "C" fn ynd_set_renumber(
         (renumber_member (cell_set members.old nodes.old links.old junctions.now heights.now refs.old) member
         (length scratch.old) places.old).answer scratch.old scratch.new }
 {
-    let a = sets::renumber::renumber_member(
+    let r = sets::renumber::renumber_member(
         members, nodes, links, junctions, heights, refs, scratch, places, member,
     );
-    *place = place_of(a);
-    number_of(a)
+    answer(r, place)
 }
 
 // A walk from a member and a place in it, that goes on in the member that a link names. `end` as for `ynd_walk`;
@@ -78,19 +75,8 @@ pub extern "C" fn ynd_set_crossing_walk(
         ≡ (cross_member (cell_set members.now nodes.now links.now junctions heights refs) choices.now
         (location member start) visited.old).visited }
 {
-    let a = sets::crossing::crossing_walk(members, nodes, links, member, start, choices, visited);
-    match a {
-        Walked::Ended(e, n) => {
-            *end = end_words(e);
-            *count = n;
-            *place = 0;
-            0
-        }
-        Walked::Refused(number, at) => {
-            *place = at;
-            number
-        }
-    }
+    let r = sets::crossing::crossing_walk(members, nodes, links, member, start, choices, visited);
+    tell_walk(r, end, count, place)
 }
 
 // Whether the set is sound. The scratch then holds each member's numbers, one member after the other.
@@ -105,26 +91,14 @@ pub extern "C" fn ynd_set_sound(
     place: &mut usize,
 ) -> u32
     ensures by_index { (junctions : List (List ℕ)) (heights : List ℕ) → told result place.new sound.new
-        ≡ sound_told (set_sound_call (cell_set members.now nodes.now links.now junctions heights refs.now)
+        ≡ value_told (set_sound_call (cell_set members.now nodes.now links.now junctions heights refs.now)
         scratch.old).answer sound.old }
     ensures by_index_2 { (junctions : List (List ℕ)) (heights : List ℕ) → scratch.new
         ≡ (set_sound_call (cell_set members.now nodes.now links.now junctions heights refs.now) scratch.old).scratch }
 {
-    let a = sets::soundness::set_sound(members, nodes, links, refs, scratch);
-    match a {
-        Soundness::Sound => {
-            *sound = true;
-            *place = 0;
-            0
-        }
-        Soundness::Unsound => {
-            *sound = false;
-            *place = 0;
-            0
-        }
-        Soundness::Refused(number, at) => {
-            *place = at;
-            number
-        }
-    }
+    tell(
+        sets::soundness::set_sound(members, nodes, links, refs, scratch),
+        sound,
+        place,
+    )
 }

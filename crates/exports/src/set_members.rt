@@ -1,39 +1,39 @@
 // Cells that join and leave a set (T-09). A member's entry is twenty words: the cell's fifteen, then the sizes of its
 // parts of the five lists.
-ghost use Rattle.std.specs.Prelude.{◌≡◌};
+ghost use Rattle.std.specs.Prelude.{◌≡◌, ℕ};
+ghost use Rattle.numbers.specs.Refusals.{answered};
 ghost use Rattle.sets.specs.CellSet.{cell_set};
 ghost use Rattle.sets.specs.Join.{join_cell};
-ghost use Rattle.sets.specs.Leave.{leave_area};
-ghost use Rattle.exports.specs.Answers.{if_done};
+ghost use Rattle.sets.specs.Leave.{leave_area, count_after};
 ghost use Rattle.exports.specs.Cells.{lent};
 ghost use Rattle.exports.specs.Found.{told};
-ghost use Rattle.exports.specs.SetTold.{sizes_given, change_told};
+ghost use Rattle.exports.specs.SetTold.{sizes_given, count_told, change_told};
 
-use crate::answers::{number_of, place_of};
+use crate::answers::tell;
 use crate::words::ynd_of;
 use cells::node::NodeWords;
-use numbers::answer::Answer;
+use numbers::refusal::Refusal;
 use sets::parts::PerList;
 
 fn sizes_of(s: [usize; 5]) -> PerList
     ensures { result ≡ sizes_given s }
 {
+    let [nodes, links, junctions, heights, refs] = s;
     PerList {
-        nodes: s[0],
-        links: s[1],
-        junctions: s[2],
-        heights: s[3],
-        refs: s[4],
+        nodes,
+        links,
+        junctions,
+        heights,
+        refs,
     }
 }
 
-fn count_done(a: Answer, count: usize, old: usize) -> usize
-    ensures { result ≡ if_done a count old }
+// How many members there are after a call.
+fn tell_count(r: Result<usize, Refusal>, count: &mut usize, place: &mut usize) -> u32
+    ensures { (before : ℕ)
+        → told result place.new count.new ≡ count_told (answered r) (count_after before r) count.old }
 {
-    match a {
-        Answer::Done => count,
-        Answer::Refused(_, _) => old,
-    }
+    tell(r, count, place)
 }
 
 // A cell joins the set, whose entries are the first `count` of `members`: what it holds is copied behind the others'
@@ -67,11 +67,10 @@ pub extern "C" fn ynd_set_join(
         (lent ynd.now new_nodes.now new_links.now new_junctions.now new_heights.now new_refs.now)
         (sizes_given sizes.now)) count.old }
 {
-    let old = *count;
     let y = ynd_of(*ynd);
     let s = sizes_of(*sizes);
-    let c = sets::join::join(
-        old,
+    let r = sets::join::join(
+        *count,
         members,
         nodes,
         links,
@@ -86,10 +85,7 @@ pub extern "C" fn ynd_set_join(
         new_refs,
         s,
     );
-    let a = c.answer;
-    *count = count_done(a, c.count, old);
-    *place = place_of(a);
-    number_of(a)
+    tell_count(r, count, place)
 }
 
 // The member with this area leaves the set, the first joined of several. `members` are the set's entries alone;
@@ -112,9 +108,6 @@ pub extern "C" fn ynd_set_leave(
         ≡ change_told (leave_area (cell_set members.old nodes.old links.old junctions.old heights.old refs.old) area)
         count.old }
 {
-    let c = sets::leave::leave(members, nodes, links, junctions, heights, refs, area);
-    let a = c.answer;
-    *count = count_done(a, c.count, *count);
-    *place = place_of(a);
-    number_of(a)
+    let r = sets::leave::leave(members, nodes, links, junctions, heights, refs, area);
+    tell_count(r, count, place)
 }

@@ -2,38 +2,24 @@
 ghost use Rattle.std.specs.Prelude.{◌≡◌, List, ℕ};
 ghost use Rattle.walks.specs.Shown.{shown_node, shown_junction, shown_values, shown_link};
 ghost use Rattle.exports.specs.Cells.{lent};
-ghost use Rattle.exports.specs.Found.{told, is_place, place_or_zero, seen_words, shown_node_told, shown_junction_told};
-ghost use Rattle.exports.specs.Found.{shown_values_told, shown_link_told};
+ghost use Rattle.exports.specs.Found.{told, told_of, value_told, is_place, place_or_zero, seen_words};
+ghost use Rattle.exports.specs.Found.{seen_junction_words, seen_link_words};
 
+use crate::answers::{tell, tell_as};
 use crate::words::ynd_of;
-use cells::lookup::Place;
 use cells::node::NodeWords;
-use walks::shown::{SeenNode, ShownJunction, ShownLink, ShownNode, ShownValues};
+use walks::shown::{SeenJunction, SeenLink, SeenNode};
 
-fn is_place(p: Place) -> usize
+fn is_place(p: Option<usize>) -> usize
     ensures { result ≡ is_place p }
 {
-    match p {
-        Place::At(_) => 1,
-        Place::Nothing => 0,
-        Place::Refused(_, _) => 0,
-    }
+    p.is_some() as usize
 }
 
-fn place_or_zero(p: Place) -> usize
+fn place_or_zero(p: Option<usize>) -> usize
     ensures { result ≡ place_or_zero p }
 {
-    match p {
-        Place::At(i) => i,
-        Place::Nothing => 0,
-        Place::Refused(_, _) => 0,
-    }
-}
-
-fn wide(x: u8) -> usize
-    ensures { result ≡ x }
-{
-    x as usize
+    p.unwrap_or(0)
 }
 
 fn seen_words(n: SeenNode) -> [usize; 19]
@@ -47,12 +33,12 @@ fn seen_words(n: SeenNode) -> [usize; 19]
         p.x as usize,
         p.y as usize,
         p.z as usize,
-        wide(n.flags0),
-        wide(n.flags1),
-        wide(n.flags2),
-        wide(n.flags3),
-        wide(n.flags4),
-        wide(n.flags5),
+        n.flags0 as usize,
+        n.flags1 as usize,
+        n.flags2 as usize,
+        n.flags3 as usize,
+        n.flags4 as usize,
+        n.flags5 as usize,
         n.unused0 as usize,
         n.unused1 as usize,
         n.unused2 as usize,
@@ -78,22 +64,17 @@ pub extern "C" fn ynd_shown_node(
     place: &mut usize,
 ) -> u32
     ensures { (heights : List ℕ) → told result place.new shown.new
-        ≡ shown_node_told (shown_node (lent ynd.now nodes.now links.now
-        junctions.now heights refs.now) at) shown.old }
+        ≡ told_of (shown_node (lent ynd.now nodes.now links.now
+        junctions.now heights refs.now) at) seen_words shown.old }
 {
-    let y = ynd_of(*ynd);
-    let s = walks::shown::shown_node(y, nodes, links, junctions, refs, at);
-    match s {
-        ShownNode::Node(n) => {
-            *shown = seen_words(n);
-            *place = 0;
-            0
-        }
-        ShownNode::Refused(number, list) => {
-            *place = list;
-            number
-        }
-    }
+    let r = walks::shown::shown_node(ynd_of(*ynd), nodes, links, junctions, refs, at);
+    tell_as(r, seen_words, shown, place)
+}
+
+fn seen_junction_words(j: SeenJunction) -> [u32; 6]
+    ensures { result ≡ seen_junction_words j }
+{
+    [j.x, j.y, j.min_z, j.max_z, j.width as u32, j.height as u32]
 }
 
 // Of the junction at a place: the bits of its corner and heights, width, height.
@@ -107,22 +88,11 @@ pub extern "C" fn ynd_shown_junction(
 ) -> u32
     ensures { (nodes links : List (List ℕ)) (heights : List ℕ) (refs : List (List ℕ)) → told result
         place.new shown.new
-        ≡ shown_junction_told (shown_junction
-        (lent ynd.now nodes links junctions.now heights refs) at) shown.old }
+        ≡ told_of (shown_junction
+        (lent ynd.now nodes links junctions.now heights refs) at) seen_junction_words shown.old }
 {
-    let y = ynd_of(*ynd);
-    let s = walks::shown::shown_junction(y, junctions, at);
-    match s {
-        ShownJunction::Junction(j) => {
-            *shown = [j.x, j.y, j.min_z, j.max_z, j.width as u32, j.height as u32];
-            *place = 0;
-            0
-        }
-        ShownJunction::Refused(number, list) => {
-            *place = list;
-            number
-        }
-    }
+    let r = walks::shown::shown_junction(ynd_of(*ynd), junctions, at);
+    tell_as(r, seen_junction_words, shown, place)
 }
 
 // The heightmap values of the junction at a place, copied to the front of the lent list; `count` gets how many they
@@ -140,25 +110,23 @@ pub extern "C" fn ynd_shown_values(
 ) -> u32
     ensures answer { (nodes links : List (List ℕ)) (refs : List (List ℕ)) → told result place.new
         count.new
-        ≡ shown_values_told (shown_values (lent ynd.now nodes links junctions.now
+        ≡ value_told (shown_values (lent ynd.now nodes links junctions.now
         heights.now refs) at
         values.old).answer count.old }
     ensures values_after { (nodes links : List (List ℕ)) (refs : List (List ℕ)) → values.new
         ≡ (shown_values (lent ynd.now nodes links junctions.now heights.now refs) at
         values.old).values }
 {
-    let y = ynd_of(*ynd);
-    let s = walks::shown::shown_values(y, junctions, heights, at, values);
-    match s {
-        ShownValues::Copied(n) => {
-            *count = n;
-            *place = 0;
-            0
-        }
-        ShownValues::Refused(number, list) => {
-            *place = list;
-            number
-        }
+    let r = walks::shown::shown_values(ynd_of(*ynd), junctions, heights, at, values);
+    tell(r, count, place)
+}
+
+fn seen_link_words(link: Option<SeenLink>) -> [u8; 5]
+    ensures { result ≡ seen_link_words link }
+{
+    match link {
+        Some(l) => [1, l.flags0, l.flags1, l.flags2, l.length],
+        None => [0; 5],
     }
 }
 
@@ -176,25 +144,9 @@ pub extern "C" fn ynd_shown_link(
 ) -> u32
     ensures { (junctions : List (List ℕ)) (heights : List ℕ) (refs : List (List ℕ)) → told result
         place.new shown.new
-        ≡ shown_link_told (shown_link (lent ynd.now nodes.now links.now junctions
-        heights refs) at choice) shown.old }
+        ≡ told_of (shown_link (lent ynd.now nodes.now links.now junctions
+        heights refs) at choice) seen_link_words shown.old }
 {
-    let y = ynd_of(*ynd);
-    let s = walks::shown::shown_link(y, nodes, links, at, choice);
-    match s {
-        ShownLink::Link(l) => {
-            *shown = [1, l.flags0, l.flags1, l.flags2, l.length];
-            *place = 0;
-            0
-        }
-        ShownLink::NoLink => {
-            *shown = [0, 0, 0, 0, 0];
-            *place = 0;
-            0
-        }
-        ShownLink::Refused(number, list) => {
-            *place = list;
-            number
-        }
-    }
+    let r = walks::shown::shown_link(ynd_of(*ynd), nodes, links, at, choice);
+    tell_as(r, seen_link_words, shown, place)
 }

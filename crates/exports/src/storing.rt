@@ -6,67 +6,51 @@ ghost use Rattle.cells.specs.PutLinks.{put_links};
 ghost use Rattle.cells.specs.PutHeightmap.{put_heightmap};
 ghost use Rattle.exports.specs.Cells.{to_ynd, ynd_words, lent, called, call_of};
 
-use crate::answers::{number_of, place_of};
-use crate::words::{words_done, ynd_of, ynd_words};
+use crate::words::{tell_ynd, ynd_of, ynd_words};
 use cells::node::NodeWords;
 
 #[unsafe(no_mangle)]
 pub extern "C" fn ynd_set_vft(ynd: &mut [u32; 15], vft: u32)
     ensures { ynd.new ≡ ynd_words (with_vft (to_ynd ynd.old) vft) }
 {
-    let y = ynd_of(*ynd);
-    let w = ynd_words(y.set_vft(vft));
-    *ynd = w;
+    *ynd = ynd_words(ynd_of(*ynd).set_vft(vft));
 }
 
 #[unsafe(no_mangle)]
 pub extern "C" fn ynd_set_vehicle_node_count(ynd: &mut [u32; 15], count: u32)
     ensures { ynd.new ≡ ynd_words (with_vehicles (to_ynd ynd.old) count) }
 {
-    let y = ynd_of(*ynd);
-    let w = ynd_words(y.set_vehicle_node_count(count));
-    *ynd = w;
+    *ynd = ynd_words(ynd_of(*ynd).set_vehicle_node_count(count));
 }
 
 #[unsafe(no_mangle)]
 pub extern "C" fn ynd_set_ped_node_count(ynd: &mut [u32; 15], count: u32)
     ensures { ynd.new ≡ ynd_words (with_peds (to_ynd ynd.old) count) }
 {
-    let y = ynd_of(*ynd);
-    let w = ynd_words(y.set_ped_node_count(count));
-    *ynd = w;
+    *ynd = ynd_words(ynd_of(*ynd).set_ped_node_count(count));
 }
 
 #[unsafe(no_mangle)]
 pub extern "C" fn ynd_set_unknowns(ynd: &mut [u32; 15], unknowns: &[u32; 7])
     ensures { ynd.new ≡ ynd_words (with_unknowns (to_ynd ynd.old) unknowns.now) }
 {
-    let y = ynd_of(*ynd);
-    let w = ynd_words(y.set_unknowns(*unknowns));
-    *ynd = w;
+    *ynd = ynd_words(ynd_of(*ynd).set_unknowns(*unknowns));
 }
 
 // The first `count` nodes stay.
 #[unsafe(no_mangle)]
-#[tactic(auto, unfolding(crate::specs::Cells::call_of))]
 pub extern "C" fn ynd_truncate_nodes(ynd: &mut [u32; 15], count: usize, place: &mut usize) -> u32
     ensures { (nodes links junctions refs : List (List ℕ)) (heights : List ℕ) →
         called result place.new ynd.new nodes links junctions heights refs
         ≡ call_of ynd.old
         (truncate_nodes (lent ynd.old nodes links junctions heights refs) count) }
 {
-    let old = *ynd;
-    let o = cells::truncate::truncate_nodes(ynd_of(old), count);
-    let a = o.answer;
-    let w = words_done(a, o.ynd, old);
-    *ynd = w;
-    *place = place_of(a);
-    number_of(a)
+    let r = cells::truncate::truncate_nodes(ynd_of(*ynd), count);
+    tell_ynd(r, ynd, place)
 }
 
 // The first `count` junctions stay.
 #[unsafe(no_mangle)]
-#[tactic(auto, unfolding(crate::specs::Cells::call_of))]
 pub extern "C" fn ynd_truncate_junctions(
     ynd: &mut [u32; 15],
     count: usize,
@@ -77,36 +61,24 @@ pub extern "C" fn ynd_truncate_junctions(
         ≡ call_of ynd.old
         (truncate_junctions (lent ynd.old nodes links junctions heights refs) count) }
 {
-    let old = *ynd;
-    let o = cells::truncate::truncate_junctions(ynd_of(old), count);
-    let a = o.answer;
-    let w = words_done(a, o.ynd, old);
-    *ynd = w;
-    *place = place_of(a);
-    number_of(a)
+    let r = cells::truncate::truncate_junctions(ynd_of(*ynd), count);
+    tell_ynd(r, ynd, place)
 }
 
 // The first `count` refs stay.
 #[unsafe(no_mangle)]
-#[tactic(auto, unfolding(crate::specs::Cells::call_of))]
 pub extern "C" fn ynd_truncate_refs(ynd: &mut [u32; 15], count: usize, place: &mut usize) -> u32
     ensures { (nodes links junctions refs : List (List ℕ)) (heights : List ℕ) →
         called result place.new ynd.new nodes links junctions heights refs
         ≡ call_of ynd.old
         (truncate_refs (lent ynd.old nodes links junctions heights refs) count) }
 {
-    let old = *ynd;
-    let o = cells::truncate::truncate_refs(ynd_of(old), count);
-    let a = o.answer;
-    let w = words_done(a, o.ynd, old);
-    *ynd = w;
-    *place = place_of(a);
-    number_of(a)
+    let r = cells::truncate::truncate_refs(ynd_of(*ynd), count);
+    tell_ynd(r, ynd, place)
 }
 
 // The links of the node at a place are the given ones.
 #[unsafe(no_mangle)]
-#[tactic(auto, unfolding(crate::specs::Cells::call_of))]
 pub extern "C" fn ynd_put_links(
     ynd: &mut [u32; 15],
     nodes: &mut [NodeWords],
@@ -121,18 +93,12 @@ pub extern "C" fn ynd_put_links(
         (put_links (lent ynd.old nodes.old links.old junctions heights refs) at
         given.now) }
 {
-    let old = *ynd;
-    let o = cells::put_links::put_links(ynd_of(old), nodes, links, at, given);
-    let a = o.answer;
-    let w = words_done(a, o.ynd, old);
-    *ynd = w;
-    *place = place_of(a);
-    number_of(a)
+    let r = cells::put_links::put_links(ynd_of(*ynd), nodes, links, at, given);
+    tell_ynd(r, ynd, place)
 }
 
 // The heightmap of the junction at a place is the given one.
 #[unsafe(no_mangle)]
-#[tactic(auto, unfolding(crate::specs::Cells::call_of))]
 pub extern "C" fn ynd_put_heightmap(
     ynd: &mut [u32; 15],
     junctions: &mut [[u32; 6]],
@@ -149,9 +115,8 @@ pub extern "C" fn ynd_put_heightmap(
         (put_heightmap (lent ynd.old nodes links junctions.old heights.old refs) at
         width height values.now) }
 {
-    let old = *ynd;
-    let o = cells::put_heightmap::put_heightmap(
-        ynd_of(old),
+    let r = cells::put_heightmap::put_heightmap(
+        ynd_of(*ynd),
         junctions,
         heights,
         at,
@@ -159,9 +124,5 @@ pub extern "C" fn ynd_put_heightmap(
         height,
         values,
     );
-    let a = o.answer;
-    let w = words_done(a, o.ynd, old);
-    *ynd = w;
-    *place = place_of(a);
-    number_of(a)
+    tell_ynd(r, ynd, place)
 }

@@ -3,14 +3,15 @@ ghost use Rattle.std.specs.Prelude.{◌≡◌, List, ℕ};
 ghost use Rattle.walks.specs.WalkCall.{walk_call};
 ghost use Rattle.walks.specs.SoundCall.{sound_call};
 ghost use Rattle.exports.specs.Cells.{lent};
-ghost use Rattle.exports.specs.Found.{told, end_words, trail, walk_told, sound_told};
+ghost use Rattle.exports.specs.Found.{told, end_words, trail, walk_told, value_told};
 
+use crate::answers::{answer, tell};
 use crate::words::ynd_of;
 use cells::node::NodeWords;
-use walks::sound::Soundness;
+use numbers::refusal::Refusal;
 use walks::walk::{End, Walked};
 
-pub(crate) fn end_words(e: End) -> [u32; 3]
+fn end_words(e: End) -> [u32; 3]
     ensures { result ≡ end_words e }
 {
     match e {
@@ -19,6 +20,22 @@ pub(crate) fn end_words(e: End) -> [u32; 3]
         End::Left(area, number) => [2, area as u32, number as u32],
         End::NoNode => [3, 0, 0],
     }
+}
+
+// How a walk ended and how many places it visited.
+pub(crate) fn tell_walk(
+    r: Result<Walked, Refusal>,
+    end: &mut [u32; 3],
+    count: &mut usize,
+    place: &mut usize,
+) -> u32
+    ensures { told result place.new (trail end.new count.new) ≡ walk_told r end.old count.old }
+{
+    if let Ok(w) = r {
+        *end = end_words(w.end);
+        *count = w.count;
+    }
+    answer(r, place)
 }
 
 // A walk from a place, by a byte a choice. `end` gets 0 for done, 1 no-link, 2 left, 3 no-node, and for left the area
@@ -44,20 +61,8 @@ pub extern "C" fn ynd_walk(
         ≡ (walk_call (lent ynd.now nodes.now links.now junctions heights refs) choices.now start
         visited.old).visited }
 {
-    let y = ynd_of(*ynd);
-    let a = walks::walk::walk(y, nodes, links, start, choices, visited);
-    match a {
-        Walked::Ended(e, n) => {
-            *end = end_words(e);
-            *count = n;
-            *place = 0;
-            0
-        }
-        Walked::Refused(number, at) => {
-            *place = at;
-            number
-        }
-    }
+    let r = walks::walk::walk(ynd_of(*ynd), nodes, links, start, choices, visited);
+    tell_walk(r, end, count, place)
 }
 
 // Whether the cell is sound. The scratch then holds each number's last place.
@@ -72,27 +77,11 @@ pub extern "C" fn ynd_sound(
     place: &mut usize,
 ) -> u32
     ensures answer { (junctions : List (List ℕ)) (heights : List ℕ) → told result place.new sound.new
-        ≡ sound_told
+        ≡ value_told
         (sound_call (lent ynd.now nodes.now links.now junctions heights refs.now) scratch.old).answer sound.old }
     ensures scratch_after { (junctions : List (List ℕ)) (heights : List ℕ) → scratch.new
         ≡ (sound_call (lent ynd.now nodes.now links.now junctions heights refs.now) scratch.old).scratch }
 {
-    let y = ynd_of(*ynd);
-    let a = walks::sound::sound(y, nodes, links, refs, scratch);
-    match a {
-        Soundness::Sound => {
-            *sound = true;
-            *place = 0;
-            0
-        }
-        Soundness::Unsound => {
-            *sound = false;
-            *place = 0;
-            0
-        }
-        Soundness::Refused(number, at) => {
-            *place = at;
-            number
-        }
-    }
+    let r = walks::sound::sound(ynd_of(*ynd), nodes, links, refs, scratch);
+    tell(r, sound, place)
 }

@@ -1,11 +1,12 @@
 // A cell's own words, as a caller in C lends them.
-ghost use Rattle.std.specs.Prelude.{◌≡◌};
-ghost use Rattle.exports.specs.Answers.{if_done, if_wrote};
-ghost use Rattle.exports.specs.Cells.{to_ynd, ynd_words};
+ghost use Rattle.std.specs.Prelude.{◌≡◌, List, ℕ};
+ghost use Rattle.cells.specs.Memory.{Left, left};
+ghost use Rattle.cells.specs.declared.ynd.Ynd.{Ynd};
+ghost use Rattle.exports.specs.Cells.{to_ynd, ynd_words, called, call_of};
 
-use cells::write::Written;
+use crate::answers::answer;
 use cells::ynd::Ynd;
-use numbers::answer::Answer;
+use numbers::refusal::Refusal;
 
 #[tactic(auto, unfolding(crate::specs::Cells::to_ynd))]
 pub(crate) fn ynd_of(w: [u32; 15]) -> Ynd
@@ -49,21 +50,15 @@ pub(crate) fn ynd_words(y: Ynd) -> [u32; 15]
     ]
 }
 
-// The words after a call: the cell's, or after a refusal the old ones.
-pub(crate) fn words_done(a: Answer, y: Ynd, old: [u32; 15]) -> [u32; 15]
-    ensures { result ≡ if_done a (ynd_words y) old }
+// The cell's words after a call on it; a refusal leaves the old ones.
+#[tactic(auto, unfolding(crate::specs::Cells::call_of))]
+pub(crate) fn tell_ynd(r: Result<Ynd, Refusal>, ynd: &mut [u32; 15], place: &mut usize) -> u32
+    ensures { (nodes links junctions refs : List (List ℕ)) (heights : List ℕ) →
+        called result place.new ynd.new nodes links junctions heights refs
+        ≡ call_of ynd.old (left (to_ynd ynd.old) r nodes links junctions heights refs) }
 {
-    match a {
-        Answer::Done => ynd_words(y),
-        Answer::Refused(_, _) => old,
+    if let Ok(y) = r {
+        *ynd = ynd_words(y);
     }
-}
-
-pub(crate) fn words_wrote(a: Written, y: Ynd, old: [u32; 15]) -> [u32; 15]
-    ensures { result ≡ if_wrote a (ynd_words y) old }
-{
-    match a {
-        Written::Wrote(_) => ynd_words(y),
-        Written::Refused(_, _) => old,
-    }
+    answer(r, place)
 }

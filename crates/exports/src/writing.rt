@@ -3,11 +3,11 @@ ghost use Rattle.std.specs.Prelude.{◌≡◌};
 ghost use Rattle.cells.specs.Write.{write_call};
 ghost use Rattle.cells.specs.WriteRead.{write_read_of};
 ghost use Rattle.exports.specs.Cells.{lent, called, both_called};
-ghost use Rattle.exports.specs.Found.{told, written_told};
+ghost use Rattle.exports.specs.Found.{told, value_told};
 
-use crate::words::{words_wrote, ynd_of};
+use crate::answers::{answer, tell};
+use crate::words::{ynd_of, ynd_words};
 use cells::node::NodeWords;
-use cells::write::Written;
 
 // Writes the cell into the section; `length` gets how many bytes were written.
 #[unsafe(no_mangle)]
@@ -23,25 +23,15 @@ pub extern "C" fn ynd_write(
     place: &mut usize,
 ) -> u32
     ensures answer { told result place.new length.new
-        ≡ written_told
+        ≡ value_told
         (write_call (lent ynd.now nodes.now links.now junctions.now heights.now refs.now) section.old).answer
         length.old }
     ensures section_after { section.new
         ≡ (write_call (lent ynd.now nodes.now links.now junctions.now heights.now refs.now) section.old).section }
 {
     let y = ynd_of(*ynd);
-    let a = cells::write::write(y, nodes, links, junctions, heights, refs, section);
-    match a {
-        Written::Wrote(n) => {
-            *length = n;
-            *place = 0;
-            0
-        }
-        Written::Refused(number, at) => {
-            *place = at;
-            number
-        }
-    }
+    let r = cells::write::write(y, nodes, links, junctions, heights, refs, section);
+    tell(r, length, place)
 }
 
 // Writes the cell into the section, and reads just what it wrote into the cell's own memory.
@@ -62,27 +52,17 @@ pub extern "C" fn ynd_write_then_read(
         ≡ both_called ynd.old
         (write_read_of (lent ynd.old nodes.old links.old junctions.old heights.old refs.old) section.old) }
     ensures answer { told result place.new length.new
-        ≡ written_told
+        ≡ value_told
         (write_read_of (lent ynd.old nodes.old links.old junctions.old heights.old refs.old) section.old).answer
         length.old }
     ensures section_after { section.new
         ≡ (write_read_of (lent ynd.old nodes.old links.old junctions.old heights.old refs.old) section.old).section }
 {
-    let old = *ynd;
-    let y = ynd_of(old);
-    let o = cells::write_read::write_then_read(y, nodes, links, junctions, heights, refs, section);
-    let a = o.answer;
-    let w = words_wrote(a, o.ynd, old);
-    *ynd = w;
-    match a {
-        Written::Wrote(n) => {
-            *length = n;
-            *place = 0;
-            0
-        }
-        Written::Refused(number, at) => {
-            *place = at;
-            number
-        }
+    let y = ynd_of(*ynd);
+    let r = cells::write_read::write_then_read(y, nodes, links, junctions, heights, refs, section);
+    if let Ok(w) = r {
+        *ynd = ynd_words(w.ynd);
+        *length = w.written;
     }
+    answer(r, place)
 }

@@ -10,8 +10,8 @@ use cells::junction::JunctionWords;
 use cells::junction_ref::RefWords;
 use cells::link::LinkWords;
 use cells::node::NodeWords;
-use cells::write::Written;
-use cells::ynd::{Outcome, Ynd};
+use cells::ynd::Ynd;
+use numbers::refusal::Refusal;
 
 // Writing, its answer held in a local first.
 pub fn writes_then_answers(
@@ -22,7 +22,7 @@ pub fn writes_then_answers(
     heights: &[u8],
     refs: &[RefWords],
     section: &mut [u8],
-) -> Written
+) -> Result<usize, Refusal>
     ensures { writeLeft result section.new
         ≡ write_call
         (memory ynd nodes.now links.now junctions.now heights.now
@@ -43,8 +43,8 @@ pub fn renumbers_in_two_arms(
     refs: &mut [LinkWords],
     scratch: &mut [u32],
     places: &mut [u32],
-) -> Outcome
-    ensures { renumbered_by result nodes.new links.new junctions.now
+) -> Result<Ynd, Refusal>
+    ensures { renumbered_by ynd result nodes.new links.new junctions.now
         heights.now refs.new places.new
         ≡ renumber
         (memory ynd nodes.old links.old junctions.now heights.now
@@ -71,8 +71,8 @@ pub fn reads_in_two_arms<'a>(
     junctions: &mut [JunctionWords],
     heights: &mut [u8],
     refs: &mut [RefWords],
-) -> Outcome
-    ensures { left result nodes.new links.new junctions.new heights.new
+) -> Result<Ynd, Refusal>
+    ensures { left ynd result nodes.new links.new junctions.new heights.new
         refs.new
         ≡ read_of system.now graphics.now
         (memory ynd nodes.old links.old junctions.old heights.old

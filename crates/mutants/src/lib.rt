@@ -13,9 +13,8 @@ use cells::junction::JunctionWords;
 use cells::junction_ref::RefWords;
 use cells::link::LinkWords;
 use cells::node::NodeWords;
-use cells::write::Written;
-use cells::ynd::{Outcome, Ynd};
-use numbers::answer::Answer;
+use cells::ynd::Ynd;
+use numbers::refusal::Refusal;
 
 pub mod areas;
 pub mod controls;
@@ -32,8 +31,8 @@ pub fn reads<'a>(
     junctions: &mut [JunctionWords],
     heights: &mut [u8],
     refs: &mut [RefWords],
-) -> Outcome
-    ensures { left result nodes.new links.new junctions.new heights.new
+) -> Result<Ynd, Refusal>
+    ensures { left ynd result nodes.new links.new junctions.new heights.new
         refs.new
         ≡ read_of system.now graphics.now
         (memory ynd nodes.old links.old junctions.old heights.old
@@ -54,8 +53,8 @@ pub fn renumbers(
     refs: &mut [LinkWords],
     scratch: &mut [u32],
     places: &mut [u32],
-) -> Outcome
-    ensures { renumbered_by result nodes.new links.new junctions.now
+) -> Result<Ynd, Refusal>
+    ensures { renumbered_by ynd result nodes.new links.new junctions.now
         heights.now refs.new places.new
         ≡ renumber
         (memory ynd nodes.old links.old junctions.now heights.now
@@ -76,7 +75,7 @@ pub fn writes(
     heights: &[u8],
     refs: &[RefWords],
     section: &mut [u8],
-) -> Written
+) -> Result<usize, Refusal>
     ensures { writeLeft result section.new
         ≡ write_call
         (memory ynd nodes.now links.now junctions.now heights.now

@@ -1,25 +1,30 @@
 -- The file name of a cell, read back, gives the cell's area. One computed test of the 1,024 areas. Assumes nothing.
 use Rattle.std.proofs.Common.{◌≡◌, ℕ, ◌+◌, ◌*◌, ◌<◌, Bool, true, false, T, eqb, take, ap, arith, eqb→eq}
+use Rattle.std.specs.Prelude.{Option, Some, None, Result, Ok, Err}
 use Rattle.numbers.specs.Grid.{in_grid, area_id}
 use Rattle.numbers.specs.Names.{named, name_of_area, name_for, cell_file_name, area_id_from_file_name}
-use Rattle.numbers.specs.declared.names.AreaId.{AreaId}
-use Rattle.numbers.specs.declared.names.AreaId.TheVariants.{Known, Nothing}
 use Rattle.numbers.specs.declared.names.FileName.{FileName}
+use Rattle.numbers.specs.declared.refusal.Refusal.{Refusal}
 use Rattle.numbers.proofs.Every.{at_number}
 use Rattle.numbers.proofs.GridLaws.{in_grid_law}
 
 -- what the bytes up to the count say
-abbrev pub area_named : FileName → AreaId
+abbrev pub area_named : FileName → Option ℕ
 area_named f = area_id_from_file_name (take f.count f.bytes)
 
-is : ℕ → AreaId → Bool
-is n (Known m) = eqb m n
-is n Nothing = false
+-- the same of what `cell_file_name` gives
+abbrev pub area_of_name : Result FileName Refusal → Option ℕ
+area_of_name (Ok f) = area_named f
+area_of_name (Err r) = None
 
-is_known : (n : ℕ) (a : AreaId) → T (is n a) → a ≡ Known n
+is : ℕ → Option ℕ → Bool
+is n (Some m) = eqb m n
+is n None = false
+
+is_known : (n : ℕ) (a : Option ℕ) → T (is n a) → a ≡ Some n
 unfolding is
-is_known n (Known m) t = ap Known (eqb→eq m n t)
-is_known n Nothing t = absurd t
+is_known n (Some m) t = ap Some (eqb→eq m n t)
+is_known n None t = absurd t
 
 back : ℕ → Bool
 unfolding is named name_of_area area_id_from_file_name
@@ -29,11 +34,11 @@ test : (n : ℕ) → n < 1024 → T (back n)
 unfolding back
 test n h = at_number back 1024 tt n h
 
-area_back : (n : ℕ) → n < 1024 → area_named (named (name_of_area n)) ≡ Known n
+area_back : (n : ℕ) → n < 1024 → area_named (named (name_of_area n)) ≡ Some n
 unfolding back
 area_back n h = is_known n (area_named (named (name_of_area n))) (test n h)
 
-pub name_back : (cx cy : ℕ) → in_grid cx cy ≡ true → area_named (cell_file_name cx cy) ≡ Known (cy * 32 + cx)
+pub name_back : (cx cy : ℕ) → in_grid cx cy ≡ true → area_of_name (cell_file_name cx cy) ≡ Some (cy * 32 + cx)
 unfolding area_id name_for
 name_back cx cy e = rw e (area_back (cy * 32 + cx) (small cx cy (in_grid_law cx cy e)))
   where

@@ -1,125 +1,201 @@
--- The definitions of `specs/Names.antt`, one byte at a time. Assumes nothing.
-use Rattle.std.proofs.Common.{◌≡◌, ℕ, zero, suc, ◌+◌, ◌-◌, ◌*◌, ◌<◌, ◌≤◌, Bool, true, false, cond, ◌&&◌, eqb, leb, List, [], ◌∷◌, length, get_or, take, drop, sym, refl, ap, ◌∙◌, le_of_eq, le_of_suc-le-suc, not-suc-le-zero, add-one, arith, length-drop, take_all, drop-cons, eq-eqb, ne_eqb, le-leb}
-use borrow.Author.Tests.{lt-leb}
+-- The definitions of `specs/Names.antt`, as the code has them. Assumes nothing.
+use Rattle.std.proofs.Common.{◌≡◌, ℕ, zero, suc, ◌+◌, ◌-◌, ◌*◌, ◌^◌, ◌<◌, ◌≤◌, Bool, true, false, cond, ◌&&◌, eqb, List, [], ◌∷◌, length, get_or, take, drop, sym, refl, ap, ◌∙◌, le_of_suc-le-suc, zero-lt-suc, not-suc-le-zero, arith, lit<, inl, inr, le_of_eq, take_all, length-drop, eq-eqb, ne_eqb, le-leb}
+use borrow.Author.Tests.{lt-leb, eqb-true}
+use lib.Seq.{drop-cons}
+use native.Mathlib.Numerals.{add-one}
+use Rattle.std.specs.Prelude.{Option, Some, None, Result, Ok, Err}
+use Rattle.std.specs.Option.{SomeIff}
+use Rattle.std.specs.Result.{OkIff, result_ok}
+use Rattle.std.specs.Char.{digit_value, to_ascii_lowercase}
+use Rattle.std.specs.Str.{IsUtf8, IsAscii}
+use Rattle.std.specs.Str.Parse.{AllDigits, IsNumeral, digits_value, digits_value_after, without_leading_plus, ParsesUnsigned}
+use Rattle.std.proofs.lemmas.Str.{IsUtf8-from_ascii}
+use Rattle.std.proofs.lemmas.Bool.Decides.{nat_tests}
+use Rattle.numbers.proofs.Units.{lt_or_ge}
 use Rattle.numbers.specs.Names.{nodes, ynd, slash, base_from, base_of, lower, starts, digits_from, digits_of, parsed, area_of_base}
-use Rattle.numbers.specs.declared.names.AreaId.{AreaId}
-use Rattle.numbers.specs.declared.names.AreaId.TheVariants.{Known, Nothing}
 
--- the byte at i and what follows it
-pub split : (s : List ℕ) (i : ℕ) → i < length s → drop i s ≡ get_or s i 0 ∷ drop (i + 1) s
-split s i h = drop-cons s i 0 h ∙ ap (λ (n : ℕ). get_or s i 0 ∷ drop n s) (sym (add-one i))
-
-pub past : (s : List ℕ) (i : ℕ) → length s ≤ i → drop i s ≡ []
-past [] zero h = refl
-past [] (suc i) h = refl
-past (c ∷ cs) zero h = absurd (not-suc-le-zero h)
-past (c ∷ cs) (suc i) h = past cs i (le_of_suc-le-suc h)
-
--- ---- the base
-pub base_step : (best s : List ℕ) (i : ℕ) → i < length s → base_from best (drop i s) ≡ base_from (cond (slash (get_or s i 0)) (drop (i + 1) s) best) (drop (i + 1) s)
+-- ---- the base: what stands after the last slash
+no_slash : (best s : List ℕ) → ((k : ℕ) → k < length s → slash (get_or s k 0) ≡ false) → base_from best s ≡ best
 unfolding base_from
-base_step best s i h = ap (base_from best) (split s i h)
+no_slash best [] h = refl
+no_slash best (c ∷ cs) h = rw (h 0 (zero-lt-suc (length cs))) (no_slash best cs (λ k l. h (suc k) (omega arith)))
 
-pub base_end : (best s : List ℕ) (i : ℕ) → length s ≤ i → base_from best (drop i s) ≡ best
+pub after_slash : (best s : List ℕ) (i : ℕ) → i < length s → slash (get_or s i 0) ≡ true → ((k : ℕ) → i < k → k < length s → slash (get_or s k 0) ≡ false) → base_from best s ≡ drop (i + 1) s
 unfolding base_from
-base_end best s i h = ap (base_from best) (past s i h)
+after_slash best [] i l e h = absurd (not-suc-le-zero l)
+after_slash best (c ∷ cs) zero l e h = rw e (no_slash cs cs (λ k m. h (suc k) (zero-lt-suc k) (omega arith)))
+after_slash best (c ∷ cs) (suc i) l e h =
+    let next : suc (i + 1) ≡ suc i + 1 = omega arith in
+    after_slash (cond (slash c) cs best) cs i (le_of_suc-le-suc l) e (λ k m n. h (suc k) (omega arith) (omega arith)) ∙ ap (λ (n : ℕ). drop n (c ∷ cs)) next
+
+-- one byte after another, from a best candidate on
+pub base_step : (best s : List ℕ) (i : ℕ) → i < length s
+    → base_from best (drop i s) ≡ base_from (cond (slash (get_or s i 0)) (drop (i + 1) s) best) (drop (i + 1) s)
+unfolding base_from
+base_step best s i h =
+    ap (base_from best) (drop-cons s i 0 h ∙ ap (λ (n : ℕ). get_or s i 0 ∷ drop n s) (sym (add-one i)))
+
+pub base_whole : (s : List ℕ) → ((k : ℕ) → k < length s → slash (get_or s k 0) ≡ false) → s ≡ base_of s
+base_whole s h = sym (no_slash s s h)
 
 -- ---- a word
-starts_nil : (s : List ℕ) → starts s [] ≡ true
+abbrev Same : List ℕ → List ℕ → ℕ → Type 0
+Same s word k = lower (get_or s k 0) ≡ get_or word k 0
+
+pub starts_short : (s word : List ℕ) → length s < length word → false ≡ starts s word
 unfolding starts
-starts_nil [] = refl
-starts_nil (c ∷ cs) = refl
-
-pub starts_end : (s word : List ℕ) (i : ℕ) → length word ≤ i → starts (drop i s) (drop i word) ≡ true
-starts_end s word i h = ap (starts (drop i s)) (past word i h) ∙ starts_nil (drop i s)
-
-pub starts_short : (s word : List ℕ) (i : ℕ) → length s ≤ i → i < length word → starts (drop i s) (drop i word) ≡ false
-unfolding starts
-starts_short s word i h l = ap (λ (x : List ℕ). starts x (drop i word)) (past s i h) ∙ ap (starts []) (split word i l)
-
-pub starts_step : (s word : List ℕ) (i : ℕ) → i < length s → i < length word → starts (drop i s) (drop i word) ≡ (eqb (lower (get_or s i 0)) (get_or word i 0) && starts (drop (i + 1) s) (drop (i + 1) word))
-unfolding starts
-starts_step s word i h l = ap (λ (x : List ℕ). starts x (drop i word)) (split s i h) ∙ ap (starts (get_or s i 0 ∷ drop (i + 1) s)) (split word i l)
-
--- ---- digits
-abbrev next : ℕ → ℕ → ℕ
-next n c = n * 10 + (c - 48)
-
-abbrev fine : Bool → Bool → Bool → List ℕ → ℕ → AreaId
-fine a b d cs m = cond (a && b && d) (digits_from m cs) Nothing
-
-digits_step : (n : ℕ) (t : List ℕ) (i : ℕ) → i < length t → digits_from n (drop i t) ≡ fine (leb 48 (get_or t i 0)) (leb (get_or t i 0) 57) (leb (next n (get_or t i 0)) 4294967295) (drop (i + 1) t) (next n (get_or t i 0))
-unfolding digits_from
-digits_step n t i h = ap (digits_from n) (split t i h)
-
-module _ (n : ℕ) (t : List ℕ) (i : ℕ) (h : i < length t) where
-  abbrev c : ℕ
-  c = get_or t i 0
-
-  pub digit_low : c < 48 → digits_from n (drop i t) ≡ Nothing
-  digit_low l = digits_step n t i h ∙ ap (λ (a : Bool). fine a (leb c 57) (leb (next n c) 4294967295) (drop (i + 1) t) (next n c)) (lt-leb 48 c l)
-
-  pub digit_high : 48 ≤ c → 57 < c → digits_from n (drop i t) ≡ Nothing
-  digit_high k l = digits_step n t i h ∙ ap (λ (a : Bool). fine a (leb c 57) (leb (next n c) 4294967295) (drop (i + 1) t) (next n c)) (le-leb 48 c k) ∙ ap (λ (a : Bool). fine true a (leb (next n c) 4294967295) (drop (i + 1) t) (next n c)) (lt-leb c 57 l)
-
-  pub digit_over : 48 ≤ c → c ≤ 57 → 4294967295 < next n c → digits_from n (drop i t) ≡ Nothing
-  digit_over k l m = digits_step n t i h ∙ ap (λ (a : Bool). fine a (leb c 57) (leb (next n c) 4294967295) (drop (i + 1) t) (next n c)) (le-leb 48 c k) ∙ ap (λ (a : Bool). fine true a (leb (next n c) 4294967295) (drop (i + 1) t) (next n c)) (le-leb c 57 l) ∙ ap (λ (a : Bool). fine true true a (drop (i + 1) t) (next n c)) (lt-leb (next n c) 4294967295 m)
-
-  pub digit_good : 48 ≤ c → c ≤ 57 → next n c ≤ 4294967295 → digits_from n (drop i t) ≡ digits_from (next n c) (drop (i + 1) t)
-  digit_good k l m = digits_step n t i h ∙ ap (λ (a : Bool). fine a (leb c 57) (leb (next n c) 4294967295) (drop (i + 1) t) (next n c)) (le-leb 48 c k) ∙ ap (λ (a : Bool). fine true a (leb (next n c) 4294967295) (drop (i + 1) t) (next n c)) (le-leb c 57 l) ∙ ap (λ (a : Bool). fine true true a (drop (i + 1) t) (next n c)) (le-leb (next n c) 4294967295 m)
-
-pub digits_end : (n : ℕ) (t : List ℕ) (i : ℕ) → length t ≤ i → digits_from n (drop i t) ≡ Known n
-unfolding digits_from
-digits_end n t i h = ap (digits_from n) (past t i h)
-
-pub no_digits : (t : List ℕ) → length t ≡ 0 → digits_of t ≡ Nothing
-unfolding digits_of
-no_digits [] h = refl
-no_digits (c ∷ cs) h = absurd (no (length cs) h)
+starts_short s [] h = absurd (not-suc-le-zero h)
+starts_short [] (d ∷ ds) h = refl
+starts_short (c ∷ cs) (d ∷ ds) h = rw (← starts_short cs ds (le_of_suc-le-suc h)) (no (eqb (lower c) d))
   where
-    no : (n : ℕ) → suc n ≡ 0 → ⊥
-    no n e = omega arith
+    no : (b : Bool) → false ≡ (b && false)
+    no true = refl
+    no false = refl
 
-pub some_digits : (t : List ℕ) → (length t ≡ 0 → ⊥) → digits_of t ≡ digits_from 0 t
-unfolding digits_from digits_of
-some_digits [] h = absurd (h refl)
-some_digits (c ∷ cs) h = refl
+starts_same : (s word : List ℕ) → length word ≤ length s → ((k : ℕ) → k < length word → Same s word k) → true ≡ starts s word
+unfolding starts
+starts_same [] [] h all = refl
+starts_same (c ∷ cs) [] h all = refl
+starts_same [] (d ∷ ds) h all = absurd (not-suc-le-zero h)
+starts_same (c ∷ cs) (d ∷ ds) h all =
+    rw (eq-eqb (lower c) d (all 0 (zero-lt-suc (length ds)))) (starts_same cs ds (le_of_suc-le-suc h) (λ k l. all (suc k) (omega arith)))
 
--- ---- a turn of the search for the base
-pub base_again : (s : List ℕ) (start i next : ℕ) (b : Bool) → i < length s → base_from (drop start s) (drop i s) ≡ base_of s → b ≡ slash (get_or s i 0) → drop next s ≡ cond b (drop (i + 1) s) (drop start s)
-    → base_from (drop next s) (drop (i + 1) s) ≡ base_of s
-base_again s start i next b h inv e d =
-    ap (λ (x : List ℕ). base_from x (drop (i + 1) s)) (d ∙ ap (λ (x : Bool). cond x (drop (i + 1) s) (drop start s)) e) ∙ sym (base_step (drop start s) s i h) ∙ inv
-
--- ---- what is lent from a place to the end
-pub to_end : (s : List ℕ) (a : ℕ) → take (length s - a) (drop a s) ≡ drop a s
-to_end s a = take_all (length s - a) (drop a s) (le_of_eq (length-drop a s))
-
--- ---- the number between prefix and suffix
-pub parsed_none : (t : List ℕ) → length t ≡ 0 → parsed t ≡ Nothing
-unfolding parsed
-parsed_none [] h = refl
-parsed_none (c ∷ cs) h = absurd (no (length cs) h)
+starts_other : (s word : List ℕ) (k : ℕ) → k < length word → k < length s → (Same s word k → ⊥) → false ≡ starts s word
+unfolding starts
+starts_other s [] k h l d = absurd (not-suc-le-zero h)
+starts_other [] (w ∷ ws) k h l d = absurd (not-suc-le-zero l)
+starts_other (c ∷ cs) (w ∷ ws) zero h l d = rw (ne_eqb (lower c) w d) refl
+starts_other (c ∷ cs) (w ∷ ws) (suc k) h l d = rw (← starts_other cs ws k (le_of_suc-le-suc h) (le_of_suc-le-suc l) d) (nothing (eqb (lower c) w))
   where
-    no : (n : ℕ) → suc n ≡ 0 → ⊥
-    no n e = omega arith
+    nothing : (b : Bool) → false ≡ (b && false)
+    nothing true = refl
+    nothing false = refl
 
+-- ASCII's lower case
+lower_is : (c : ℕ) → to_ascii_lowercase c ≡ lower c
+lower_is c = grind (arith, nat_tests)
+
+pub starts_decided : (r : Bool) (s word : List ℕ) → length word ≤ length s
+    → (r ≡ true → (k : ℕ) → k < length word → to_ascii_lowercase (get_or s k 0) ≡ get_or word k 0)
+    → (r ≡ false → (k : ℕ) × (k < length word) × (to_ascii_lowercase (get_or s k 0) ≡ get_or word k 0 → ⊥)) → r ≡ starts s word
+starts_decided true s word l same other = starts_same s word l (λ k h. sym (lower_is (get_or s k 0)) ∙ same refl k h)
+starts_decided false s word l same other =
+    let w = other refl in
+    starts_other s word w.0 w.1 (omega (arith, w.1)) (λ e. w.2 (lower_is (get_or s w.0 0) ∙ e))
+
+-- ---- a number, as `parse` reads it
 pub parsed_plus : (t : List ℕ) → (length t ≡ 0 → ⊥) → get_or t 0 0 ≡ 43 → parsed t ≡ digits_of (drop 1 t)
 unfolding digits_of parsed
 parsed_plus [] h e = absurd (h refl)
 parsed_plus (c ∷ cs) h e = ap (λ (b : Bool). cond b (digits_of cs) (digits_of (c ∷ cs))) (eq-eqb c 43 e)
 
-pub parsed_plain : (t : List ℕ) → (length t ≡ 0 → ⊥) → (get_or t 0 0 ≡ 43 → ⊥) → parsed t ≡ digits_of t
-unfolding digits_of parsed
-parsed_plain [] h e = absurd (h refl)
-parsed_plain (c ∷ cs) h e = ap (λ (b : Bool). cond b (digits_of cs) (digits_of (c ∷ cs))) (ne_eqb c 43 e)
+pub ok_is : {A E : Type 0} (r : Result A E) (x : A) → result_ok r ≡ Some x → r ≡ Ok x
+ok_is (Ok y) x h = cc
+ok_is (Err e) x h = cc
+
+pub err_is : {A E : Type 0} (r : Result A E) → result_ok r ≡ None → (e : E) × (r ≡ Err e)
+err_is (Ok y) h = cc
+err_is (Err e) h = (e, refl)
+
+is_digit : (c : ℕ) → digit_value c < 10 → (48 ≤ c) × (c ≤ 57)
+is_digit c h = grind (arith, nat_tests)
+
+digit_is : (c : ℕ) → 48 ≤ c → c ≤ 57 → digit_value c ≡ c - 48
+digit_is c h l = grind (arith, nat_tests)
+
+-- digits make a number no smaller
+grows : (n : ℕ) (cs : List ℕ) → n ≤ digits_value_after 10 n cs
+grows n [] = omega arith
+grows n (c ∷ cs) = omega (arith, grows (n * 10 + digit_value c) cs)
+
+same_iff : {P Q : Type 0} {v w : ℕ} (r : Option ℕ) → (P → Q) → (Q → P) → v ≡ w → SomeIff r P v → SomeIff r Q w
+same_iff (Some x) f g e h = (f h.0, h.1 ∙ e)
+same_iff None f g e h = λ q. h (g q)
+
+abbrev Read : ℕ → List ℕ → Type 0
+Read n cs = AllDigits 10 cs × (digits_value_after 10 n cs < 2 ^ 32)
+
+reads : (n : ℕ) (cs : List ℕ) → n < 2 ^ 32 → SomeIff (digits_from n cs) (Read n cs) (digits_value_after 10 n cs)
+unfolding digits_from
+reads n [] h = ((tt, h), refl)
+reads n (c ∷ cs) h = elim (lt_or_ge c 48) [
+  | inl l ↦ rw (lt-leb 48 c l) (λ p. absurd (omega (arith, is_digit c p.0.0)))
+  | inr k ↦ elim (lt_or_ge 57 c) [
+    | inl l ↦ rw (le-leb 48 c k, lt-leb c 57 l) (λ p. absurd (omega (arith, is_digit c p.0.0)))
+    | inr l ↦
+        let m = n * 10 + (c - 48) in
+        let e : digit_value c ≡ c - 48 = digit_is c k l in
+        elim (lt_or_ge 4294967295 m) [
+          | inl o ↦ rw (le-leb 48 c k, le-leb c 57 l, lt-leb m 4294967295 o)
+              (λ p. absurd (omega (arith, e, p.1, grows (n * 10 + digit_value c) cs)))
+          | inr o ↦
+              let next : m ≡ n * 10 + digit_value c = omega (arith, e) in
+              let value : digits_value_after 10 m cs ≡ digits_value_after 10 (n * 10 + digit_value c) cs = ap (λ (x : ℕ). digits_value_after 10 x cs) next in
+              rw (le-leb 48 c k, le-leb c 57 l, le-leb m 4294967295 o)
+              (same_iff (digits_from m cs) (λ p. ((omega (arith, e), p.0), omega (arith, value, p.1))) (λ p. (p.0.1, omega (arith, value, p.1))) value
+              (reads m cs (omega arith)))
+        ]
+  ]
+]
+
+abbrev Numeral : List ℕ → Type 0
+Numeral cs = IsNumeral 10 cs × (digits_value 10 cs < 2 ^ 32)
+
+numeral : (cs : List ℕ) → SomeIff (digits_of cs) (Numeral cs) (digits_value 10 cs)
+unfolding digits_of
+numeral [] = λ h. not-suc-le-zero h.0.0
+numeral (c ∷ cs) = same_iff (digits_from 0 (c ∷ cs)) (λ p. ((zero-lt-suc (length cs), p.0), p.1)) (λ p. (p.0.1, p.1)) refl (reads 0 (c ∷ cs) (lit< tt))
+
+parses : (t : List ℕ) → SomeIff (parsed t) (Numeral (without_leading_plus t)) (digits_value 10 (without_leading_plus t))
+unfolding parsed digits_of
+parses [] = λ h. not-suc-le-zero h.0.0
+parses (c ∷ cs) = go (eqb c 43)
+  where
+    go : (b : Bool) → SomeIff (cond b (digits_of cs) (digits_of (c ∷ cs))) (Numeral (drop (cond b 1 0) (c ∷ cs))) (digits_value 10 (drop (cond b 1 0) (c ∷ cs)))
+    go true = numeral cs
+    go false = numeral (c ∷ cs)
+
+pub parsed_is : {E : Type 0} (t : List ℕ) (r : Result ℕ E) → ParsesUnsigned 32 10 t r → result_ok r ≡ parsed t
+parsed_is t r h = one _ _ (parsed t) r h (parses t)
+  where
+    one : (P : Type 0) (v : ℕ) {E : Type 0} (q : Option ℕ) (r : Result ℕ E) → OkIff r P v → SomeIff q P v → result_ok r ≡ q
+    one P v (Some y) (Ok x) h k = ap Some (h.1 ∙ sym k.1)
+    one P v None (Ok x) h k = absurd (k h.0)
+    one P v (Some y) (Err e) h k = absurd (h k.0)
+    one P v None (Err e) h k = refl
+
+-- digits are ASCII, so what is no text is no number
+ascii : (cs : List ℕ) → AllDigits 10 cs → IsAscii cs
+ascii [] h i = omega arith
+ascii (c ∷ cs) h zero = omega (arith, is_digit c h.0)
+ascii (c ∷ cs) h (suc i) = ascii cs h.1 i
+
+ascii_text : (t : List ℕ) → AllDigits 10 (without_leading_plus t) → IsAscii t
+ascii_text [] h = ascii [] h
+ascii_text (c ∷ cs) h = go (eqb c 43) refl h
+  where
+    go : (b : Bool) → eqb c 43 ≡ b → AllDigits 10 (drop (cond b 1 0) (c ∷ cs)) → IsAscii (c ∷ cs)
+    go true e h zero = omega (arith, eqb-true c 43 e)
+    go true e h (suc i) = ascii cs h i
+    go false e h i = ascii (c ∷ cs) h i
+
+pub parsed_text : (t : List ℕ) → (IsUtf8 t → ⊥) → None ≡ parsed t
+parsed_text t h = none _ _ (parsed t) (parses t) (λ n. h (IsUtf8-from_ascii t (ascii_text t n.0.1)))
+  where
+    none : (P : Type 0) (v : ℕ) (q : Option ℕ) → SomeIff q P v → (P → ⊥) → None ≡ q
+    none P v (Some x) k n = absurd (n k.0)
+    none P v None k n = refl
+
+-- ---- what is lent from a place to the end
+pub to_end : (s : List ℕ) (a : ℕ) → take (length s - a) (drop a s) ≡ drop a s
+to_end s a = take_all (length s - a) (drop a s) (le_of_eq (length-drop a s))
 
 -- ---- the base's three tests
-abbrev three : Bool → Bool → Bool → List ℕ → AreaId
-three x y z b = cond (x && y && z) (parsed (take (length b - 4 - 5) (drop 5 b))) Nothing
+abbrev three : Bool → Bool → Bool → List ℕ → Option ℕ
+three x y z b = cond (x && y && z) (parsed (take (length b - 4 - 5) (drop 5 b))) None
 
 module _ (b : List ℕ) where
-  pub area_short : length b < 9 → area_of_base b ≡ Nothing
+  pub area_short : length b < 9 → area_of_base b ≡ None
   unfolding area_of_base starts
   area_short h = ap (λ (x : Bool). three x (starts b nodes) (starts (drop (length b - 4) b) ynd) b) (lt-leb 9 (length b) h)
 

@@ -3,9 +3,8 @@ use Rattle.std.proofs.Common.{◌≡◌, ℕ, zero, suc, ◌+◌, ◌-◌, ◌*�
 use Prim.Native.Nat.{compare}
 use native.Mathlib.Nat.{pow-succ'}
 use lib.Dec.{nleb→lt}
-use lib.Ieee.{Float, nan, inf, fin, binary32, odd, size, nearest, units, round, of_fields, of_bits, to_bits, nan_bits, ne, is_nan, fits}
+use lib.Ieee.{Float, nan, inf, fin, binary32, odd, size, nearest, units, round, of_fields, of_bits, to_bits, nan_bits, is_nan, fits}
 use lib.Ieee.Fits.{round_is}
-use lib.Ieee.Compare.{differs_from_itself, nan_differs}
 use lib.Ieee.Bits.{is_false, of_bits-to_bits, nan_bits_is, nan_bits_above}
 use lib.Ieee.Exact.{HasValue, odd_sign}
 use Rattle.numbers.specs.Cases.{sign, field, fraction}
@@ -61,25 +60,19 @@ infinite b e z = of_bits_is b ∙ top_fields (sign b) (field b) (fraction b) e �
 pub no_number : (b : ℕ) → field b ≡ 255 → (fraction b ≡ 0 → ⊥) → of_bits binary32 b ≡ nan
 no_number b e z = of_bits_is b ∙ top_fields (sign b) (field b) (fraction b) e ∙ ap (λ (a : Bool). cond a (inf (sign b)) nan) (ne_eqb (fraction b) 0 z)
 
--- ---- the test for a NaN, `x != x`
-pub only_nan : (x : Float) → ne x x ≡ true → x ≡ nan
-only_nan x h = differs_from_itself x (subst T (sym h) tt)
-
-pub no_nan : (x : Float) → ne x x ≡ false → T (not (is_nan x))
+-- ---- the test for a NaN
+pub nan_is : (x : Float) → is_nan x ≡ true → x ≡ nan
 unfolding is_nan
-no_nan nan h = absurd (subst T (sym nan_differs ∙ h) tt)
-no_nan (inf s) h = tt
-no_nan (fin s m e) h = tt
+nan_is nan e = refl
+nan_is (inf s) e = cc
+nan_is (fin s m k) e = cc
+
+pub not_nan : (x : Float) → is_nan x ≡ false → T (not (is_nan x))
+not_nan x e = rw e tt
 
 -- ---- the test for a NaN's pattern, by its bits below the sign
-is_nan_law : (x : Float) → is_nan x ≡ true → x ≡ nan
-unfolding is_nan
-is_nan_law nan e = refl
-is_nan_law (inf s) e = cc
-is_nan_law (fin s m k) e = cc
-
 pub nan_pattern : (n : ℕ) → 2139095040 < n % 2147483648 → of_bits binary32 n ≡ nan
-nan_pattern n h = is_nan_law (of_bits binary32 n) (sym (nan_bits_is binary32 n) ∙ nan_bits_above binary32 n ∙ lt-ltb 2139095040 (n % 2147483648) h)
+nan_pattern n h = nan_is (of_bits binary32 n) (sym (nan_bits_is binary32 n) ∙ nan_bits_above binary32 n ∙ lt-ltb 2139095040 (n % 2147483648) h)
 
 pub number_pattern : (n : ℕ) → n % 2147483648 ≤ 2139095040 → nan_bits binary32 n ≡ false
 number_pattern n h = nan_bits_above binary32 n ∙ le-ltb 2139095040 (n % 2147483648) h

@@ -1,5 +1,5 @@
 -- `step_of` of a pattern, by cases on the exponent's field. Assumes nothing.
-use Rattle.std.proofs.Common.{◌≡◌, ℕ, zero, suc, ◌+◌, ◌-◌, ◌*◌, ◌/◌, ◌^◌, ◌<◌, ◌≤◌, min, Bool, true, false, not, ℤ, pos, negsuc, neg_ℤ, nat_abs, sym, refl, ap, ◌∙◌, inl, inr, le_trans, le_of_eq, lt_of_lt_of_le, le_of_lt, mul-le-mul_right, zero-lt-suc, mul_assoc, mul_comm, eq-zero-or-pos, mul-lt-mul_of_pos_right, mul-pos, one-mul, le-div_iff_mul-le, mul_right_comm, mul-div_cancel, arith, pow_pos, pow_mono, pow-add, shr_lt}
+use Rattle.std.proofs.Common.{◌≡◌, ℕ, zero, suc, ◌+◌, ◌-◌, ◌*◌, ◌/◌, ◌%◌, ◌^◌, ◌<◌, ◌≤◌, min, Bool, true, false, not, ℤ, pos, negsuc, neg_ℤ, nat_abs, sym, refl, ap, ◌∙◌, inl, inr, le_trans, le_of_eq, lt_of_lt_of_le, le_of_lt, mul-le-mul_right, zero-lt-suc, mul_assoc, mul_comm, eq-zero-or-pos, mul-lt-mul_of_pos_right, mul-pos, one-mul, le-div_iff_mul-le, mul_right_comm, mul-div_cancel, arith, pow_pos, pow_mono, pow-add, shr_lt}
 use native.Mathlib.Nat.{div-eq_of_lt}
 use lib.Ieee.{Float, nan, inf, fin, binary32, up, down, of_bits, round, div, of_int}
 use lib.Ieee.Fits.{down_pos}
@@ -141,6 +141,17 @@ by_power k nan s n h = absurd h
 by_power k (inf t) s n h = absurd h
 by_power k (fin true m e) s n h = alike true s m n (up e) (down e) k (down_pos e) h.0 h.1
 by_power k (fin false m e) s n h = alike false s m n (up e) (down e) k (down_pos e) h.0 h.1
+
+-- 2 ^ k as the code has it, in 32 bits
+pub power_is : (k : ℕ) → k ≤ 5 → of_int binary32 (pos (1 * 2 ^ k % 4294967296)) ≡ fin false 1 (pos k)
+unfolding of_int round
+power_is zero h = refl
+power_is (suc zero) h = refl
+power_is (suc (suc zero)) h = refl
+power_is (suc (suc (suc zero))) h = refl
+power_is (suc (suc (suc (suc zero)))) h = refl
+power_is (suc (suc (suc (suc (suc zero))))) h = refl
+power_is (suc (suc (suc (suc (suc (suc k)))))) h = absurd (omega arith)
 
 pub divided : (k : ℕ) (z : ℤ) → mag z < 32768 → div binary32 (of_int binary32 z) (fin false 1 (pos k)) ≡ unstep k z
 unfolding of_int unstep

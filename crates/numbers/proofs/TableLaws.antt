@@ -1,6 +1,6 @@
 -- The table's rule: for every pattern from +0 to the infinity, its rounded root is k or more exactly where the pattern is entry k or more. One computed test at the
 -- entries, and that the rounded root grows with the pattern. Assumes nothing.
-use Rattle.std.proofs.Common.{◌≡◌, ℕ, suc, ◌-◌, ◌*◌, ◌/◌, ◌^◌, ◌<◌, ◌≤◌, min, Bool, true, false, not, ◌&&◌, ◌||◌, T, eqb, ltb, leb, ◌⊎◌, get_or, sym, refl, ap, ◌∙◌, subst, inl, inr, le_trans, le_of_eq, le_of_lt, mul-le-mul_right, zero-lt-suc, mul_assoc, div-lt_iff_lt-mul, eq-or-lt_of_le, le-div_iff_mul-le, mul-one, mul_right_comm, le_of_mul-le-mul_right, div-one, arith, le→leb, eqb→eq, ltb→lt, leb→le, T_not}
+use Rattle.std.proofs.Common.{◌≡◌, ℕ, suc, ◌+◌, ◌-◌, ◌*◌, ◌/◌, ◌^◌, ◌<◌, ◌≤◌, min, Bool, true, false, not, ◌&&◌, ◌||◌, T, eqb, ltb, leb, ◌⊎◌, length, get_or, zero-le, sym, refl, ap, ◌∙◌, subst, inl, inr, le_trans, le_of_eq, le_of_lt, mul-le-mul_right, zero-lt-suc, mul_assoc, div-lt_iff_lt-mul, eq-or-lt_of_le, le-div_iff_mul-le, mul-one, mul_right_comm, le_of_mul-le-mul_right, div-one, arith, le→leb, eqb→eq, ltb→lt, leb→le, T_not}
 use lib.Dec.{nleb→lt, not_T}
 use lib.Ieee.{Float, nan, inf, fin, binary32, up, down, of_bits, le}
 use lib.Ieee.Fits.{and_l, and_r, down_pos}
@@ -8,6 +8,10 @@ use lib.Ieee.Exact.{HasValue}
 use lib.Ieee.Nearest.{div_same}
 use Rattle.numbers.specs.Lengths.{root_of, root, reaches, capped, length_of}
 use Rattle.numbers.specs.Table.{thresholds, Least}
+use Rattle.std.specs.List.Sorted.{IsNonDecreasingBy, IsPartitionedBy, IsPartitionPoint}
+use Rattle.std.proofs.lemmas.List.Sorted.{IsNonDecreasingBy-from_all_adjacent, IsPartitionedBy-leb}
+use borrow.Author.Tests.{leb-false}
+use Rattle.std.proofs.lemmas.List.{get_or_default}
 use Rattle.numbers.proofs.Every.{at}
 use Rattle.numbers.proofs.Patterns.{val, val_mono, unsigned}
 use Rattle.numbers.proofs.Orders.{plain}
@@ -140,3 +144,38 @@ length_is r b h l e n = capped_is r (root (of_bits binary32 b)) h (reached r b h
 -- ---- the rule, for all entries together
 pub least_entry : (k : ℕ) → k < 256 → Least k (entry k)
 least_entry k h = record { own = reached k (entry k) h (le_of_lt (finite k h)) (le_of_eq refl); none_below = λ b l. missed k b h l }
+
+-- ---- the place where the entries become more than a pattern
+climbs : ℕ → ℕ → Bool
+climbs k t = leb (entry (k - 1)) t
+
+adjacent : (k : ℕ) → k + 1 < 256 → entry k ≤ entry (k + 1)
+unfolding climbs thresholds
+adjacent k h = let e : k + 1 - 1 ≡ k = omega arith in rw e at (leb→le (entry (k + 1 - 1)) (entry (k + 1)) (at climbs thresholds tt (k + 1) h))
+
+all : length thresholds ≡ 256
+unfolding thresholds
+all = refl
+
+rising : IsNonDecreasingBy (λ (y : ℕ). y) thresholds
+rising = IsNonDecreasingBy-from_all_adjacent (λ (y : ℕ). y) thresholds (λ k d h.
+    rw (get_or_default thresholds k d 0 (omega arith), get_or_default thresholds (k + 1) d 0 h) (adjacent k (omega (arith, all))))
+
+pub partitioned : (b : ℕ) → IsPartitionedBy (λ y. leb y b) thresholds
+partitioned b = IsPartitionedBy-leb (λ (y : ℕ). y) thresholds b rising
+
+module _ (b r : ℕ) (h : IsPartitionPoint (λ y. leb y b ≡ true) (λ y. leb y b ≡ false) thresholds r) where
+  zero_first : entry 0 ≡ 0
+  unfolding thresholds
+  zero_first = refl
+
+  pub point_some : 1 ≤ r
+  point_some = elim (lt_or_ge 0 r) [
+    | inl l ↦ l
+    | inr g ↦ absurd (omega (arith, leb-false (entry 0) b (h.1 0 0 g (omega (arith, all))), zero_first))
+  ]
+
+  pub point_is : b ≤ 2139095040 → r ≤ 256 → r - 1 ≡ length_of (of_bits binary32 b)
+  point_is l m =
+      length_is (r - 1) b (omega (arith, point_some)) l (leb→le (entry (r - 1)) b (subst T (sym (h.0 (r - 1) 0 zero-le (omega (arith, point_some)))) tt))
+      (λ g. leb-false (entry (suc (r - 1))) b (h.1 (suc (r - 1)) 0 (omega (arith, point_some)) (omega (arith, all, g))))

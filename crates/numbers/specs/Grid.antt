@@ -1,12 +1,12 @@
 -- Section 6: the grid of cells, as at the head of the Rust's `ynd.rs`.
-use Rattle.std.specs.Prelude.{ℕ, ◌+◌, ◌*◌, ◌/◌, ◌%◌, min, Bool, true, false, cond, ◌&&◌, pos, ◌==◌, nat_lt, Float}
+use Rattle.std.specs.Prelude.{ℕ, ◌+◌, ◌*◌, ◌/◌, ◌%◌, min, Bool, true, false, cond, ◌&&◌, pos, ◌==◌, nat_lt}
+use Rattle.std.specs.Prelude.{Float, Result, Ok, Err}
 use Rattle.std.specs.Float.{nan, inf, fin, binary32}
 use Rattle.std.specs.Float.Ieee.{up, down, add, mul, of_int}
 use Rattle.numbers.specs.declared.grid.GridCell.{GridCell}
-use Rattle.numbers.specs.declared.grid.GridArea.{GridArea}
-use Rattle.numbers.specs.declared.grid.GridArea.TheVariants as area
-use Rattle.numbers.specs.declared.grid.CellBounds.{CellBounds}
-use Rattle.numbers.specs.declared.grid.CellBounds.TheVariants as bounds
+use Rattle.numbers.specs.declared.grid.Bounds.{Bounds}
+use Rattle.numbers.specs.declared.refusal.Refusal.{Refusal}
+use Rattle.numbers.specs.declared.refusal.Refusal.TheVariants.{NoSuchPlace}
 
 -- Section 6: y / 512 floored and limited to 0 .. 31, exactly; NaN gives 0. What is below zero is floored to -1 or
 -- less, and so limited to 0.
@@ -27,8 +27,8 @@ cell_for_position x y = record { x = cell_along x; y = cell_along y }
 abbrev pub in_grid : ℕ → ℕ → Bool
 in_grid cx cy = nat_lt cx 32 && nat_lt cy 32
 
-unfoldable pub area_id : ℕ → ℕ → GridArea
-area_id cx cy = cond (in_grid cx cy) (area.Area (cy * 32 + cx)) (area.Refused 13 0)
+unfoldable pub area_id : ℕ → ℕ → Result ℕ Refusal
+area_id cx cy = cond (in_grid cx cy) (Ok (cy * 32 + cx)) (Err NoSuchPlace)
 
 -- The bit 1024 marks an island's cell. It is left aside where an area names a cell.
 abbrev pub is_island_area : ℕ → Bool
@@ -50,11 +50,11 @@ unfoldable pub upper_bound : ℕ → Float
 unfolding add lower_bound
 upper_bound n = add binary32 (lower_bound n) (fin false 1 (pos 9))
 
-unfoldable pub cell_bounds : ℕ → ℕ → CellBounds
+unfoldable pub cell_bounds : ℕ → ℕ → Result Bounds Refusal
 cell_bounds cx cy =
-    cond (in_grid cx cy) (bounds.Bounds (record {
+    cond (in_grid cx cy) (Ok (record {
       x0 = lower_bound cx;
       y0 = lower_bound cy;
       x1 = upper_bound cx;
       y1 = upper_bound cy;
-    })) (bounds.Refused 13 0)
+    })) (Err NoSuchPlace)

@@ -1,13 +1,9 @@
 -- Section 6: the names of cell files, over bytes.
 use Rattle.std.specs.Prelude.{ℕ, ◌+◌, ◌-◌, ◌*◌, ◌/◌, ◌%◌, Bool, true, false, cond, ◌&&◌, ◌||◌, List, [], ◌∷◌, ◌++◌}
-use Rattle.std.specs.Prelude.{length, take, drop, replicate, ◌==◌, nat_le, nat_lt}
+use Rattle.std.specs.Prelude.{length, take, drop, replicate, ◌==◌, nat_le, nat_lt, Option, Some, None, Result, Ok, Err}
 use Rattle.numbers.specs.Grid.{area_id}
-use Rattle.numbers.specs.declared.answer.Answer.TheVariants as answer
-use Rattle.numbers.specs.declared.grid.GridArea.{GridArea}
-use Rattle.numbers.specs.declared.grid.GridArea.TheVariants as area
 use Rattle.numbers.specs.declared.names.FileName.{FileName}
-use Rattle.numbers.specs.declared.names.AreaId.{AreaId}
-use Rattle.numbers.specs.declared.names.AreaId.TheVariants.{Known, Nothing}
+use Rattle.numbers.specs.declared.refusal.Refusal.{Refusal}
 
 -- The words nodes and .ynd.
 abbrev pub nodes : List ℕ
@@ -34,18 +30,14 @@ name_of_area n = nodes ++ decimal n ++ ynd
 
 -- The bytes stand in an array of 13, zero beyond the name.
 unfoldable pub named : List ℕ → FileName
-named s = record { answer = answer.Done; bytes = s ++ replicate (13 - length s) 0; count = length s }
+named s = record { bytes = s ++ replicate (13 - length s) 0; count = length s }
 
-unfoldable pub name_for : GridArea → FileName
+unfoldable pub name_for : Result ℕ Refusal → Result FileName Refusal
 unfolding name_of_area named
-name_for (area.Area n) = named (name_of_area n)
-name_for (area.Refused number place) = record {
-  answer = answer.Refused number place;
-  bytes = replicate 13 0;
-  count = 0;
-}
+name_for (Ok n) = Ok (named (name_of_area n))
+name_for (Err r) = Err r
 
-abbrev pub cell_file_name : ℕ → ℕ → FileName
+abbrev pub cell_file_name : ℕ → ℕ → Result FileName Refusal
 cell_file_name cx cy = name_for (area_id cx cy)
 
 -- ---- Section 6: `area_id_from_file_name`
@@ -72,29 +64,29 @@ starts [] (d ∷ ds) = false
 starts (c ∷ cs) (d ∷ ds) = lower c == d && starts cs ds
 
 -- Rust's u32 parse, from the number so far: each byte a digit, and no number above 4294967295
-unfoldable pub digits_from : ℕ → List ℕ → AreaId
-digits_from n [] = Known n
+unfoldable pub digits_from : ℕ → List ℕ → Option ℕ
+digits_from n [] = Some n
 digits_from n (c ∷ cs) = cond (nat_le 48 c && nat_le c 57 && nat_le (n * 10 + (c - 48)) 4294967295)
-    (digits_from (n * 10 + (c - 48)) cs) Nothing
+    (digits_from (n * 10 + (c - 48)) cs) None
 
-unfoldable pub digits_of : List ℕ → AreaId
+unfoldable pub digits_of : List ℕ → Option ℕ
 unfolding digits_from
-digits_of [] = Nothing
+digits_of [] = None
 digits_of (c ∷ cs) = digits_from 0 (c ∷ cs)
 
 -- one + may stand in front
-unfoldable pub parsed : List ℕ → AreaId
+unfoldable pub parsed : List ℕ → Option ℕ
 unfolding digits_of
-parsed [] = Nothing
+parsed [] = None
 parsed (c ∷ cs) = cond (c == 43) (digits_of cs) (digits_of (c ∷ cs))
 
-unfoldable pub area_of_base : List ℕ → AreaId
+unfoldable pub area_of_base : List ℕ → Option ℕ
 unfolding starts parsed
 area_of_base b =
     cond (nat_le 9 (length b) && starts b nodes && starts (drop (length b - 4) b) ynd)
     (parsed (take (length b - 4 - 5) (drop 5 b)))
-    Nothing
+    None
 
-unfoldable pub area_id_from_file_name : List ℕ → AreaId
+unfoldable pub area_id_from_file_name : List ℕ → Option ℕ
 unfolding area_of_base base_from
 area_id_from_file_name s = area_of_base (base_of s)

@@ -6,14 +6,14 @@ ghost use Rattle.std.specs.Float.{binary32};
 pub fn bits_of(x: f32) -> u32
     ensures { result ≡ to_bits binary32 x }
 {
-    if x != x { 0x7fc0_0000 } else { f32::to_bits(x) }
+    if x.is_nan() { 0x7fc0_0000 } else { x.to_bits() }
 }
 
 pub fn float_of(n: u32) -> f32
     ensures { result ≡ from_bits binary32 n }
 {
     if 0x7f80_0000 < n % 0x8000_0000 {
-        0.0 / 0.0
+        f32::NAN
     } else {
         f32::from_bits(n)
     }

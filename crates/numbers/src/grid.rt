@@ -4,6 +4,8 @@ ghost use Rattle.std.specs.Prelude.{◌≡◌, ◌≤◌};
 ghost use Rattle.numbers.specs.Grid.{cell_along, cell_for_position, in_grid, area_id, cell_of_area, is_island_area};
 ghost use Rattle.numbers.specs.Grid.{same_cell, lower_bound, cell_bounds};
 
+use crate::refusal::Refusal;
+
 pub const CELL_SIZE: f32 = 512.0;
 
 pub const CELL_ORIGIN: f32 = -8192.0;
@@ -24,12 +26,6 @@ pub struct GridCell {
 }
 
 #[derive(Clone, Copy)]
-pub enum GridArea {
-    Area(u32),
-    Refused(u32, usize),
-}
-
-#[derive(Clone, Copy)]
 pub struct Bounds {
     pub x0: f32,
     pub y0: f32,
@@ -37,24 +33,18 @@ pub struct Bounds {
     pub y1: f32,
 }
 
-#[derive(Clone, Copy)]
-pub enum CellBounds {
-    Bounds(Bounds),
-    Refused(u32, usize),
-}
-
-// The cell along one axis: a NaN fails both tests.
+// The cell along one axis: a NaN fails both tests. std's saturating cast, then limited, is a third slower.
 fn cell_along(x: f32) -> u32
     ensures { result ≡ cell_along x }
 {
     let q = (x + 8192.0) / CELL_SIZE;
     if q >= 31.0 {
-        return 31;
+        31
+    } else if q >= 1.0 {
+        std::num::truncating_f32_to_u64(q) as u32
+    } else {
+        0
     }
-    if q >= 1.0 {
-        return std::num::truncating_f32_to_u64(q) as u32;
-    }
-    0
 }
 
 // The cell that holds a position, limited to the grid.
@@ -70,20 +60,18 @@ pub fn cell_for_position(x: f32, y: f32) -> GridCell
 fn in_grid(cx: u32, cy: u32) -> bool
     ensures { result ≡ in_grid cx cy }
 {
-    if CELL_COUNT <= cx {
-        return false;
-    }
-    cy < CELL_COUNT
+    cx < CELL_COUNT && cy < CELL_COUNT
 }
 
 // A cell's area.
-pub fn area_id(cx: u32, cy: u32) -> GridArea
+#[tactic(auto, unfolding(crate::specs::Grid::area_id))]
+pub fn area_id(cx: u32, cy: u32) -> Result<u32, Refusal>
     ensures { result ≡ area_id cx cy }
 {
-    if in_grid(cx, cy) {
-        return GridArea::Area(cy * CELL_COUNT + cx);
+    if !in_grid(cx, cy) {
+        return Err(Refusal::NoSuchPlace);
     }
-    GridArea::Refused(13, 0)
+    Ok(cy * CELL_COUNT + cx)
 }
 
 // Whether an area carries the island's bit.
@@ -119,18 +107,19 @@ fn lower_bound(n: u32) -> f32
 }
 
 // The corners of a cell.
-pub fn cell_bounds(cx: u32, cy: u32) -> CellBounds
+#[tactic(auto, unfolding(crate::specs::Grid::cell_bounds))]
+pub fn cell_bounds(cx: u32, cy: u32) -> Result<Bounds, Refusal>
     ensures { result ≡ cell_bounds cx cy }
 {
-    if in_grid(cx, cy) {
-        let x0 = lower_bound(cx);
-        let y0 = lower_bound(cy);
-        return CellBounds::Bounds(Bounds {
-            x0,
-            y0,
-            x1: x0 + CELL_SIZE,
-            y1: y0 + CELL_SIZE,
-        });
+    if !in_grid(cx, cy) {
+        return Err(Refusal::NoSuchPlace);
     }
-    CellBounds::Refused(13, 0)
+    let x0 = lower_bound(cx);
+    let y0 = lower_bound(cy);
+    Ok(Bounds {
+        x0,
+        y0,
+        x1: x0 + CELL_SIZE,
+        y1: y0 + CELL_SIZE,
+    })
 }

@@ -6,8 +6,5 @@ pub fn lane_offset(offset_value: u8, negative: bool) -> f32
     ensures { result ≡ lane_offset offset_value negative }
 {
     let value = offset_value as f32 / 7.0;
-    if negative {
-        return value * -0.5;
-    }
-    value * 0.5
+    if negative { value * -0.5 } else { value * 0.5 }
 }

@@ -15,17 +15,7 @@ fn length_of_bits(b: u32) -> u8
     requires { b ≤ 0x7f80_0000 }
     ensures { result ≡ length_of (from_bits binary32 b) }
 {
-    let mut lo: usize = 0;
-    let mut hi: usize = 256;
-    while lo + 1 < hi {
-        let mid = lo + (hi - lo) / 2;
-        if THRESHOLDS[mid] <= b {
-            lo = mid;
-        } else {
-            hi = mid;
-        }
-    }
-    lo as u8
+    (THRESHOLDS.partition_point(|t| *t <= b) - 1) as u8
 }
 
 // The pattern of k * k.
@@ -42,10 +32,7 @@ fn is_between(b: u32, k: u32) -> bool
     ensures { T result → (to_bits binary32 (of_int binary32 (pos (k * k))) ≤ b)
         × (b + 1 < to_bits binary32 (of_int binary32 (pos ((k + 1) * (k + 1))))) }
 {
-    if square_bits(k) <= b {
-        return b + 1 < square_bits(k + 1);
-    }
-    false
+    square_bits(k) <= b && b + 1 < square_bits(k + 1)
 }
 
 // The whole part of a number near the root of s, whose pattern is b: half the exponent, and one step of
@@ -69,10 +56,8 @@ fn length_near(k: u32, b: u32) -> u8
     if is_between(b, k) {
         return k as u8;
     }
-    if 0 < k {
-        if is_between(b, k - 1) {
-            return (k - 1) as u8;
-        }
+    if 0 < k && is_between(b, k - 1) {
+        return (k - 1) as u8;
     }
     length_of_bits(b)
 }

@@ -2,7 +2,6 @@
 // The definitions that the contracts cite are in `specs/`.
 #![tactic(auto)]
 
-pub mod answer;
 pub mod bits;
 pub mod grid;
 pub mod lane;
@@ -10,6 +9,7 @@ pub mod length;
 pub mod math;
 pub mod names;
 pub mod position;
+pub mod refusal;
 pub mod steps;
 pub mod threshold_search;
 pub mod thresholds;

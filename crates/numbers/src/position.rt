@@ -16,10 +16,11 @@ pub struct Quantised {
 pub fn quantise(p: Vec3) -> Quantised
     ensures { result ≡ quantised p }
 {
-    let x = steps_xy(p.x);
-    let y = steps_xy(p.y);
-    let z = steps_z(p.z);
-    Quantised { x, y, z }
+    Quantised {
+        x: steps_xy(p.x),
+        y: steps_xy(p.y),
+        z: steps_z(p.z),
+    }
 }
 
 pub fn dequantise(q: Quantised) -> Vec3
@@ -36,9 +37,5 @@ pub fn dequantise(q: Quantised) -> Vec3
 pub fn stored_position(p: Vec3) -> Vec3
     ensures { result ≡ dequantised (quantised p) }
 {
-    Vec3 {
-        x: metres_xy(steps_xy(p.x)),
-        y: metres_xy(steps_xy(p.y)),
-        z: metres_z(steps_z(p.z)),
-    }
+    dequantise(quantise(p))
 }

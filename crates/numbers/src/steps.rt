@@ -9,14 +9,14 @@ fn signed(negative: bool, n: u32) -> i16
     ensures { result ≡ limited negative n }
 {
     let v = n as i16;
-    if negative { 0 - v } else { v }
+    if negative { -v } else { v }
 }
 
 // The limit of a sign.
 fn limit(negative: bool) -> i16
     ensures { result ≡ limited negative 32768 }
 {
-    if negative { -32768 } else { 32767 }
+    if negative { i16::MIN } else { i16::MAX }
 }
 
 // The steps of the number that the pattern b stands for: times 2^k, cut towards zero, limited. Four of the five cases
@@ -77,49 +77,62 @@ fn steps(x: f32, k: u32) -> i16
 {
     // NaN comes first here too: the language leaves the bits of a NaN undefined, so they may not be taken. The bits of
     // every other value go through the cases.
-    if x != x {
+    if x.is_nan() {
         return 0;
     }
-    steps_of_number(f32::to_bits(x), k)
+    steps_of_number(x.to_bits(), k)
 }
+
+// What n steps stand for, 2 ^ k of them a metre.
+fn metres(n: i16, k: u32) -> f32
+    requires { k ≤ 5 }
+    ensures { result ≡ unstep k n }
+{
+    n as f32 / (1u32 << k) as f32
+}
+
+// Along x and y 2 ^ 2 steps are a metre, along z 2 ^ 5.
+const XY: u32 = 2;
+
+const Z: u32 = 5;
 
 // What n steps stand for, along x and y.
 pub fn metres_xy(n: i16) -> f32
     ensures { result ≡ unstep 2 n }
 {
-    n as f32 / 4.0
+    metres(n, XY)
 }
 
 // What n steps stand for, along z.
 pub fn metres_z(n: i16) -> f32
     ensures { result ≡ unstep 5 n }
 {
-    n as f32 / 32.0
+    metres(n, Z)
 }
 
 // The steps of a coordinate x or y.
 pub fn steps_xy(x: f32) -> i16
     ensures { result ≡ step_of 2 x }
 {
-    steps(x, 2)
+    steps(x, XY)
 }
 
 // The steps of a coordinate z.
 pub fn steps_z(x: f32) -> i16
     ensures { result ≡ step_of 5 x }
 {
-    steps(x, 5)
+    steps(x, Z)
 }
 
 // The same, from the f32's bits.
 pub fn steps_xy_of_bits(b: u32) -> i16
     ensures { result ≡ step_of 2 (from_bits binary32 b) }
 {
-    steps_of_bits(b, 2)
+    steps_of_bits(b, XY)
 }
 
 pub fn steps_z_of_bits(b: u32) -> i16
     ensures { result ≡ step_of 5 (from_bits binary32 b) }
 {
-    steps_of_bits(b, 5)
+    steps_of_bits(b, Z)
 }

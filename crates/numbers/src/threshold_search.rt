@@ -10,13 +10,7 @@ fn digits_below(k: u32) -> u32
     requires { (0 < k) × (k < 256) }
     ensures { (result ≡ size (k - 1)) × (result ≤ 8) }
 {
-    let mut j: u32 = 0;
-    let mut p: u32 = 1;
-    while p < k {
-        p = p * 2;
-        j += 1;
-    }
-    j
+    32 - (k - 1).leading_zeros()
 }
 
 // Whether the root of the number with the pattern b rounds to k or more: the square of the middle between k and the
@@ -41,6 +35,7 @@ pub fn threshold(k: u8) -> u32
     let j = digits_below(n);
     let mut lo: u32 = (125 + 2 * j) * 0x80_0000;
     let mut hi: u32 = (127 + 2 * j) * 0x80_0000;
+    // a bisection of numbers, not of a slice
     while lo + 1 < hi {
         let mid = lo + (hi - lo) / 2;
         if whole_reaches(n, j, mid) {
@@ -57,32 +52,20 @@ fn hex_digit(d: u32) -> u8
     requires { d < 16 }
     ensures { result ≡ hex_digit d }
 {
-    if d < 10 {
-        return (48 + d) as u8;
-    }
-    (87 + d) as u8
+    b"0123456789abcdef"[d as usize]
 }
 
 // The eight hexadecimal digits of n, and the line's end.
 fn line_of(n: u32) -> [u8; 9]
     ensures { result ≡ line_of n }
 {
-    let n1 = n / 16;
-    let n2 = n1 / 16;
-    let n3 = n2 / 16;
-    let n4 = n3 / 16;
-    let n5 = n4 / 16;
-    let n6 = n5 / 16;
-    let n7 = n6 / 16;
-    let d7 = hex_digit(n7 % 16);
-    let d6 = hex_digit(n6 % 16);
-    let d5 = hex_digit(n5 % 16);
-    let d4 = hex_digit(n4 % 16);
-    let d3 = hex_digit(n3 % 16);
-    let d2 = hex_digit(n2 % 16);
-    let d1 = hex_digit(n1 % 16);
-    let d0 = hex_digit(n % 16);
-    [d7, d6, d5, d4, d3, d2, d1, d0, 10]
+    let mut line = *b"00000000\n";
+    let mut rest = n;
+    for i in (0..8).rev() {
+        line[i] = hex_digit(rest % 16);
+        rest /= 16;
+    }
+    line
 }
 
 // The line that shows entry k.

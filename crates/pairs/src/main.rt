@@ -4,7 +4,7 @@
 use numbers::grid::{cell_for_position, cell_of_area};
 use numbers::length::length_between;
 use numbers::math::Vec3;
-use numbers::names::{AreaId, area_id_from_file_name, cell_file_name};
+use numbers::names::{area_id_from_file_name, cell_file_name};
 use numbers::steps::{steps_xy, steps_z};
 use std::io;
 use std::io::Write;
@@ -51,16 +51,15 @@ fn length_pairs(rt: &impl Print) -> io::Result<()> {
 
 fn print_area(rt: &impl Print, name: &str) -> io::Result<()> {
     match area_id_from_file_name(name.as_bytes()) {
-        AreaId::Known(n) => println!(rt; "area of {name}: {n}"),
-        AreaId::Nothing => println!(rt; "area of {name}: none"),
+        Some(n) => println!(rt; "area of {name}: {n}"),
+        None => println!(rt; "area of {name}: none"),
     }
 }
 
 fn print_name(rt: &impl Print) -> io::Result<()> {
-    let name = cell_file_name(25, 4);
     print!(rt; "file of cell 25 4: ")?;
-    if name.count <= name.bytes.len() {
-        io::writer(rt).write_all(&name.bytes[..name.count])?;
+    if let Ok(name) = cell_file_name(25, 4) {
+        io::writer(rt).write_all(name.bytes.get(..name.count).unwrap_or(&[]))?;
     }
     println!(rt)
 }

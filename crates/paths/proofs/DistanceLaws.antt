@@ -6,8 +6,6 @@ use mathlib.Core.Bool.{true, cond}
 use mathlib.Core.List.{List, [], ◌∷◌, map}
 use mathlib.Core.Option.{Option, none, some}
 use lib.ListN.{length, length-map}
-use Rattle.numbers.specs.declared.answer.Answer.{Answer}
-use Rattle.numbers.specs.declared.answer.Answer.TheVariants.{Done, Refused}
 use Rattle.cells.specs.Lists.{every}
 use Rattle.cells.specs.Order.{new_place, Old}
 use Rattle.cells.specs.Memory.{Memory}
@@ -34,6 +32,8 @@ use Rattle.paths.specs.SameDistances.{SameDistance, node_fits, ref_fits, fits, S
 use Rattle.paths.proofs.EdgeLaws.{next_inside}
 use Rattle.paths.proofs.Least.{Goes, stay, go, goes_leads, leads_goes, sum_go}
 use Rattle.paths.proofs.WiringLaws.{wired_long, wired_length, wired_next, wired_fits, same_sound, nodes_fit_again, refs_fit_again}
+use Rattle.std.specs.Prelude.{Ok, Err}
+use Rattle.numbers.specs.Refusals.{Answer, done}
 
 -- ---- cells whose choices lead alike
 
@@ -176,8 +176,8 @@ one_call m (renumbering s ps) h = go (renumber m (length s) ps).answer refl
   where
     go : (a : Answer) → (renumber m (length s) ps).answer ≡ a
         → OneCall (cell_of m) (cell_of (renumber m (length s) ps).memory) (λ p. cond (is_done a) (new_place (ped_flags (cell_of m).nodes) p) p)
-    go Done e = rw (done_call m ps (length s) e) (renumbered (cell_of m) (done_few m ps (length s) e) h)
-    go (Refused x p) e = rw (refused_call m ps (length s) x p e) (wired (cell_of m) (cell_of m) h (record { nodes = refl; refs = refl }))
+    go (Ok _) e = rw (done_call m ps (length s) e) (renumbered (cell_of m) (done_few m ps (length s) e) h)
+    go (Err x) e = rw (refused_call m ps (length s) x e) (wired (cell_of m) (cell_of m) h (record { nodes = refl; refs = refl }))
 
 pub run_steps : (m : Memory) (ks : List Call) → Fit (cell_of m) → SameSteps (cell_of m).nodes (cell_of (run m ks)).nodes (moved m ks)
 unfolding run moved
@@ -201,5 +201,5 @@ kept_fits c t =
     both _ _ (every_imp kept_node node_fits (λ n k. and_right (kept_body n.body) _ k) c.nodes (and_left _ _ t)) (and_left _ _ t₂)
 
 -- every cell that was read is one whose links and refs fit
-pub read_fits : (system graphics : List ℕ) (lent : Memory) → (read_of system graphics lent).answer ≡ Done → fits (cell_of (read_of system graphics lent).memory) ≡ true
+pub read_fits : (system graphics : List ℕ) (lent : Memory) → (read_of system graphics lent).answer ≡ done → fits (cell_of (read_of system graphics lent).memory) ≡ true
 read_fits system graphics lent e = ap fits (read_cell system graphics lent e) ∙ kept_fits (file_cell system graphics) (read_kept system graphics)

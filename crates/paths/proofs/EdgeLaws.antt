@@ -1,10 +1,10 @@
 -- Where a choice leads and how long its link is, by the words in memory.
 use Prim.Native.Nat.{ℕ, suc, ◌+◌, ◌/◌, ◌%◌, ◌<◌, ◌≤◌}
 use native.Mathlib.Omega.{arith}
-use mathlib.Core.Path.{◌≡◌, refl, ap}
+use mathlib.Core.Path.{◌≡◌, refl, ap, ◌∙◌}
 use mathlib.Core.Bool.{Bool, true, false, cond, ◌&&◌}
 use mathlib.Core.List.{List, [], ◌∷◌}
-use mathlib.Core.Option.{Option, none, some}
+use mathlib.Core.Option.{Option as Found, none, some}
 use mathlib.Core.Logic.{⊎_elim}
 use lib.Dec.{eqb, ltb}
 use lib.ListN.{length, get_or, take}
@@ -25,11 +25,12 @@ use Rattle.walks.proofs.StepLaws.{link_past, link_out, link_in}
 use Rattle.cells.proofs.Lookups.LookupLaws.{area_held}
 use Rattle.paths.specs.ShortestPath.{length_at}
 use Rattle.paths.specs.Labels.{Links}
-use Rattle.paths.specs.Search.{edge_by, edge_of, edge_to}
-use Rattle.paths.specs.declared.search.Edge.TheVariants.{Stop}
+use Rattle.paths.specs.Search.{edge_by, edge_of}
+use Rattle.paths.specs.declared.search.Edge.{Edge}
 use Rattle.paths.proofs.SearchLaws.{lt_or}
+use Rattle.std.specs.Prelude.{Option, Some, None}
 
-never : {P : Type 0} {i : ℕ} → ◌≡◌ {A = Option ℕ} none (some i) → P
+never : {P : Type 0} {i : ℕ} → ◌≡◌ {A = Found ℕ} none (some i) → P
 never e = let z : ◌≡◌ {A = ℕ} 0 1 = cc in absurd (omega arith)
 
 first_inside : (xs : List ℕ) (k q : ℕ) → first_with xs k ≡ some q → q < length xs
@@ -37,7 +38,7 @@ unfolding first_with
 first_inside [] k q e = never e
 first_inside (x ∷ xs) k q e = go (eqb x k) (first_with xs k) (first_inside xs k) e
   where
-    go : (b : Bool) (r : Option ℕ) → ((j : ℕ) → r ≡ some j → j < length xs) → or_later b r ≡ some q → q < suc (length xs)
+    go : (b : Bool) (r : Found ℕ) → ((j : ℕ) → r ≡ some j → j < length xs) → or_later b r ≡ some q → q < suc (length xs)
     go true r h e = let z : 0 ≡ q = cc in omega arith
     go false (some j) h e = let z : suc j ≡ q = cc in omega (arith, h j refl)
     go false none h e = never e
@@ -55,7 +56,7 @@ pub next_inside : (ns : List Node) (p b q : ℕ) → next ns p b ≡ to q → q 
 unfolding next
 next_inside ns p b q e = at (link_at ns p b) e
   where
-    found : (o : Option ℕ) → ((j : ℕ) → o ≡ some j → j < length (numbers ns)) → arrive o ≡ to q → q < length (numbers ns)
+    found : (o : Found ℕ) → ((j : ℕ) → o ≡ some j → j < length (numbers ns)) → arrive o ≡ to q → q < length (numbers ns)
     found (some j) h e = let z : j ≡ q = cc in omega (arith, h j refl)
     found none h e = let z : ◌≡◌ {A = ℕ} 0 1 = cc in absurd (omega arith)
 
@@ -63,9 +64,14 @@ next_inside ns p b q e = at (link_at ns p b) e
     own l true e = found (find (numbers ns) l.number) (find_inside (numbers ns) l.number) e
     own l false e = let z : ◌≡◌ {A = ℕ} 0 1 = cc in absurd (omega arith)
 
-    at : (o : Option Link) → take_link ns o ≡ to q → q < length (numbers ns)
+    at : (o : Found Link) → take_link ns o ≡ to q → q < length (numbers ns)
     at (some l) e = own l (belongs (first_of ns) l.area) e
     at none e = let z : ◌≡◌ {A = ℕ} 0 1 = cc in absurd (omega arith)
+
+-- by the place that the link's number finds
+abbrev edge_to : ℕ → Option ℕ → Option Edge
+edge_to len (Some q) = Some (record { to = q; length = len })
+edge_to len None = None
 
 module _ (m : Memory) where
   abbrev n : ℕ
@@ -88,7 +94,7 @@ module _ (m : Memory) where
   same_numbers = numbers_same m
 
   module _ (fits : n ≤ length m.nodes) where
-    pub edge_past : (p b : ℕ) → p < n → count p ≤ b → Stop ≡ edge_of (nodes_of m) p b
+    pub edge_past : (p b : ℕ) → p < n → count p ≤ b → None ≡ edge_of (nodes_of m) p b
     unfolding edge_of next
     edge_past p b lt h = rw (link_past m fits p b lt h)
 
@@ -101,20 +107,20 @@ module _ (m : Memory) where
         no e = let z : ◌≡◌ {A = ℕ} 0 1 = cc in omega arith
 
     module _ (held : l ≤ length m.links) where
-      pub edge_out : (p b : ℕ) → p < n → b < count p → l ≤ start p + b → Stop ≡ edge_of (nodes_of m) p b
+      pub edge_out : (p b : ℕ) → p < n → b < count p → l ≤ start p + b → None ≡ edge_of (nodes_of m) p b
       unfolding edge_of next
       edge_out p b lt h out = rw (link_out m fits held p b lt h out)
 
-      pub edge_left : (p b : ℕ) → p < n → b < count p → start p + b < l → belongs (first_area (take n m.nodes)) (get_or (word p b) 0 0) ≡ false → Stop ≡ edge_of (nodes_of m) p b
+      pub edge_left : (p b : ℕ) → p < n → b < count p → start p + b < l → belongs (first_area (take n m.nodes)) (get_or (word p b) 0 0) ≡ false → None ≡ edge_of (nodes_of m) p b
       unfolding edge_of next
       edge_left p b lt h lq ne = rw (link_in m fits held p b lt h lq, area_held m, ne)
 
       pub edge_own : (p b : ℕ) → p < n → b < count p → start p + b < l → belongs (first_area (take n m.nodes)) (get_or (word p b) 0 0) ≡ true
-          → edge_to (get_or (word p b) 3 0 / 256 % 256) (find_in n m.nodes (get_or (word p b) 1 0)) ≡ edge_of (nodes_of m) p b
+          → (o : Option ℕ) → o ≡ find_in n m.nodes (get_or (word p b) 1 0) → edge_to (get_or (word p b) 3 0 / 256 % 256) o ≡ edge_of (nodes_of m) p b
       unfolding edge_of next length_at find_in
-      edge_own p b lt h lq e = rw (link_in m fits held p b lt h lq, area_held m, e, same_numbers) (go (find _ _))
+      edge_own p b lt h lq e o f = ap (edge_to (get_or (word p b) 3 0 / 256 % 256)) f ∙ rw (link_in m fits held p b lt h lq, area_held m, e, same_numbers) (go (find _ _))
         where
-          go : (o : Option ℕ) → edge_to (get_or (word p b) 3 0 / 256 % 256) (place_of o) ≡ edge_by (get_or (word p b) 3 0 / 256 % 256) (arrive o)
+          go : (o : Found ℕ) → edge_to (get_or (word p b) 3 0 / 256 % 256) (place_of o) ≡ edge_by (get_or (word p b) 3 0 / 256 % 256) (arrive o)
           go (some q) = refl
           go none = refl
 

@@ -8,11 +8,11 @@ use mathlib.Core.Logic.{◌⊎◌, inl, inr, ⊎_elim}
 use lib.ListN.{length, get_or, set, length-set}
 use lib.Seq.{get_or-set_same, get_or-set_other}
 use Rattle.cells.specs.LookupCall.{first_in}
-use Rattle.cells.specs.declared.lookup.Place.TheVariants.{At, Nothing}
 use Rattle.cells.proofs.Lookups.LookupLaws.{first_at, first_no}
 use Rattle.paths.specs.Scratch.{chain_at}
 use Rattle.paths.specs.Index.{number_at, head_at, next_at, followed, headed, linked, First, Reach, here, there, Index, Found}
 use Rattle.paths.proofs.Counts.{same?}
+use Rattle.std.specs.Prelude.{Some, None}
 
 -- of the places with a number there is a first
 first_of : (num : ℕ → ℕ) (k b j : ℕ) → j < b → num j ≡ k → (w : ℕ) × (w ≤ j) × (num w ≡ k) × First num w
@@ -106,10 +106,6 @@ module _ (n i : ℕ) (num head next : ℕ → ℕ) (x : Index n i num head next)
             at_zero : (w : ℕ) → num w ≡ k → Reach next v w → ⊥
             at_zero w ew here = other ew
             at_zero w ew (there p r) = omega arith
-
-    -- at the end of the chain place 0 stands
-    pub seek_first : v ≡ 0 → num 0 ≡ k → Found n i num k 0
-    seek_first z q = let f : Found n i num k v = seek_found (ap num z ∙ q) in rw z at f
 
     pub seek_none : v ≡ 0 → (num 0 ≡ k → ⊥) → Found n i num k n
     seek_none z other = seek_end z (λ q. other (sym (ap num z) ∙ q))
@@ -278,11 +274,8 @@ head_cleared h s inside z k lk = ⊎_elim
     (same? k h)
 
 -- what `node` finds, past the node at the number's own place
-pub found_in : (nodes : List (List ℕ)) (n k r : ℕ) → n ≤ length nodes → Found n n (number_at nodes) k r → r < n → At r ≡ first_in n nodes k
+pub found_in : (nodes : List (List ℕ)) (n k r : ℕ) → n ≤ length nodes → Found n n (number_at nodes) k r → r < n → Some r ≡ first_in n nodes k
 found_in nodes n k r fits f lr = let g = f.found lr in first_at nodes n k fits r g.0 g.1 (λ j lj q. g.2 j lj (q ∙ sym g.1))
 
-pub absent_in : (nodes : List (List ℕ)) (n k r : ℕ) → n ≤ length nodes → Found n n (number_at nodes) k r → n ≤ r → Nothing ≡ first_in n nodes k
+pub absent_in : (nodes : List (List ℕ)) (n k r : ℕ) → n ≤ length nodes → Found n n (number_at nodes) k r → n ≤ r → None ≡ first_in n nodes k
 absent_in nodes n k r fits f le = first_no nodes n k fits (f.absent le)
-
-pub entered_all : (n i : ℕ) (nodes : List (List ℕ)) (s : List ℕ) → Index n i (number_at nodes) (head_at s) (next_at s) → n ≤ i → Index n n (number_at nodes) (head_at s) (next_at s)
-entered_all n i nodes s x le = let e : i ≡ n = omega (arith, x.within) in rw e at x

@@ -3,7 +3,6 @@ pub mod Relabel
 pub mod Least
 pub mod OrderLaws
 pub mod ScratchLaws
-pub mod QueueLaws
 pub mod SearchLaws
 pub mod EdgeLaws
 pub mod IndexLaws

@@ -357,9 +357,6 @@ module _ (n v : ℕ) (s : List ℕ) (few : n ≤ 65536) (room : 4 * n ≤ length
   unfolding chain_at
   clear_chains = fun_ext (λ x. e_other (4 * x + 3) (omega arith) (omega arith) (omega arith))
 
-pub clear_none : (n : ℕ) (s : List ℕ) → 4 * n ≤ length s → Clearing n 0 s
-clear_none n s room = record { room = room; within = omega arith; none = λ x lt. absurd (omega arith); place = λ x lt. absurd (omega arith); index = λ x lt. absurd (omega arith) }
-
 pub clear_turn : (n v : ℕ) (s t : List ℕ) → n ≤ 65536 → Clearing n v s → v < n → t ≡ cleared_at s v → Clearing n (v + 1) t
 unfolding e
 clear_turn n v s t few c lv q = rw q (clear_step n v s few c.room lv c)

@@ -16,10 +16,6 @@ use Rattle.records.specs.Records.{node_at, link_at}
 use Rattle.records.specs.declared.root.Root.{Root}
 use Rattle.records.specs.declared.node.Node as raw-node
 use Rattle.records.proofs.RecordBack.{LinkFits, link_back, link_length_law}
-use Rattle.numbers.specs.declared.answer.Answer.{Answer}
-use Rattle.numbers.specs.declared.answer.Answer.TheVariants as answer
-use Rattle.cells.specs.declared.write.Written.{Written}
-use Rattle.cells.specs.declared.write.Written.TheVariants as written
 use Rattle.cells.specs.Area.{belongs}
 use Rattle.cells.specs.Lists.{up_to, every}
 use Rattle.cells.specs.NodeWords.{area_of, number_of}
@@ -49,6 +45,10 @@ use Rattle.cells.proofs.WritingBack.Kept.{both}
 use Rattle.cells.proofs.WritingBack.BlocksBack.{up_to_all, part_at, part_in, stands_at, start_of, node_record_law, refs_back}
 use Rattle.cells.proofs.WritingBack.SectionBack.{stored_root, array_back, root_read_law, nodes_here, links_here, junctions_here, heights_here, refs_here}
 use Rattle.cells.proofs.WritingBack.WrittenBack.{Told, write_told}
+use Rattle.std.specs.Prelude.{Result, Ok, Err}
+use Rattle.numbers.specs.Refusals.{Answer, done}
+use Rattle.numbers.specs.declared.refusal.Refusal.{Refusal}
+use Rattle.numbers.proofs.Refusing.{not_refused}
 
 -- what a test says of the entry at a place
 kept_at : {A B : Type 0} (t : B → Bool) (f : A → B) (xs : List A) (i : ℕ) (z : A) → every t (map f xs) ≡ true → i < length xs → t (f (get_or xs i z)) ≡ true
@@ -116,15 +116,15 @@ whole_of h = record {
 }
 
 -- an accepted reading is of at most 16,777,216 bytes
-read_few : (s g : List ℕ) (m : Memory) → (read_of s g m).answer ≡ answer.Done → length s ≤ 16777216
+read_few : (s g : List ℕ) (m : Memory) → (read_of s g m).answer ≡ done → length s ≤ 16777216
 unfolding read_of
 read_few s g m e = go (sizes_check (length s) (length g)) refl e
   where
     go : (c : Answer) → sizes_check (length s) (length g) ≡ c
-        → (unless c m (if_found (arrays_found (root_read s) (length s) (length g)) m λ n l j h r. read_arrays (root_read s) (bytes_of n s g) (bytes_of l s g) (bytes_of j s g) (bytes_of h s g) (bytes_of r s g) m)).answer ≡ answer.Done
+        → (unless c m (if_found (arrays_found (root_read s) (length s) (length g)) m λ n l j h r. read_arrays (root_read s) (bytes_of n s g) (bytes_of l s g) (bytes_of j s g) (bytes_of h s g) (bytes_of r s g) m)).answer ≡ done
         → length s ≤ 16777216
-    go (answer.Refused a b) d t = let z : ◌≡◌ {A = ℕ} 0 1 = cc in absurd (omega arith)
-    go answer.Done d t = (small (length s) (length g) d).0
+    go (Err a) d t = not_refused t
+    go (Ok _) d t = (small (length s) (length g) d).0
 
 whole_held : (m : Memory) → whole_of (held m) ≡ cell_of m
 unfolding held cell_of nodes_of junctions_of refs_of
@@ -266,13 +266,13 @@ write_read_wiring m s tn tr = go (write_call m s).answer refl
     stays = record { nodes = refl; refs = refl }
 
     reading : (n : ℕ) → take n t ≡ written (held m) → Told (held m) → (c : Answer) → (read_of (take n t) [] m).answer ≡ c → SameWiring (cell_of m) (cell_of (if_read n t c (read_of (take n t) [] m).memory m s).memory)
-    reading n b told (answer.Refused x y) e = stays
-    reading n b told answer.Done e =
+    reading n b told (Err x) e = stays
+    reading n b told (Ok _) e =
         let same : cell_of (read_of (take n t) [] m).memory ≡ file_cell (written (held m)) [] = read_cell (take n t) [] m e ∙ ap (λ (w : List ℕ). file_cell w []) b in
         let w = whole_held m in
         let q : length (written (held m)) ≤ 16777216 = omega (arith, read_few (take n t) [] m e, ap length b) in
         subst₂ SameWiring w (sym same) (section_wiring (held m) told q (ap (λ (c : Cell). every links_fit c.nodes) w ∙ tn) (ap (λ (c : Cell). every kept_ref c.refs) w ∙ tr))
 
-    go : (a : Written) → (write_call m s).answer ≡ a → SameWiring (cell_of m) (cell_of (if_written a t m s).memory)
-    go (written.Refused x y) e = stays
-    go (written.Wrote n) e = let w = write_told m s n e in reading n w.bytes w.told (read_of (take n t) [] m).answer refl
+    go : (a : Result ℕ Refusal) → (write_call m s).answer ≡ a → SameWiring (cell_of m) (cell_of (if_written a t m s).memory)
+    go (Err x) e = stays
+    go (Ok n) e = let w = write_told m s n e in reading n w.bytes w.told (read_of (take n t) [] m).answer refl

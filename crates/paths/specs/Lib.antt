@@ -5,3 +5,4 @@ pub mod Index
 pub mod Labels
 pub mod Scratch
 pub mod Search
+pub mod Going

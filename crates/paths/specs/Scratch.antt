@@ -1,7 +1,7 @@
 -- What the search keeps in the lent scratch: four entries for each place, two halves or a number and a byte in each;
 -- Index has the fourth one. No public function's contract cites these.
 use Rattle.std.specs.Prelude.{ℕ, ◌+◌, ◌*◌, ◌/◌, ◌%◌, ◌-◌, ◌<◌, ◌≤◌, ◌≡◌, List, ◌⊎◌, length, get_or, set}
-use Rattle.paths.specs.Labels.{unlabelled}
+use Rattle.paths.specs.Labels.{unlabelled, Back}
 
 -- the first and second entries: a place's label, that is its sum (24 bits) and its number of links (16 bits)
 unfoldable pub label_at : List ℕ → ℕ → ℕ
@@ -94,6 +94,16 @@ pub record Put (n v k u b : ℕ) (s t : List ℕ) : Type 0 where
   pub other_by : (x : ℕ) → x < n → (x ≡ v → ⊥) → by_at t x ≡ by_at s x
   pub same_index : (x : ℕ) → x < n → index_at t x ≡ index_at s x
   pub same_chains : chain_at t ≡ chain_at s
+
+-- A label and the places that it came by lead back to the start in `count` links: of n places, each with a label.
+pub record Traced (s : List ℕ) (goal count : ℕ) : Type 0 where
+  pub n : ℕ
+  pub few : n ≤ 65536
+  pub room : 4 * n ≤ length s
+  pub back : Back n (label_at s) (from_at s) (by_at s)
+  pub inside : goal < n
+  pub labelled : label_at s goal < unlabelled
+  pub left : label_at s goal % 4294967296 ≡ count
 
 -- no place has a label
 pub record Cleared (n : ℕ) (s : List ℕ) : Type 0 where

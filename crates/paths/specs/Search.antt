@@ -2,14 +2,12 @@
 use Rattle.std.specs.Prelude.{ℕ, ◌+◌, ◌*◌, ◌<◌, ◌≤◌, ◌≡◌, List, ◌⊎◌, length}
 use Rattle.cells.specs.Cell.{Node}
 use Rattle.cells.specs.declared.ynd.Ynd.{Ynd}
-use Rattle.cells.specs.declared.lookup.Place.{Place}
-use Rattle.cells.specs.declared.lookup.Place.TheVariants as place
 use Rattle.walks.specs.Walk.{Next, to, stop, next}
 use Rattle.paths.specs.ShortestPath.{length_at}
 use Rattle.paths.specs.Labels.{unlabelled, weight, total, Labelled}
 use Rattle.paths.specs.Scratch.{label_at, from_at, by_at, index_at, chain_at, Kept}
 use Rattle.paths.specs.declared.search.Edge.{Edge}
-use Rattle.paths.specs.declared.search.Edge.TheVariants.{To, Stop}
+use Rattle.std.specs.Prelude.{Option, Some, None}
 
 -- a cell of at most 65,536 nodes, whose lists are as long as their counts
 pub record Lent (y : Ynd) (nodes links : List (List ℕ)) : Type 0 where
@@ -17,18 +15,13 @@ pub record Lent (y : Ynd) (nodes links : List (List ℕ)) : Type 0 where
   pub nodes_fit : y.node_count ≤ length nodes
   pub links_fit : y.link_count ≤ length links
 
-abbrev pub edge_by : ℕ → Next ℕ → Edge
-edge_by len (to q) = To q len
-edge_by len (stop e) = Stop
+abbrev pub edge_by : ℕ → Next ℕ → Option Edge
+edge_by len (to q) = Some (record { to = q; length = len })
+edge_by len (stop e) = None
 
 -- where a choice leads, and the length of its link
-unfoldable pub edge_of : List Node → ℕ → ℕ → Edge
+unfoldable pub edge_of : List Node → ℕ → ℕ → Option Edge
 edge_of ns p b = edge_by (length_at ns p b) (next ns p b)
-
-abbrev pub edge_to : ℕ → Place → Edge
-edge_to len (place.At q) = To q len
-edge_to len place.Nothing = Stop
-edge_to len (place.Refused cause at) = Stop
 
 -- the place v was given the label k and waits; nothing else changed but the order
 pub record Taken (n size v k u b new : ℕ) (s t : List ℕ) : Type 0 where

@@ -1,31 +1,29 @@
 // Places by their nodes' numbers: chains in the fourth entry of each place. Every chain ends at place 0.
 ghost use Rattle.std.specs.Prelude.{◌≡◌, ℕ, ◌+◌, ◌*◌, ◌<◌, ◌≤◌, length};
 ghost use Rattle.cells.specs.LookupCall.{first_in, find_in};
-ghost use Rattle.paths.specs.Index.{number_at, head_at, next_at, linked, Index, Found, AllEntered};
+ghost use Rattle.paths.specs.Index.{number_at, head_at, next_at, linked, Index, Found, AllEntered, Room};
 
-use cells::lookup::Place;
 use cells::node::NodeWords;
 use cells::node_words::number_of;
 
 // No chain has a place but place 0.
 fn clear_heads(scratch: &mut [u32], n: usize)
-    requires { (n ≤ 65536) × (4 * n ≤ length scratch.old) }
+    requires { 4 * n ≤ length scratch.old }
     ensures { (h : ℕ) → h < n → head_at scratch.new h ≡ 0 }
 {
-    let mut h = 0;
-    while h < n {
+    for h in 0..n {
         scratch[4 * h + 3] = 0;
-        h += 1;
     }
 }
 
-// The first of the places entered that has the number k, n if none has. The first `upto` places are entered.
-fn entry_of(nodes: &[NodeWords], scratch: &[u32], n: usize, upto: usize, k: u16) -> usize
-    requires { (n ≤ 65536) × (4 * n ≤ length scratch.now) × (n ≤ length nodes.now) × (0 < n)
-        × Index n upto (number_at nodes.now) (head_at scratch.now) (next_at scratch.now) }
-    ensures { Found n upto (number_at nodes.now) k result }
+// The first of the places entered that has the number k, as many as there are nodes if none has. The first `upto`
+// places are entered.
+fn entry_of(nodes: &[NodeWords], scratch: &[u32], upto: usize, k: u16) -> usize
+    requires { Room nodes.now scratch.now × (0 < length nodes.now)
+        × Index (length nodes.now) upto (number_at nodes.now) (head_at scratch.now) (next_at scratch.now) }
+    ensures { Found (length nodes.now) upto (number_at nodes.now) k result }
 {
-    let h = k as usize % n;
+    let h = k as usize % nodes.len();
     let mut v = (scratch[4 * h + 3] % 65536) as usize;
     while 0 < v {
         if number_of(nodes[v]) == k {
@@ -36,12 +34,12 @@ fn entry_of(nodes: &[NodeWords], scratch: &[u32], n: usize, upto: usize, k: u16)
     if number_of(nodes[0]) == k {
         return 0;
     }
-    n
+    nodes.len()
 }
 
 // The place v begins the chain of the remainder h.
-fn link(scratch: &mut [u32], n: usize, v: usize, h: usize)
-    requires { (n ≤ 65536) × (4 * n ≤ length scratch.old) × (v < n) × (h < n) }
+fn link(scratch: &mut [u32], v: usize, h: usize)
+    requires { (4 * v + 3 < length scratch.old) × (4 * h + 3 < length scratch.old) × (v < 65536) }
     ensures { scratch.new ≡ linked scratch.old v h }
 {
     let head = scratch[4 * h + 3] % 65536;
@@ -52,57 +50,53 @@ fn link(scratch: &mut [u32], n: usize, v: usize, h: usize)
 }
 
 // One more place is entered, if it is the first with its number.
-fn enter(nodes: &[NodeWords], scratch: &mut [u32], n: usize, i: usize)
-    requires { (n ≤ 65536) × (4 * n ≤ length scratch.old) × (n ≤ length nodes.now) × (i < n)
-        × Index n i (number_at nodes.now) (head_at scratch.old) (next_at scratch.old) }
-    ensures { Index n (i + 1) (number_at nodes.now) (head_at scratch.new)
+fn enter(nodes: &[NodeWords], scratch: &mut [u32], i: usize)
+    requires { Room nodes.now scratch.old × (i < length nodes.now)
+        × Index (length nodes.now) i (number_at nodes.now) (head_at scratch.old) (next_at scratch.old) }
+    ensures { Index (length nodes.now) (i + 1) (number_at nodes.now) (head_at scratch.new)
         (next_at scratch.new) }
 {
+    let n = nodes.len();
     let k = number_of(nodes[i]);
-    let e = entry_of(nodes, scratch, n, i, k);
-    if n <= e {
-        link(scratch, n, i, k as usize % n);
+    if n <= entry_of(nodes, scratch, i, k) {
+        link(scratch, i, k as usize % n);
     }
 }
 
 // All places are entered.
-pub(crate) fn enter_all(nodes: &[NodeWords], scratch: &mut [u32], n: usize)
-    requires { (n ≤ 65536) × (4 * n ≤ length scratch.old) × (n ≤ length nodes.now) × (0 < n) }
-    ensures { AllEntered nodes.now n scratch.new }
+pub(crate) fn enter_all(nodes: &[NodeWords], scratch: &mut [u32])
+    requires { Room nodes.now scratch.old × (0 < length nodes.now) }
+    ensures { AllEntered nodes.now (length nodes.now) scratch.new }
 {
-    clear_heads(scratch, n);
-    let mut i = 1;
-    while i < n {
-        enter(nodes, scratch, n, i);
-        i += 1;
+    clear_heads(scratch, nodes.len());
+    for i in 1..nodes.len() {
+        enter(nodes, scratch, i);
     }
 }
 
 // The first node that has the number.
-fn first_in(nodes: &[NodeWords], scratch: &[u32], n: usize, k: u16) -> Place
-    requires { (n ≤ 65536) × (4 * n ≤ length scratch.now) × (n ≤ length nodes.now) × (0 < n)
-        × AllEntered nodes.now n scratch.now }
-    ensures { result ≡ first_in n nodes.now k }
+fn first_in(nodes: &[NodeWords], scratch: &[u32], k: u16) -> Option<usize>
+    requires { Room nodes.now scratch.now × (0 < length nodes.now)
+        × AllEntered nodes.now (length nodes.now) scratch.now }
+    ensures { result ≡ first_in (length nodes.now) nodes.now k }
 {
-    let e = entry_of(nodes, scratch, n, n, k);
+    let n = nodes.len();
+    let e = entry_of(nodes, scratch, n, k);
     if n <= e {
-        return Place::Nothing;
+        return None;
     }
-    Place::At(e)
+    Some(e)
 }
 
 // What `node` finds, without a search through all nodes.
-pub(crate) fn node_in(nodes: &[NodeWords], scratch: &[u32], n: usize, k: u16) -> Place
-    requires { (n ≤ 65536) × (4 * n ≤ length scratch.now) × (n ≤ length nodes.now) × (0 < n)
-        × AllEntered nodes.now n scratch.now }
-    ensures { result ≡ find_in n nodes.now k }
+pub(crate) fn node_in(nodes: &[NodeWords], scratch: &[u32], k: u16) -> Option<usize>
+    requires { Room nodes.now scratch.now × (0 < length nodes.now)
+        × AllEntered nodes.now (length nodes.now) scratch.now }
+    ensures { result ≡ find_in (length nodes.now) nodes.now k }
 {
     let p = k as usize;
-    if p < n {
-        if number_of(nodes[p]) == k {
-            return Place::At(p);
-        }
-        return first_in(nodes, scratch, n, k);
+    if p < nodes.len() && number_of(nodes[p]) == k {
+        return Some(p);
     }
-    first_in(nodes, scratch, n, k)
+    first_in(nodes, scratch, k)
 }

@@ -1,189 +1,144 @@
 // The search for the least sums from a place.
 ghost use Rattle.std.specs.Prelude.{◌≡◌, ℕ, ◌+◌, ◌*◌, ◌/◌, ◌%◌, ◌<◌, ◌≤◌, length, get_or};
-ghost use Rattle.cells.specs.CellOf.{nodes_of};
-ghost use Rattle.walks.specs.WalkParts.{lent};
-ghost use Rattle.paths.specs.Index.{AllEntered};
 ghost use Rattle.paths.specs.Labels.{unlabelled};
-ghost use Rattle.paths.specs.Scratch.{label_at, chain_at, Fits, Kept};
-ghost use Rattle.paths.specs.Search.{Lent, edge_to, edge_of, Offered, Searching, work};
+ghost use Rattle.paths.specs.Scratch.{label_at, Fits, Kept};
+ghost use Rattle.paths.specs.Search.{Lent, edge_of, Offered, work};
 
 use crate::index::{enter_all, node_in};
-use crate::queue::{pop, push};
+use crate::queue::Queue;
 use crate::scratch::{clear, label_of, put_label};
 use cells::area::{belongs_to, own_area};
 use cells::link::LinkWords;
-use cells::lookup::Place;
 use cells::node::NodeWords;
 use cells::range::{link_count, link_start};
 use cells::ynd::Ynd;
 
 // Where a choice leads, and the length of its link.
 #[derive(Clone, Copy)]
-enum Edge {
-    To(usize, u64),
-    Stop,
+struct Edge {
+    to: usize,
+    length: u64,
 }
 
-fn area_named(w: LinkWords) -> u16
-    ensures { result ≡ get_or w 0 0 }
+// A cell's own lists, its nodes and no more, and the place that the search begins at.
+#[derive(Clone, Copy)]
+pub(crate) struct Search<'a> {
+    pub(crate) ynd: Ynd,
+    pub(crate) nodes: &'a [NodeWords],
+    pub(crate) links: &'a [LinkWords],
+    pub(crate) start: usize,
+    ghost lent: { Lent ynd nodes.now links.now },
+    ghost whole: { length nodes.now ≡ ynd.node_count },
+    ghost inside: { start < ynd.node_count },
+}
+
+fn area_named(w: &LinkWords) -> u16
+    ensures { result ≡ get_or w.now 0 0 }
 {
     w[0]
 }
 
-fn number_named(w: LinkWords) -> u16
-    ensures { result ≡ get_or w 1 0 }
+fn number_named(w: &LinkWords) -> u16
+    ensures { result ≡ get_or w.now 1 0 }
 {
     w[1]
 }
 
-fn length_named(w: LinkWords) -> u64
-    ensures { result ≡ get_or w 3 0 / 256 % 256 }
+fn length_named(w: &LinkWords) -> u64
+    ensures { result ≡ get_or w.now 3 0 / 256 % 256 }
 {
     (w[3] / 256 % 256) as u64
 }
 
-fn edge_to(len: u64, p: Place) -> Edge
-    ensures { result ≡ edge_to len p }
-{
-    match p {
-        Place::At(q) => Edge::To(q, len),
-        Place::Nothing => Edge::Stop,
-        Place::Refused(_, _) => Edge::Stop,
-    }
-}
-
-// Where the choice b leads from the node at place p.
-fn follow(
-    ynd: Ynd,
-    nodes: &[NodeWords],
-    links: &[LinkWords],
-    scratch: &[u32],
-    n: usize,
-    p: usize,
-    b: usize,
-) -> Edge
-    requires { Lent ynd nodes.now links.now × (n ≡ ynd.node_count) × (4 * n ≤ length scratch.now)
-        × AllEntered nodes.now n scratch.now
-        × (p < n) × (b < 256) }
-    ensures { result ≡ edge_of (nodes_of (lent ynd nodes.now links.now)) p b }
-{
-    let start = link_start(nodes[p]) as usize;
-    let count = link_count(nodes[p]) as usize;
-    if count <= b {
-        return Edge::Stop;
-    }
-    let at = start + b;
-    if ynd.link_count as usize <= at {
-        return Edge::Stop;
-    }
-    let area = area_named(links[at]);
-    let own = own_area(nodes, n);
-    if belongs_to(own, area) {
-        let len = length_named(links[at]);
-        let number = number_named(links[at]);
-        return edge_to(len, node_in(nodes, scratch, n, number));
-    }
-    Edge::Stop
-}
-
-// The label k, by the choice b from the place u, for the place v: it takes it if it is smaller. How many wait then.
-fn offer(scratch: &mut [u32], n: usize, size: usize, v: usize, k: u64, u: usize, b: usize) -> usize
-    requires { Kept n scratch.old × (size ≤ n) × (v < n) × (u < n) × (b < 256)
+// The label k, by the choice b from the place u, for the place v: it takes it, and waits, if it is smaller.
+fn offer(queue: &mut Queue, scratch: &mut [u32], v: usize, k: u64, u: usize, b: usize)
+    requires { Kept queue.old.n scratch.old × (v < queue.old.n) × (u < queue.old.n) × (b < 256)
         × (k < label_at scratch.old v → Fits k) }
-    ensures { Offered n size v k u b result scratch.old scratch.new }
+    ensures { (queue.new.n ≡ queue.old.n)
+        × Offered queue.old.n queue.old.size v k u b queue.new.size scratch.old scratch.new }
 {
-    if label_of(scratch, n, v) <= k {
-        return size;
+    if label_of(scratch, v) <= k {
+        return;
     }
-    put_label(scratch, n, v, k, u, b);
-    push(scratch, n, size, v)
+    put_label(scratch, v, k, u, b);
+    queue.push(scratch, v);
 }
 
-// One link of the place u, whose label is key.
-fn relax_one(
-    ynd: Ynd,
-    nodes: &[NodeWords],
-    links: &[LinkWords],
-    scratch: &mut [u32],
-    start: usize,
-    size: usize,
-    u: usize,
-    key: u64,
-    b: usize,
-) -> usize
-    requires { Lent ynd nodes.now links.now
-        × Searching (nodes_of (lent ynd nodes.now links.now)) start ynd.node_count scratch.old size u b
-        × (u < ynd.node_count) × (label_at scratch.old u ≡ key) × (key < unlabelled) × (b < 256)
-        × (4 * ynd.node_count ≤ length scratch.old)
-        × AllEntered nodes.now ynd.node_count scratch.old }
-    ensures { Searching (nodes_of (lent ynd nodes.now links.now)) start
-        ynd.node_count scratch.new result u (b + 1)
-        × (label_at scratch.new u ≡ key)
-        × (work ynd.node_count scratch.new result ≤ work ynd.node_count scratch.old size)
-        × (chain_at scratch.new ≡ chain_at scratch.old) }
-{
-    let n = ynd.node_count as usize;
-    let x = follow(ynd, nodes, links, scratch, n, u, b);
-    match x {
-        Edge::To(v, len) => {
-            let k = key + len * 4294967296 + 1;
-            offer(scratch, n, size, v, k, u, b)
+impl Search<'_> {
+    ghost use Rattle.paths.specs.Search.{Searching};
+    ghost use Rattle.paths.specs.Going.{nodes_in, Ready, Going};
+
+    // Where the choice b leads from the node at place p.
+    fn follow(&self, scratch: &[u32], p: usize, b: usize) -> Option<Edge>
+        requires { Ready self.now scratch.now × (p < length self.now.nodes.now) × (b < 256) }
+        ensures { result ≡ edge_of (nodes_in self.now) p b }
+    {
+        let node = self.nodes[p];
+        if link_count(node) as usize <= b {
+            return None;
         }
-        Edge::Stop => size,
+        let at = link_start(node) as usize + b;
+        if self.ynd.link_count as usize <= at {
+            return None;
+        }
+        let link = &self.links[at];
+        let own = own_area(self.nodes, self.nodes.len());
+        if !belongs_to(own, area_named(link)) {
+            return None;
+        }
+        let to = node_in(self.nodes, scratch, number_named(link))?;
+        Some(Edge {
+            to,
+            length: length_named(link),
+        })
     }
-}
 
-// All links of the place u, which waits no longer. How many wait then.
-fn relax(
-    ynd: Ynd,
-    nodes: &[NodeWords],
-    links: &[LinkWords],
-    scratch: &mut [u32],
-    start: usize,
-    size: usize,
-    u: usize,
-) -> usize
-    requires { Lent ynd nodes.now links.now
-        × Searching (nodes_of (lent ynd nodes.now links.now)) start ynd.node_count scratch.old size u 0
-        × (u < ynd.node_count) × (label_at scratch.old u < unlabelled)
-        × (4 * ynd.node_count ≤ length scratch.old)
-        × AllEntered nodes.now ynd.node_count scratch.old }
-    ensures { Searching (nodes_of (lent ynd nodes.now links.now)) start
-        ynd.node_count scratch.new result ynd.node_count 0
-        × (work ynd.node_count scratch.new result ≤ work ynd.node_count scratch.old size)
-        × (chain_at scratch.new ≡ chain_at scratch.old) }
-{
-    let n = ynd.node_count as usize;
-    let key = label_of(scratch, n, u);
-    let count = link_count(nodes[u]) as usize;
-    let mut waiting = size;
-    let mut b = 0;
-    while b < count {
-        waiting = relax_one(ynd, nodes, links, scratch, start, waiting, u, key, b);
-        b += 1;
+    // One link of the place u, whose label is key.
+    fn relax_one(&self, queue: &mut Queue, scratch: &mut [u32], u: usize, key: u64, b: usize)
+        requires { Ready self.now scratch.old × Going self.now queue.old scratch.old u b
+            × (u < self.now.ynd.node_count) × (label_at scratch.old u ≡ key) × (key < unlabelled) × (b < 256) }
+        ensures { Ready self.now scratch.new × Going self.now queue.new scratch.new u (b + 1)
+            × (label_at scratch.new u ≡ key)
+            × (work queue.new.n scratch.new queue.new.size ≤ work queue.old.n scratch.old queue.old.size) }
+    {
+        if let Some(edge) = self.follow(scratch, u, b) {
+            offer(
+                queue,
+                scratch,
+                edge.to,
+                key + edge.length * 4294967296 + 1,
+                u,
+                b,
+            );
+        }
     }
-    waiting
-}
 
-// The labels of all places that a walk from `start` reaches.
-pub(crate) fn search(
-    ynd: Ynd,
-    nodes: &[NodeWords],
-    links: &[LinkWords],
-    scratch: &mut [u32],
-    start: usize,
-)
-    requires { Lent ynd nodes.now links.now × (start < ynd.node_count)
-        × (4 * ynd.node_count ≤ length scratch.old) }
-    ensures { Searching (nodes_of (lent ynd nodes.now links.now)) start
-        ynd.node_count scratch.new 0 ynd.node_count 0 }
-{
-    let n = ynd.node_count as usize;
-    enter_all(nodes, scratch, n);
-    clear(scratch, n);
-    let mut size = offer(scratch, n, 0, start, 0, start, 0);
-    while 0 < size {
-        let u = pop(scratch, n, size);
-        size = relax(ynd, nodes, links, scratch, start, size - 1, u);
+    // All links of the place u, which waits no longer.
+    fn relax(&self, queue: &mut Queue, scratch: &mut [u32], u: usize)
+        requires { Ready self.now scratch.old × Going self.now queue.old scratch.old u 0
+            × (u < self.now.ynd.node_count) × (label_at scratch.old u < unlabelled) }
+        ensures { Ready self.now scratch.new × Going self.now queue.new scratch.new (self.now.ynd.node_count) 0
+            × (work queue.new.n scratch.new queue.new.size ≤ work queue.old.n scratch.old queue.old.size) }
+    {
+        let key = label_of(scratch, u);
+        for b in 0..link_count(self.nodes[u]) as usize {
+            self.relax_one(queue, scratch, u, key, b);
+        }
+    }
+
+    // The labels of all places that a walk from the start reaches.
+    pub(crate) fn run(&self, scratch: &mut [u32])
+        requires { 4 * self.now.ynd.node_count ≤ length scratch.old }
+        ensures { Searching (nodes_in self.now) self.now.start
+            self.now.ynd.node_count scratch.new 0 self.now.ynd.node_count 0 }
+    {
+        enter_all(self.nodes, scratch);
+        clear(scratch, self.nodes.len());
+        let mut queue = Queue::new(self.nodes.len());
+        offer(&mut queue, scratch, self.start, 0, self.start, 0);
+        while !queue.is_empty() {
+            let u = queue.pop(scratch);
+            self.relax(&mut queue, scratch, u);
+        }
     }
 }

@@ -3,11 +3,9 @@
 use Prim.Native.Nat.{ℕ}
 use mathlib.Core.Path.{◌≡◌}
 use mathlib.Core.List.{List, []}
-use Rattle.numbers.specs.Refusals.{unless}
 use Rattle.cells.specs.Read.{read_of}
 use Rattle.rounds.specs.Round.{version_read}
-use Rattle.printround.specs.Text.{refused_of}
-use Rattle.printround.specs.Printed.{lent, choices_lent, file_of, section_of}
+use Rattle.printround.specs.Printed.{lent, choices_lent, file_of, unless_refused, section_of}
 use Rattle.agreement.specs.Agree.{Agree}
 use Rattle.agreement.proofs.Uncounted.{bytes_that_don't_count}
 
@@ -16,7 +14,7 @@ pub printed_alike : (s s' : List ℕ) → read_of s [] lent ≡ read_of s' [] le
     → section_of s file ≡ section_of s' file
 unfolding section_of
 printed_alike s s' e file i =
-    unless (e i).answer (λ number place. refused_of number) (file_of (e i).memory (version_read file choices_lent))
+    unless_refused (e i).answer (file_of (e i).memory (version_read file choices_lent))
 
 -- T-14: two sections that agree on the bytes that count, with no graphics, print the same of every round file.
 pub printed_same : (s s' : List ℕ) → Agree s [] s' [] → (file : List ℕ) → section_of s file ≡ section_of s' file

@@ -7,54 +7,56 @@ ghost use Rattle.rounds.specs.Round.{version_read};
 ghost use Rattle.rounds.specs.Follow.{follow_version};
 ghost use Rattle.printround.specs.Printed.{walk_of, file_of, section_of, printed, choices_lent, visited_lent};
 
-use crate::lent::{bytes_lent, junctions_lent, links_lent, nodes_lent, places_lent};
 use crate::text::{bad_input, refused, round};
 use cells::junction::JunctionWords;
 use cells::junction_ref::RefWords;
 use cells::link::LinkWords;
 use cells::node::NodeWords;
 use cells::read::read;
-use cells::ynd::{Outcome, Ynd};
-use numbers::answer::Answer;
+use cells::ynd::Ynd;
+use numbers::refusal::Refusal;
 use records::bytes::u32_at;
-use rounds::file::{Version, VersionRead, read_version};
+use rounds::file::{VersionRound, read_version};
 use rounds::follow::follow_version;
 use std::alloc::{AllocError, Global};
-use walks::walk::Walked;
 
-// The round is followed; `count` is how many choices its file has.
+// The round is followed.
 fn followed(
     alloc: Global,
     ynd: Ynd,
     nodes: &[NodeWords],
     links: &[LinkWords],
-    version: Version,
-    start: u16,
+    round_file: VersionRound,
     choices: &[u8],
-    count: usize,
 ) -> Result<String, AllocError>
     ensures { IfOk result (λ text. (junctions : List (List ℕ)) (heights : List ℕ) (refs : List (List ℕ))
-        → string_bytes text ≡ walk_of (memory ynd nodes.now links.now junctions heights refs) count
-        (follow_version (memory ynd nodes.now links.now junctions heights refs) version start
-        choices.now visited_lent)) }
+        → string_bytes text ≡ walk_of (memory ynd nodes.now links.now junctions heights refs) round_file.count
+        (follow_version (memory ynd nodes.now links.now junctions heights refs) round_file.version
+        round_file.start choices.now visited_lent)) }
 {
-    let mut visited = places_lent(alloc, 16_384)?;
+    let mut visited = vec![in alloc; 0u32; 16_384]?;
     let walked = follow_version(
         ynd,
         nodes,
         links,
-        version,
-        start,
+        round_file.version,
+        round_file.start,
         choices,
         visited.as_mut_slice(),
     );
     match walked {
-        Walked::Ended(end, visits) => {
-            visited.truncate(visits);
-            let n = ynd.node_count as usize;
-            round(alloc, nodes, n, count, end, visited.as_slice())
+        Ok(walk) => {
+            visited.truncate(walk.count);
+            round(
+                alloc,
+                nodes,
+                ynd.node_count as usize,
+                round_file.count,
+                walk.end,
+                visited.as_slice(),
+            )
         }
-        Walked::Refused(number, _) => refused(alloc, number),
+        Err(refusal) => refused(alloc, refusal.number()),
     }
 }
 
@@ -70,23 +72,14 @@ fn file_read(
         → string_bytes text ≡ file_of (memory ynd nodes.now links.now junctions heights refs)
         (version_read file.now choices_lent)) }
 {
-    let mut choices = bytes_lent(alloc, 65_536)?;
+    let mut choices = vec![in alloc; 0u8; 65_536]?;
     let read = read_version(file, choices.as_mut_slice());
     match read {
-        VersionRead::Round(version, start, count) => {
-            choices.truncate(count);
-            followed(
-                alloc,
-                ynd,
-                nodes,
-                links,
-                version,
-                start,
-                choices.as_slice(),
-                count,
-            )
+        Ok(round) => {
+            choices.truncate(round.count);
+            followed(alloc, ynd, nodes, links, round, choices.as_slice())
         }
-        VersionRead::Refused(number, _) => refused(alloc, number),
+        Err(refusal) => refused(alloc, refusal.number()),
     }
 }
 
@@ -98,8 +91,8 @@ fn cell_read(
     junctions: &mut [JunctionWords],
     heights: &mut [u8],
     refs: &mut [RefWords],
-) -> Outcome
-    ensures { left result nodes.new links.new junctions.new heights.new refs.new
+) -> Result<Ynd, Refusal>
+    ensures { left new_ynd result nodes.new links.new junctions.new heights.new refs.new
         ≡ read_of section.now [] (memory new_ynd nodes.old links.old junctions.old heights.old refs.old) }
 {
     read(
@@ -118,12 +111,12 @@ fn cell_read(
 fn section_read(alloc: Global, section: &[u8], file: &[u8]) -> Result<String, AllocError>
     ensures { IfOk result (λ text. string_bytes text ≡ section_of section.now file.now) }
 {
-    let mut nodes = nodes_lent(alloc, 1024)?;
-    let mut links = links_lent(alloc, 8192)?;
-    let mut junctions = junctions_lent(alloc, 256)?;
-    let mut heights = bytes_lent(alloc, 65_536)?;
-    let mut refs = links_lent(alloc, 1024)?;
-    let o = cell_read(
+    let mut nodes = vec![in alloc; [0u32; 13]; 1024]?;
+    let mut links = vec![in alloc; [0u16; 4]; 8192]?;
+    let mut junctions = vec![in alloc; [0u32; 6]; 256]?;
+    let mut heights = vec![in alloc; 0u8; 65_536]?;
+    let mut refs = vec![in alloc; [0u16; 4]; 1024]?;
+    let read = cell_read(
         section,
         nodes.as_mut_slice(),
         links.as_mut_slice(),
@@ -131,9 +124,9 @@ fn section_read(alloc: Global, section: &[u8], file: &[u8]) -> Result<String, Al
         heights.as_mut_slice(),
         refs.as_mut_slice(),
     );
-    match o.answer {
-        Answer::Done => file_read(alloc, o.ynd, nodes.as_slice(), links.as_slice(), file),
-        Answer::Refused(number, _) => refused(alloc, number),
+    match read {
+        Ok(ynd) => file_read(alloc, ynd, nodes.as_slice(), links.as_slice(), file),
+        Err(refusal) => refused(alloc, refusal.number()),
     }
 }
 

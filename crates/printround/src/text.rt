@@ -67,13 +67,11 @@ fn line(alloc: Global, k: usize, w: NodeWords) -> Result<String, AllocError>
 fn words_at(nodes: &[NodeWords], n: usize, p: usize) -> NodeWords
     ensures { result ≡ get_or (take n nodes.now) p (replicate 13 0) }
 {
-    if n <= p {
-        return [0; 13];
+    if p < n && p < nodes.len() {
+        nodes[p]
+    } else {
+        [0; 13]
     }
-    if nodes.len() <= p {
-        return [0; 13];
-    }
-    nodes[p]
 }
 
 // A line for each place of the first n nodes, whatever their links.
@@ -82,8 +80,8 @@ fn lines(alloc: Global, nodes: &[NodeWords], n: usize, places: &[u32]) -> Result
         → string_bytes text ≡ lines_of (map (node_with links) (take n nodes.now)) 0 places.now) }
 {
     let mut text = String::new(alloc);
-    for k in 0..places.len() {
-        let w = words_at(nodes, n, places[k] as usize);
+    for (k, p) in places.iter().enumerate() {
+        let w = words_at(nodes, n, *p as usize);
         let next = line(alloc, k, w)?;
         text.push_str(next.as_str())?;
     }

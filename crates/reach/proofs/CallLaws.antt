@@ -11,60 +11,48 @@ use lib.IntN.{ℤ}
 use lib.ListN.{length, take, drop, get_or}
 use lib.Seq.{take_at, drop_at, get_or-take}
 use borrow.Author.Tests.{le-ltb}
-use Rattle.numbers.specs.Refusals.{when, decided, unless}
-use Rattle.numbers.specs.declared.answer.Answer.{Answer}
-use Rattle.numbers.specs.declared.answer.Answer.TheVariants as answer
+use Rattle.numbers.specs.Refusals.{Answer, when, decided, unless}
 use Rattle.cells.specs.declared.ynd.Ynd.{Ynd}
 use Rattle.cells.specs.Memory.{over_limit}
 use Rattle.reach.specs.Reach.{stored, distances, within, nearest_of, places_within, near, times}
 use Rattle.reach.specs.Reach.{Precedes}
-use Rattle.reach.specs.Reach.{Left, left, within_causes, within_call, nearest_causes, nearest_answer, nearest_call}
-use Rattle.reach.specs.declared.reach.Listing.TheVariants as listing
-use Rattle.reach.specs.declared.reach.NearestNode.TheVariants as nearest
+use Rattle.reach.specs.Reach.{Left, left, listed, within_causes, within_call, nearest_causes, nearest_answer, nearest_call}
+use Rattle.reach.specs.declared.reach.NearestNode.{NearestNode}
 use Rattle.reach.proofs.DistanceLaws.{on_spot, spot}
 use Rattle.reach.proofs.ListedLaws.{times_more, some_listed, first_listed, within_once, once_is, once_if}
 use Rattle.reach.proofs.OrderLaws.{ordered_same, ordered_up, ordered_first, Before, strictly}
 use Rattle.reach.proofs.NearestLaws.{Nearest, nearest_is, nearest_none, none_nearest}
+use Rattle.std.specs.Prelude.{Result, Ok, Err, Some, None}
+use Rattle.numbers.specs.declared.refusal.Refusal.{Refusal}
+use Rattle.numbers.proofs.Refusing.{not_refused}
+use Rattle.numbers.specs.declared.refusal.Refusal.TheVariants.{TooShort, AtLimit}
+use Rattle.numbers.specs.declared.refusal.Lent.TheVariants as lent
 
 -- ---- an accepted call, and a refused one
 
--- the answer of a call that lists l
-abbrev answered : List ℕ → List ℕ → Answer → Left
-answered l places a =
-    unless a (λ cause place. left (listing.Refused cause place) places)
-    (left (listing.Places (length l)) (l ++ drop (length l) places))
-
-accepted : (l places after : List ℕ) (count : ℕ) (a : Answer) → answered l places a ≡ left (listing.Places count) after
+accepted : (l places after : List ℕ) (count : ℕ) (a : Answer) → listed a l places ≡ left (Ok count) after
     → (length l ≡ count) × (l ++ drop (length l) places ≡ after)
-accepted l places after count answer.Done e =
-    let f : listing.Places (length l) ≡ listing.Places count = ap (λ (r : Left). r.answer) e in
+accepted l places after count (Ok _) e =
+    let f : ◌≡◌ {A = Result ℕ Refusal} (Ok (length l)) (Ok count) = ap (λ (r : Left). r.answer) e in
     (cc, ap (λ (r : Left). r.places) e)
-accepted l places after count (answer.Refused n p) e =
-    let f : listing.Refused n p ≡ listing.Places count = ap (λ (r : Left). r.answer) e in
-    let z : ◌≡◌ {A = ℕ} 0 1 = cc in
-    absurd (omega arith)
+accepted l places after count (Err n) e =
+    not_refused (ap (λ (r : Left). r.answer) e)
 
-refused : (l places after : List ℕ) (c q : ℕ) (a : Answer) → answered l places a ≡ left (listing.Refused c q) after
+refused : (l places after : List ℕ) (c : Refusal) (a : Answer) → listed a l places ≡ left (Err c) after
     → after ≡ places
-refused l places after c q answer.Done e =
-    let f : listing.Places (length l) ≡ listing.Refused c q = ap (λ (r : Left). r.answer) e in
-    let z : ◌≡◌ {A = ℕ} 0 1 = cc in
-    absurd (omega arith)
-refused l places after c q (answer.Refused n p) e = sym (ap (λ (r : Left). r.places) e)
+refused l places after c (Ok _) e = not_refused (sym (ap (λ (r : Left). r.answer) e))
+refused l places after c (Err n) e = sym (ap (λ (r : Left). r.places) e)
 
 -- an accepted call has passed each test
 passed : (t u v : Bool) (l places after : List ℕ) (count : ℕ)
-    → answered l places (decided (when t 14 0 ∷ when u 7 0 ∷ when v 7 8 ∷ [])) ≡ left (listing.Places count) after
+    → listed (decided (when t AtLimit ∷ when u (TooShort lent.Nodes) ∷ when v (TooShort lent.List) ∷ [])) l places
+    ≡ left (Ok count) after
     → (t ≡ false) × (u ≡ false)
 passed false false v l places after count e = (refl, refl)
 passed true u v l places after count e =
-    let f : listing.Refused 14 0 ≡ listing.Places count = ap (λ (r : Left). r.answer) e in
-    let z : ◌≡◌ {A = ℕ} 0 1 = cc in
-    absurd (omega arith)
+    not_refused (ap (λ (r : Left). r.answer) e)
 passed false true v l places after count e =
-    let f : listing.Refused 7 0 ≡ listing.Places count = ap (λ (r : Left). r.answer) e in
-    let z : ◌≡◌ {A = ℕ} 0 1 = cc in
-    absurd (omega arith)
+    not_refused (ap (λ (r : Left). r.answer) e)
 
 -- ---- within
 
@@ -82,14 +70,14 @@ within_decided ynd nodes l places = decided (within_causes ynd (length nodes) (l
 
 module _ (ynd : Ynd) (nodes : List (List ℕ)) (x y : ℤ) (radius : ℕ) (places after : List ℕ) where
   -- a refusal changes nothing
-  pub refused_stays : (c q : ℕ) → within_call ynd nodes x y radius places ≡ left (listing.Refused c q) after
+  pub refused_stays : (c : Refusal) → within_call ynd nodes x y radius places ≡ left (Err c) after
       → after ≡ places
   unfolding within_call
-  refused_stays c q h =
+  refused_stays c h =
       let l = places_within ynd nodes x y radius in
-      refused l places after c q (within_decided ynd nodes l places) h
+      refused l places after c (within_decided ynd nodes l places) h
 
-  module _ (count : ℕ) (h : within_call ynd nodes x y radius places ≡ left (listing.Places count) after) where
+  module _ (count : ℕ) (h : within_call ynd nodes x y radius places ≡ left (Ok count) after) where
     both : (length (places_within ynd nodes x y radius) ≡ count)
         × (places_within ynd nodes x y radius ++ drop (length (places_within ynd nodes x y radius)) places ≡ after)
     unfolding within_call
@@ -183,20 +171,24 @@ module _ (ynd : Ynd) (nodes : List (List ℕ)) (x y : ℤ) (radius : ℕ) (place
 -- ---- nearest
 
 at_answer : (d : ℕ → ℕ) (q s : ℕ) (a : Answer) (o : Option ℕ)
-    → unless a nearest.Refused (nearest_answer d o) ≡ nearest.At q s → (o ≡ some q) × (s ≡ d q)
-at_answer d q s answer.Done (some p) e = (cc, cc)
-at_answer d q s answer.Done none e = let z : ◌≡◌ {A = ℕ} 0 1 = cc in absurd (omega arith)
-at_answer d q s (answer.Refused n p) o e = let z : ◌≡◌ {A = ℕ} 0 1 = cc in absurd (omega arith)
+    → unless a (nearest_answer d o) ≡ Ok (Some (record { place = q; square = s })) → (o ≡ some q) × (s ≡ d q)
+at_answer d q s (Ok _) (some p) e =
+    let n : ◌≡◌ {A = NearestNode} (record { place = p; square = d p }) (record { place = q; square = s }) = cc in (
+      ap (λ (r : NearestNode). some r.place) n,
+      sym (ap (λ (r : NearestNode). r.square) n) ∙ ap (λ (r : NearestNode). d r.place) n,
+    )
+at_answer d q s (Ok _) none e = let z : ◌≡◌ {A = ℕ} 0 1 = cc in absurd (omega arith)
+at_answer d q s (Err n) o e = not_refused e
 
 no_answer : (d : ℕ → ℕ) (a : Answer) (o : Option ℕ)
-    → unless a nearest.Refused (nearest_answer d o) ≡ nearest.Nothing → o ≡ none
-no_answer d answer.Done (some p) e = let z : ◌≡◌ {A = ℕ} 0 1 = cc in absurd (omega arith)
-no_answer d answer.Done none e = refl
-no_answer d (answer.Refused n p) o e = let z : ◌≡◌ {A = ℕ} 0 1 = cc in absurd (omega arith)
+    → unless a (nearest_answer d o) ≡ Ok None → o ≡ none
+no_answer d (Ok _) (some p) e = let z : ◌≡◌ {A = ℕ} 0 1 = cc in absurd (omega arith)
+no_answer d (Ok _) none e = refl
+no_answer d (Err n) o e = not_refused e
 
 module _ (ynd : Ynd) (nodes : List (List ℕ)) (x y : ℤ) where
   -- T-01: none exactly for the empty cell, one way
-  pub nothing_empty : nearest_call ynd nodes x y ≡ nearest.Nothing → ynd.node_count ≡ 0
+  pub nothing_empty : nearest_call ynd nodes x y ≡ Ok None → ynd.node_count ≡ 0
   unfolding nearest_call
   nothing_empty h =
       let d = distances x y nodes in
@@ -204,13 +196,13 @@ module _ (ynd : Ynd) (nodes : List (List ℕ)) (x y : ℤ) where
       (no_answer d (decided (nearest_causes ynd (length nodes))) (nearest_of d ynd.node_count) h)
 
   -- and the other; a struct with too many junctions is refused, whatever its nodes
-  pub empty_nothing : over_limit ynd ≡ false → ynd.node_count ≡ 0 → nearest_call ynd nodes x y ≡ nearest.Nothing
+  pub empty_nothing : over_limit ynd ≡ false → ynd.node_count ≡ 0 → nearest_call ynd nodes x y ≡ Ok None
   unfolding nearest_call nearest_causes
   empty_nothing o e =
       let held = le-ltb (length nodes) ynd.node_count (omega arith) in
       rw (o, held, none_nearest (distances x y nodes) ynd.node_count e) refl
 
-  module _ (q s : ℕ) (h : nearest_call ynd nodes x y ≡ nearest.At q s) where
+  module _ (q s : ℕ) (h : nearest_call ynd nodes x y ≡ Ok (Some (record { place = q; square = s }))) where
     taken : (nearest_of (distances x y nodes) ynd.node_count ≡ some q) × (s ≡ distances x y nodes q)
     unfolding nearest_call
     taken =
@@ -228,7 +220,7 @@ module _ (ynd : Ynd) (nodes : List (List ℕ)) (x y : ℤ) where
     -- ---- both calls
 
     module _ (radius count : ℕ) (places after : List ℕ)
-        (l : within_call ynd nodes x y radius places ≡ left (listing.Places count) after) where
+        (l : within_call ynd nodes x y radius places ≡ left (Ok count) after) where
       -- the nearest is listed where it is within reach
       pub nearest_listed : s ≤ radius * radius → times q (take count after) ≡ 1
       nearest_listed near =
@@ -260,7 +252,7 @@ module _ (ynd : Ynd) (nodes : List (List ℕ)) (x y : ℤ) where
 -- ---- the first entry
 
 module _ (ynd : Ynd) (nodes : List (List ℕ)) (x y : ℤ) (radius : ℕ) (places after : List ℕ) (count : ℕ)
-    (h : within_call ynd nodes x y radius places ≡ left (listing.Places count) after) (pos : 0 < count) where
+    (h : within_call ynd nodes x y radius places ≡ left (Ok count) after) (pos : 0 < count) where
   head_near : (get_or (take count after) 0 0 < ynd.node_count)
       × (distances x y nodes (get_or (take count after) 0 0) ≤ radius * radius)
   head_near =
@@ -301,7 +293,7 @@ module _ (ynd : Ynd) (nodes : List (List ℕ)) (x y : ℤ) (radius : ℕ) (place
 
   -- T-08: the first entry is what `nearest` gives
   pub first_nearest : nearest_call ynd nodes x y
-      ≡ nearest.At (get_or after 0 0) (distances x y nodes (get_or after 0 0))
+      ≡ Ok (Some (record { place = get_or after 0 0; square = distances x y nodes (get_or after 0 0) }))
   unfolding nearest_call nearest_causes
   first_nearest =
       let d = distances x y nodes in

@@ -91,18 +91,6 @@ pub apart_small : (a b : ℕ) → a ≤ 65535 → b ≤ 65535 → square_apart a
 unfolding square_apart
 apart_small a b ha hb = square_small (a - b + (b - a)) (omega arith)
 
--- no distance is greater
-pub far_small : (a b : ℕ) (w : List ℕ) → a ≤ 65535 → b ≤ 65535 → far_from a b w < 8589672451
-unfolding far_from stored
-far_small a b w ha hb =
-    let x = (stored w).x in
-    let y = (stored w).y in
-    omega (
-      arith,
-      apart_small a (raised_step x) ha (omega (arith, raised_up x (step_in 2 _), up_small x (step_in 2 _))),
-      apart_small b (raised_step y) hb (omega (arith, raised_up y (step_in 2 _), up_small y (step_in 2 _))),
-    )
-
 -- ---- distance 0
 
 zero_square : (m : ℕ) → m * m ≤ 0 → m ≡ 0

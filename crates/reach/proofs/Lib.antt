@@ -5,6 +5,7 @@ pub mod TurnLaws
 pub mod ListedLaws
 pub mod OrderLaws
 pub mod NearestLaws
+pub mod CutLaws
 pub mod Sorting
 pub mod Answers
 pub mod CallLaws

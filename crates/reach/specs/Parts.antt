@@ -1,6 +1,7 @@
 -- What the loops go by, and no public contract: steps counted from the lowest, so that nothing in a loop is signed.
 use Rattle.std.specs.Prelude.{ℕ, ◌+◌, ◌-◌, ◌*◌, cond, List, [], ltb, ℤ, pos, nat_abs, ◌+ℤ◌, get_or}
 use Rattle.reach.specs.Reach.{stored}
+use Rattle.reach.specs.declared.distance.Point.{Point}
 
 -- a step, counted from the lowest
 unfoldable pub raised_step : ℤ → ℕ
@@ -15,6 +16,10 @@ far_from a b w = square_apart a (raised_step (stored w).x) + square_apart b (rai
 -- the same as `distances` (law `far_is`)
 unfoldable pub far : ℕ → ℕ → List (List ℕ) → ℕ → ℕ
 far a b nodes p = far_from a b (get_or nodes p [])
+
+-- the distances of its nodes from a point
+abbrev pub distances_from : Point → ℕ → ℕ
+distances_from s = far s.x s.y s.nodes.now
 
 -- a number as far as a limit
 abbrev pub bounded : ℕ → ℕ → ℕ

@@ -2,8 +2,8 @@
 -- in quarter-metre steps.
 use Rattle.std.specs.Prelude.{ℕ, zero, suc, ◌+◌, ◌*◌, ◌<◌, ◌≡◌, ◌⊎◌, Bool, true, false, ◌&&◌, ◌||◌, cond, List, []}
 use Rattle.std.specs.Prelude.{◌∷◌, ◌++◌, leb, ltb, eqb, ℤ, nat_abs, ◌-ℤ◌, length, drop, get_or}
-use Rattle.std.proofs.Math.Option.{Option, none, some}
-use Rattle.numbers.specs.Refusals.{Cause, when, decided, unless}
+use Rattle.std.proofs.Math.Option.{Option as Found, none, some}
+use Rattle.numbers.specs.Refusals.{Cause, Answer, when, decided, unless}
 use Rattle.numbers.specs.Positions.{quantised}
 use Rattle.numbers.specs.declared.position.Quantised.{Quantised}
 use Rattle.cells.specs.Lists.{join_to}
@@ -12,10 +12,11 @@ use Rattle.cells.specs.Words.{to_node}
 use Rattle.cells.specs.declared.ynd.Ynd.{Ynd}
 use Rattle.cells.specs.Memory.{over_limit}
 use Rattle.reach.specs.Sorted.{sorted}
-use Rattle.reach.specs.declared.reach.Listing.{Listing}
-use Rattle.reach.specs.declared.reach.Listing.TheVariants as listing
+use Rattle.std.specs.Prelude.{Option, Result, Ok, Err, Some, None}
+use Rattle.numbers.specs.declared.refusal.Refusal.{Refusal}
+use Rattle.numbers.specs.declared.refusal.Refusal.TheVariants.{TooShort, AtLimit}
+use Rattle.numbers.specs.declared.refusal.Lent.TheVariants as lent
 use Rattle.reach.specs.declared.reach.NearestNode.{NearestNode}
-use Rattle.reach.specs.declared.reach.NearestNode.TheVariants as nearest
 
 -- ---- distances
 
@@ -57,12 +58,12 @@ unfoldable pub ordered : (ℕ → ℕ) → List ℕ → List ℕ
 ordered d places = sorted (near_first d) places
 
 -- the nearer of a place found and a later one: the later one only where it is nearer
-abbrev pub nearer : (ℕ → ℕ) → Option ℕ → ℕ → Option ℕ
+abbrev pub nearer : (ℕ → ℕ) → Found ℕ → ℕ → Found ℕ
 nearer d none p = some p
 nearer d (some q) p = cond (ltb (d p) (d q)) (some p) (some q)
 
 -- T-01: the nearest of the places below n, the lowest where distances are equal
-unfoldable pub nearest_of : (ℕ → ℕ) → ℕ → Option ℕ
+unfoldable pub nearest_of : (ℕ → ℕ) → ℕ → Found ℕ
 nearest_of d zero = none
 nearest_of d (suc n) = nearer d (nearest_of d n) n
 
@@ -70,18 +71,24 @@ nearest_of d (suc n) = nearer d (nearest_of d n) n
 
 -- an answer, and the list of places after it
 pub record Left : Type 0 where
-  pub answer : Listing
+  pub answer : Result ℕ Refusal
   pub places : List ℕ
 
-abbrev pub left : Listing → List ℕ → Left
+abbrev pub left : Result ℕ Refusal → List ℕ → Left
 left a places = record { answer = a; places = places }
 
+-- what a call leaves that lists l; a refusal changes nothing
+abbrev pub listed : Answer → List ℕ → List ℕ → Left
+listed (Ok _) l places = left (Ok (length l)) (l ++ drop (length l) places)
+listed (Err cause) l places = left (Err cause) places
+
 unfoldable pub nearest_causes : Ynd → ℕ → List Cause
-nearest_causes ynd nodes = when (over_limit ynd) 14 0 ∷ when (ltb nodes ynd.node_count) 7 0 ∷ []
+nearest_causes ynd nodes = when (over_limit ynd) AtLimit ∷ when (ltb nodes ynd.node_count) (TooShort lent.Nodes) ∷ []
 
 unfoldable pub within_causes : Ynd → ℕ → ℕ → ℕ → List Cause
 within_causes ynd nodes count room =
-    when (over_limit ynd) 14 0 ∷ when (ltb nodes ynd.node_count) 7 0 ∷ when (ltb room count) 7 8 ∷ []
+    when (over_limit ynd) AtLimit ∷ when (ltb nodes ynd.node_count) (TooShort lent.Nodes)
+    ∷ when (ltb room count) (TooShort lent.List) ∷ []
 
 -- the places to list
 unfoldable pub places_within : Ynd → List (List ℕ) → ℤ → ℤ → ℕ → List ℕ
@@ -92,18 +99,16 @@ places_within ynd nodes x y radius =
 unfoldable pub within_call : Ynd → List (List ℕ) → ℤ → ℤ → ℕ → List ℕ → Left
 within_call ynd nodes x y radius places =
     let l = places_within ynd nodes x y radius in
-    unless (decided (within_causes ynd (length nodes) (length l) (length places)))
-    (λ cause place. left (listing.Refused cause place) places)
-    (left (listing.Places (length l)) (l ++ drop (length l) places))
+    listed (decided (within_causes ynd (length nodes) (length l) (length places))) l places
 
-abbrev pub nearest_answer : (ℕ → ℕ) → Option ℕ → NearestNode
-nearest_answer d none = nearest.Nothing
-nearest_answer d (some p) = nearest.At p (d p)
+abbrev pub nearest_answer : (ℕ → ℕ) → Found ℕ → Result (Option NearestNode) Refusal
+nearest_answer d none = Ok None
+nearest_answer d (some p) = Ok (Some (record { place = p; square = d p }))
 
 -- T-01: the nearest node's place with its squared distance, or none in an empty cell
-unfoldable pub nearest_call : Ynd → List (List ℕ) → ℤ → ℤ → NearestNode
+unfoldable pub nearest_call : Ynd → List (List ℕ) → ℤ → ℤ → Result (Option NearestNode) Refusal
 nearest_call ynd nodes x y =
-    unless (decided (nearest_causes ynd (length nodes))) nearest.Refused
+    unless (decided (nearest_causes ynd (length nodes)))
     (nearest_answer (distances x y nodes) (nearest_of (distances x y nodes) ynd.node_count))
 
 -- ---- for the laws

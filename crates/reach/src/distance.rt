@@ -1,16 +1,25 @@
-// How far a node lies from a point, by the square, in whole steps.
+// How far nodes lie from a point, by the square, in whole steps.
 ghost use Rattle.std.specs.Prelude.{◌≡◌, ◌+◌, ◌*◌, ◌<◌, ◌≤◌, length};
 ghost use Rattle.std.specs.Float.{binary32};
 ghost use Rattle.std.specs.Float.Ieee.{of_bits};
 ghost use Rattle.numbers.specs.Steps.{step_of};
-ghost use Rattle.reach.specs.Parts.{raised_step, square_apart, far_from, far, bounded};
+ghost use Rattle.reach.specs.Reach.{distances};
+ghost use Rattle.reach.specs.Parts.{raised_step, square_apart, far_from, distances_from, bounded};
 ghost use Rattle.reach.specs.Heap.{key_of, Place};
 
 use cells::node::NodeWords;
 use numbers::steps::steps_xy_of_bits;
 
+// Nodes, and a point whose distance from them is asked, in steps counted from the lowest.
+#[derive(Clone, Copy)]
+pub(crate) struct Point<'a> {
+    pub(crate) nodes: &'a [NodeWords],
+    x: u16,
+    y: u16,
+}
+
 // A step, counted from the lowest.
-pub(crate) fn raised(n: i16) -> u16
+fn raised(n: i16) -> u16
     ensures { result ≡ raised_step n }
 {
     (n as i32 + 32768) as u16
@@ -33,31 +42,42 @@ fn square_apart(a: u16, bits: u32) -> u64
     (d * d) as u64
 }
 
-// The squared distance of a node from the point a, b, counted from the lowest step, as far as the limit. Where x alone
-// reaches it, y is not looked at. The sum of two squares passes 32 bits.
-pub(crate) fn distance_up_to(w: NodeWords, a: u16, b: u16, limit: u64) -> u64
-    ensures { result ≡ bounded limit (far_from a b w) }
-{
-    let x = square_apart(a, w[2]);
-    if limit <= x {
-        return limit;
+impl<'a> Point<'a> {
+    pub(crate) fn new(nodes: &'a [NodeWords], x: i16, y: i16) -> Self
+        ensures { (result.nodes.now ≡ nodes.now) × (distances_from result ≡ distances x y nodes.now) }
+    {
+        Point {
+            nodes,
+            x: raised(x),
+            y: raised(y),
+        }
     }
-    let d = x + square_apart(b, w[3]);
-    if d < limit { d } else { limit }
-}
 
-// The whole squared distance: no limit cuts it.
-pub(crate) fn square_distance(w: NodeWords, a: u16, b: u16) -> u64
-    ensures { (result ≡ far_from a b w) × (result ≤ 8589672450) }
-{
-    distance_up_to(w, a, b, 8589672451)
-}
+    // The squared distance of a node, as far as the limit. Where x alone reaches it, y is not looked at. The sum of two
+    // squares passes 32 bits.
+    pub(crate) fn distance_up_to(&self, w: &NodeWords, limit: u64) -> u64
+        ensures { result ≡ bounded limit (far_from self.now.x self.now.y w.now) }
+    {
+        let x = square_apart(self.x, w[2]);
+        if limit <= x {
+            return limit;
+        }
+        let d = x + square_apart(self.y, w[3]);
+        if d < limit { d } else { limit }
+    }
 
-// The squared distance of the node at p, with the place below it.
-pub(crate) fn key_of(nodes: &[NodeWords], a: u16, b: u16, p: u32) -> u64
-    requires { Place (length nodes.now) p }
-    ensures { result ≡ key_of (far a b nodes.now) p }
-{
-    let i = p as usize;
-    square_distance(nodes[i], a, b) * 65536 + p as u64
+    // The whole squared distance.
+    pub(crate) fn square_distance(&self, w: &NodeWords) -> u64
+        ensures { (result ≡ far_from self.now.x self.now.y w.now) × (result ≤ 8589672450) }
+    {
+        square_apart(self.x, w[2]) + square_apart(self.y, w[3])
+    }
+
+    // The squared distance of the node at p, with the place below it.
+    pub(crate) fn key_of(&self, p: u32) -> u64
+        requires { Place (length self.now.nodes.now) p }
+        ensures { result ≡ key_of (distances_from self.now) p }
+    {
+        self.square_distance(&self.nodes[p as usize]) * 65536 + p as u64
+    }
 }

@@ -1,87 +1,87 @@
 // Which nodes are within reach of a point, the nearest first, and which is the nearest (T-01, T-08).
-ghost use Rattle.std.specs.Prelude.{◌≡◌, ◌++◌, ◌<◌, ◌≤◌, leb, length, drop};
+ghost use Rattle.std.specs.Prelude.{◌≡◌, ◌++◌, ◌<◌, ◌≤◌, leb, length, drop, Ok, Some};
 ghost use Rattle.reach.specs.Reach.{within, nearest_of, left, within_call, nearest_answer, nearest_call};
-ghost use Rattle.reach.specs.Parts.{far};
+ghost use Rattle.reach.specs.Parts.{distances_from};
 
-use crate::distance::{beyond, distance_up_to, raised, square_distance};
-use crate::sort::sort;
+use crate::distance::{Point, beyond};
 use cells::node::NodeWords;
 use cells::room::over_limit;
 use cells::ynd::Ynd;
-
-// How many places were listed.
-#[derive(Clone, Copy)]
-pub enum Listing {
-    Places(usize),
-    Refused(u32, usize),
-}
+use numbers::refusal::{Lent, Refusal};
 
 // The nearest node's place, and its squared distance in quarter-metre steps.
 #[derive(Clone, Copy)]
-pub enum NearestNode {
-    At(usize, u64),
-    Nothing,
-    Refused(u32, usize),
+pub struct NearestNode {
+    pub place: usize,
+    pub square: u64,
 }
 
-// How many of the first n nodes are within reach. Nothing is stored.
-fn count_within(nodes: &[NodeWords], n: usize, a: u16, b: u16, radius: u16) -> usize
-    requires { n ≤ length nodes.now }
-    ensures { result ≡ length (within (far a b nodes.now) radius n) }
-{
-    let limit = beyond(radius);
-    let mut count = 0;
-    let mut i = 0;
-    while i < n {
-        if distance_up_to(nodes[i], a, b, limit) < limit {
-            count += 1;
+impl Point<'_> {
+    // How many nodes are within reach. Nothing is stored.
+    fn count_within(&self, radius: u16) -> usize
+        ensures { result ≡ length (within (distances_from self.now) radius (length self.now.nodes.now)) }
+    {
+        let limit = beyond(radius);
+        let mut count = 0;
+        for w in self.nodes {
+            if self.distance_up_to(w, limit) < limit {
+                count += 1;
+            }
         }
-        i += 1;
+        count
     }
-    count
-}
 
-// Whether they go into a list of `room` entries. They are counted only where there are more nodes than that.
-fn has_room(nodes: &[NodeWords], n: usize, a: u16, b: u16, radius: u16, room: usize) -> bool
-    requires { n ≤ length nodes.now }
-    ensures { result ≡ leb (length (within (far a b nodes.now) radius n)) room }
-{
-    if n <= room {
-        return true;
+    // Whether they go into a list of `room` entries. They are counted only where there are more nodes than that.
+    fn has_room(&self, radius: u16, room: usize) -> bool
+        ensures { result ≡ leb (length (within (distances_from self.now) radius (length self.now.nodes.now))) room }
+    {
+        self.nodes.len() <= room || self.count_within(radius) <= room
     }
-    count_within(nodes, n, a, b, radius) <= room
-}
 
-// Lists them, and counts them.
-fn fill_within(
-    nodes: &[NodeWords],
-    n: usize,
-    a: u16,
-    b: u16,
-    radius: u16,
-    places: &mut [u32],
-) -> usize
-    requires { (n ≤ length nodes.now) × (n ≤ 65536)
-        × (length (within (far a b nodes.now) radius n) ≤ length places.old) }
-    ensures { (result ≡ length (within (far a b nodes.now) radius n))
-        × (places.new ≡ within (far a b nodes.now) radius n
-        ++ drop (length (within (far a b nodes.now) radius n)) places.old) }
-{
-    let limit = beyond(radius);
-    let mut count = 0;
-    let mut i = 0;
-    while i < n {
-        if distance_up_to(nodes[i], a, b, limit) < limit {
-            places[count] = i as u32;
-            count += 1;
+    // Lists them, and counts them.
+    fn fill_within(&self, radius: u16, places: &mut [u32]) -> usize
+        requires { (length self.now.nodes.now ≤ 65536)
+            × (length (within (distances_from self.now) radius (length self.now.nodes.now)) ≤ length places.old) }
+        ensures { (result ≡ length (within (distances_from self.now) radius (length self.now.nodes.now)))
+            × (places.new ≡ within (distances_from self.now) radius (length self.now.nodes.now)
+            ++ drop (length (within (distances_from self.now) radius (length self.now.nodes.now))) places.old) }
+    {
+        let limit = beyond(radius);
+        let mut count = 0;
+        for (i, w) in self.nodes.iter().enumerate() {
+            if self.distance_up_to(w, limit) < limit {
+                places[count] = i as u32;
+                count += 1;
+            }
         }
-        i += 1;
+        count
     }
-    count
+
+    // The nearest node.
+    fn nearest_of(&self) -> NearestNode
+        requires { 0 < length self.now.nodes.now }
+        ensures { Ok (Some result) ≡ nearest_answer (distances_from self.now)
+            (nearest_of (distances_from self.now) (length self.now.nodes.now)) }
+    {
+        let mut best = 0;
+        let mut least = self.square_distance(&self.nodes[0]);
+        for i in 1..self.nodes.len() {
+            let d = self.distance_up_to(&self.nodes[i], least);
+            if d < least {
+                best = i;
+                least = d;
+            }
+        }
+        NearestNode {
+            place: best,
+            square: least,
+        }
+    }
 }
 
 // Fills the first entries with the place of every node whose stored x and y lie at most the radius away, each once and
-// no other, ascending by squared distance, equal distances by place; later entries stay.
+// no other, ascending by squared distance, equal distances by place; later entries stay. Answers how many.
+#[tactic(auto, using(numbers::proofs::Refusing::tested), unfolding(crate::specs::Reach::within_call, crate::specs::Reach::within_causes))]
 pub fn within(
     ynd: Ynd,
     nodes: &[NodeWords],
@@ -89,59 +89,45 @@ pub fn within(
     y: i16,
     radius: u16,
     places: &mut [u32],
-) -> Listing
+) -> Result<usize, Refusal>
     ensures { left result places.new
         ≡ within_call ynd nodes.now x y radius places.old }
 {
     let n = ynd.node_count as usize;
     if over_limit(ynd) {
-        return Listing::Refused(14, 0);
+        return Err(Refusal::AtLimit);
     }
     if nodes.len() < n {
-        return Listing::Refused(7, 0);
+        return Err(Refusal::TooShort(Lent::Nodes));
     }
-    let a = raised(x);
-    let b = raised(y);
-    if !has_room(nodes, n, a, b, radius, places.len()) {
-        return Listing::Refused(7, 8);
+    let point = Point::new(&nodes[..n], x, y);
+    if !point.has_room(radius, places.len()) {
+        return Err(Refusal::TooShort(Lent::List));
     }
-    let count = fill_within(nodes, n, a, b, radius, places);
-    sort(nodes, a, b, &mut places[..count]);
-    Listing::Places(count)
-}
-
-// The nearest of the first n nodes.
-fn nearest_of(nodes: &[NodeWords], n: usize, a: u16, b: u16) -> NearestNode
-    requires { (0 < n) × (n ≤ length nodes.now) }
-    ensures { result ≡ nearest_answer (far a b nodes.now) (nearest_of (far a b nodes.now) n) }
-{
-    let mut best = 0;
-    let mut least = square_distance(nodes[0], a, b);
-    let mut i = 1;
-    while i < n {
-        let d = distance_up_to(nodes[i], a, b, least);
-        if d < least {
-            best = i;
-            least = d;
-        }
-        i += 1;
-    }
-    NearestNode::At(best, least)
+    let count = point.fill_within(radius, places);
+    point.sort(&mut places[..count]);
+    Ok(count)
 }
 
 // The node with the least squared distance, the lowest place where equal; nothing in a cell without nodes.
-pub fn nearest(ynd: Ynd, nodes: &[NodeWords], x: i16, y: i16) -> NearestNode
+#[tactic(auto, using(numbers::proofs::Refusing::tested), unfolding(crate::specs::Reach::nearest_call, crate::specs::Reach::nearest_causes, crate::specs::Reach::nearest_of))]
+pub fn nearest(
+    ynd: Ynd,
+    nodes: &[NodeWords],
+    x: i16,
+    y: i16,
+) -> Result<Option<NearestNode>, Refusal>
     ensures { result ≡ nearest_call ynd nodes.now x y }
 {
     let n = ynd.node_count as usize;
     if over_limit(ynd) {
-        return NearestNode::Refused(14, 0);
+        return Err(Refusal::AtLimit);
     }
     if nodes.len() < n {
-        return NearestNode::Refused(7, 0);
+        return Err(Refusal::TooShort(Lent::Nodes));
     }
     if n == 0 {
-        return NearestNode::Nothing;
+        return Ok(None);
     }
-    nearest_of(nodes, n, raised(x), raised(y))
+    Ok(Some(Point::new(&nodes[..n], x, y).nearest_of()))
 }

@@ -1,5 +1,4 @@
 pub mod LittleEndian
-pub mod Windows
 pub mod Shape
 pub mod RecordBack
 pub mod RootBack

@@ -11,9 +11,12 @@ use lib.ListN.{length, get_or, take, drop, length-append, get_or-append}
 use lib.Seq.{get_or-append-add, get_or-drop, get_or-take}
 use borrow.Author.Tests.{lt-ltb, le-ltb, ltb-true, ltb-false}
 use lib.Signed.{mag}
-use mir.Syntax.{w16}
-use mir.Val.{to_z, of_z}
+use mir.Syntax.{w8, w16, w32, w64}
 use mir.ValLaws.{to_z-of_z}
+use Rattle.records.specs.Put.{put}
+use mir.Val.{Fits, sel, to_z, of_z}
+use Rattle.std.specs.Int.{to_le_bytes}
+use Rattle.records.specs.StoredLaws.{bytes_long}
 use Rattle.records.specs.Bytes.{byte_at, number_at, number_bytes, bytes16, signed16, bits16}
 
 -- ---- a number and its bytes
@@ -46,9 +49,7 @@ number_split (suc a) b s at =
     ∙ omega (arith, high)
 
 pub bytes_length : (w n : ℕ) → length (number_bytes w n) ≡ w
-unfolding number_bytes
-bytes_length zero n = refl
-bytes_length (suc w) n = ap suc (bytes_length w (n / 256))
+bytes_length = bytes_long
 
 -- the bytes of a number in two parts, the low one first
 pub bytes_join : (a b low high : ℕ) → low < 256 ^ a → number_bytes (a + b) (low + high * 256 ^ a) ≡ number_bytes a low ++ number_bytes b high
@@ -124,6 +125,57 @@ signed_back (negsuc n) h =
     let same : 65535 - (65535 - n) ≡ n = omega arith in
     rw (le-ltb (65535 - n) 32768 over) (ap negsuc same)
 
--- a field with a sign: the bytes of its bits, as the code has the number
-pub signed_bytes : {b : List ℕ} {n : ℕ} (z : ℤ) → mag z < 32768 → b ≡ bytes16 n → n ≡ bits16 (to_z w16 (of_z w16 z)) → b ≡ bytes16 (bits16 z)
-signed_bytes z h e f = e ∙ ap bytes16 (f ∙ ap bits16 (to_z-of_z w16 z (record { sfits = h })))
+-- ---- as the code reads and writes them
+
+-- the bytes of a slice are bytes
+abbrev pub AreBytes : List ℕ → Type 0
+AreBytes s = (k : ℕ) → Fits w8 (get_or s k 0)
+
+pub reads16 : (s : List ℕ) (at : ℕ) → AreBytes s → get_or s at 0 + get_or s (at + 1) 0 * 256 ≡ number_at 2 s at
+unfolding number_at
+reads16 s at h = omega (arith, (h at).fits, (h (at + 1)).fits)
+
+pub reads32 : (s : List ℕ) (at : ℕ) → AreBytes s
+    → get_or s at 0 + get_or s (at + 1) 0 * 256 + get_or s (at + 2) 0 * 65536 + get_or s (at + 3) 0 * 16777216 ≡ number_at 4 s at
+reads32 s at h =
+    let next : at + 2 + 1 ≡ at + 3 = omega arith in
+    omega (arith, number_split 2 2 s at, reads16 s at h, reads16 s (at + 2) h, ap (λ (k : ℕ). get_or s k 0) next)
+
+pub signed_is : (n : ℕ) → to_z w16 n ≡ signed16 n
+unfolding signed16
+signed_is n = go (ltb n 32768)
+  where
+    go : (b : Bool) → sel b (pos n) (negsuc (65536 - suc n)) ≡ cond b (pos n) (negsuc (65535 - n))
+    go true = refl
+    go false = ap negsuc (omega arith)
+
+pub bits_is : (z : ℤ) → of_z w16 z ≡ bits16 z
+unfolding bits16
+bits_is (pos n) = refl
+bits_is (negsuc n) = omega arith
+
+pub le_bytes16 : (n : ℕ) → to_le_bytes w16 n ≡ number_bytes 2 n
+unfolding number_bytes
+le_bytes16 n = refl
+
+pub le_bytes32 : (n : ℕ) → to_le_bytes w32 n ≡ number_bytes 4 n
+unfolding number_bytes
+le_bytes32 n =
+    let b2 : n / 65536 % 256 ≡ n / 256 / 256 % 256 = omega arith in
+    let b3 : n / 16777216 % 256 ≡ n / 256 / 256 / 256 % 256 = omega arith in
+    λ i. n % 256 ∷ n / 256 % 256 ∷ b2 i ∷ b3 i ∷ []
+
+pub le_bytes64 : (n : ℕ) → to_le_bytes w64 n ≡ number_bytes 8 n
+unfolding number_bytes
+le_bytes64 n =
+    let b2 : n / 65536 % 256 ≡ n / 256 / 256 % 256 = omega arith in
+    let b3 : n / 16777216 % 256 ≡ n / 256 / 256 / 256 % 256 = omega arith in
+    let b4 : n / 4294967296 % 256 ≡ n / 256 / 256 / 256 / 256 % 256 = omega arith in
+    let b5 : n / 1099511627776 % 256 ≡ n / 256 / 256 / 256 / 256 / 256 % 256 = omega arith in
+    let b6 : n / 281474976710656 % 256 ≡ n / 256 / 256 / 256 / 256 / 256 / 256 % 256 = omega arith in
+    let b7 : n / 72057594037927936 % 256 ≡ n / 256 / 256 / 256 / 256 / 256 / 256 / 256 % 256 = omega arith in
+    λ i. n % 256 ∷ n / 256 % 256 ∷ b2 i ∷ b3 i ∷ b4 i ∷ b5 i ∷ b6 i ∷ b7 i ∷ []
+
+-- a field with a sign, as the code has the number
+pub signed_put : (z : ℤ) (l : List ℕ) (at : ℕ) {l' : List ℕ} → mag z < 32768 → l' ≡ put l at (bytes16 (bits16 (to_z w16 (of_z w16 z)))) → l' ≡ put l at (bytes16 (bits16 z))
+signed_put z l at h e = e ∙ ap (λ (y : ℤ). put l at (bytes16 (bits16 y))) (to_z-of_z w16 z (record { sfits = h }))

@@ -9,35 +9,35 @@ use Rattle.records.specs.Records.{junction_bytes}
 use Rattle.records.specs.Sections.{empty_part, located}
 use Rattle.records.specs.Layout.{gap_for, padded, lay, start_of, offset, total, address, sizes, places_of}
 use Rattle.records.specs.declared.section.Section.TheVariants.{Graphics}
-use Rattle.records.specs.declared.section.Located.TheVariants.{At, Bad}
+use Rattle.std.specs.Prelude.{Some, None}
 
 -- ---- section 1, in a system section of 112 bytes and a graphics section of 16
 
 -- 0x70000000 is no address of the graphics section
-seven : located 0x7000_0000 1 8 112 16 ≡ Bad
+seven : located 0x7000_0000 1 8 112 16 ≡ None
 unfolding located
 seven = refl
 
-six : located 0x6000_0008 1 8 112 16 ≡ At (record { section = Graphics; offset = 8; len = 8 })
+six : located 0x6000_0008 1 8 112 16 ≡ Some (record { section = Graphics; offset = 8; len = 8 })
 unfolding located
 six = refl
 
 -- one byte too far
-over : located 0x6000_0009 1 8 112 16 ≡ Bad
+over : located 0x6000_0009 1 8 112 16 ≡ None
 unfolding located
 over = refl
 
 -- bits 32 to 63
-high : located 0x1_5000_0000 1 8 112 16 ≡ Bad
+high : located 0x1_5000_0000 1 8 112 16 ≡ None
 unfolding located
 high = refl
 
 -- an empty array before any other check
-null : located 0 4294967295 40 112 16 ≡ At empty_part
+null : located 0 4294967295 40 112 16 ≡ Some empty_part
 unfolding located
 null = refl
 
-no_entries : located 0x7000_0000 0 40 112 16 ≡ At empty_part
+no_entries : located 0x7000_0000 0 40 112 16 ≡ Some empty_part
 unfolding located
 no_entries = refl
 

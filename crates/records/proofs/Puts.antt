@@ -1,21 +1,36 @@
 -- Laws of `put`: what is put in parts is put whole.
-use Prim.Native.Nat.{ℕ, ◌+◌, ◌*◌, ◌≤◌, ◌<◌}
+use Prim.Native.Nat.{ℕ, ◌+◌, ◌-◌, ◌*◌, ◌≤◌, ◌<◌}
 use native.Mathlib.Omega.{arith}
 use native.Mathlib.Nat.{add-zero, zero-add}
 use native.Mathlib.Numerals.{add-one}
-use mathlib.Core.Path.{◌≡◌, ap, sym, ◌∙◌}
+use mathlib.Core.Path.{◌≡◌, refl, ap, sym, ◌∙◌}
 use mathlib.Core.List.{List, [], ◌∷◌, ◌++◌, append_assoc, append-nil}
-use lib.ListN.{length, get_or, set, take, drop, length-append, length-drop, take-append-drop, drop_of_length-le}
-use borrow.Author.Tests.{le-leb, lt-leb}
+use lib.ListN.{length, get_or, set, take, drop, length-append, length-drop, length-set, take-append-drop, drop_of_length-le}
+use borrow.Author.Tests.{le-leb, lt-leb, leb-true, leb-false}
+use borrow.Rule.Slice.PartMut.{put_mid}
+use mathlib.Core.Bool.{Bool, true, false, cond}
+use lib.Dec.{leb}
+use Rattle.std.proofs.lemmas.List.{set-append_left}
 use lib.Seq.{length-take-le, take_at, drop-append-add, drop-drop, set_split, drop-cons, append_snoc}
-use Rattle.records.specs.Put.{put, put_in, stored_to, joined}
-use Rattle.records.specs.declared.put.Stored.TheVariants.{Done, Refused}
+use Rattle.records.specs.Put.{put, put_in, end_inside, joined}
+use Rattle.std.specs.Prelude.{Ok, Err}
+use Rattle.numbers.specs.declared.refusal.Refusal.{Refusal}
+use Rattle.numbers.specs.declared.refusal.Lent.TheVariants as lent
+use Rattle.numbers.specs.declared.refusal.Refusal.TheVariants.{TooShort}
 
-pub stored_in : (end len : ℕ) → end ≤ len → Done ≡ stored_to end len
-stored_in end len h = rw (le-leb end len h)
+pub end_found : (at count len end : ℕ) → Ok end ≡ end_inside at count len → (end ≡ at + count) × (at + count ≤ len)
+end_found at count len end e = go (leb (at + count) len) refl e
+  where
+    go : (b : Bool) → leb (at + count) len ≡ b → Ok end ≡ cond b (Ok (at + count)) (Err (TooShort lent.Section)) → (end ≡ at + count) × (at + count ≤ len)
+    go true h e = (cc, leb-true (at + count) len h)
+    go false h e = cc
 
-pub stored_out : (end len : ℕ) → len < end → Refused 7 5 ≡ stored_to end len
-stored_out end len h = rw (lt-leb end len h)
+pub end_outside : (at count len : ℕ) (r : Refusal) → Err r ≡ end_inside at count len → len < at + count
+end_outside at count len r e = go (leb (at + count) len) refl e
+  where
+    go : (b : Bool) → leb (at + count) len ≡ b → Err r ≡ cond b (Ok (at + count)) (Err (TooShort lent.Section)) → len < at + count
+    go true h e = cc
+    go false h e = leb-false (at + count) len h
 
 module _ {A : Type 0} where
   -- the front of what was put has the length that it should
@@ -51,13 +66,17 @@ module _ {A : Type 0} where
   unfolding put
   put_start l x = ap (λ (k : ℕ). x ++ drop k l) (zero-add (length x))
 
-  -- two parts that are put over a whole list
-  pub put_whole : (l x y : List A) (n : ℕ) → length x ≡ n → length l ≡ n + length y → put (put l 0 x) n y ≡ x ++ y
-  put_whole l x y n e f =
-      let next : n ≡ 0 + length x = omega arith in
-      let all : length l ≤ length (x ++ y) = omega (arith, length-append x y) in
-      ap (λ (k : ℕ). put (put l 0 x) k y) next ∙ put_put l 0 x y (omega arith) ∙ put_start l (x ++ y)
-      ∙ ap (λ (r : List A). x ++ y ++ r) (drop_of_length-le l all) ∙ append-nil (x ++ y)
+  -- as much as the whole list
+  pub put_over : (l x : List A) → length l ≡ length x → put l 0 x ≡ x
+  put_over l x e = put_start l x ∙ ap (λ (r : List A). x ++ r) (drop_of_length-le l {i = length x} (omega arith)) ∙ append-nil x
+
+  -- what stands in the part from `at` to `e`, once the part is back
+  pub put_part : (l : List A) (at e : ℕ) (x y : List A) → y ≡ x → e ≡ at + length x → put_mid at (e - at) l y ≡ put l at x
+  unfolding put
+  put_part l at e x y same h =
+      let long : e - at ≡ length x = omega arith in
+      (λ i. take at l ++ (same i ++ drop (long i) (drop at l))) ∙ ap (λ (z : List A). take at l ++ (x ++ z)) (drop-drop (length x) at l)
+      ∙ sym (append_assoc (take at l) x (drop (at + length x) l))
 
   pub length_put : (l : List A) (at : ℕ) (x : List A) → at + length x ≤ length l → length (put l at x) ≡ length l
   unfolding put
@@ -66,6 +85,16 @@ module _ {A : Type 0} where
   pub set_put : (l : List A) (i : ℕ) (a : A) → i < length l → set l i a ≡ put l i (a ∷ [])
   unfolding put
   set_put l i a h = set_split l i a h ∙ ap (λ (k : ℕ). take i l ++ a ∷ drop k l) (sym (add-one i)) ∙ sym (append_snoc (take i l) a (drop (i + 1) l))
+
+  -- one element of what was put
+  pub set_inside : (l x : List A) (i : ℕ) (v : A) → i < length x → set (put l 0 x) i v ≡ put l 0 (set x i v)
+  set_inside l x i v h =
+      ap (λ (z : List A). set z i v) (put_start l x) ∙ set-append_left x (drop (length x) l) i v h
+      ∙ (λ j. set x i v ++ drop (sym (length-set x i v) j) l) ∙ sym (put_start l (set x i v))
+
+  -- a part that is inside has as many elements
+  pub part_long : (l : List A) (at n : ℕ) → at + n ≤ length l → length (take n (drop at l)) ≡ n
+  part_long l at n h = length-take-le n (drop at l) (omega (arith, length-drop at l))
 
   -- a turn of a loop that puts: x is put into the list as it stands, and what is left is put behind it
   pub turn : (l₀ l l' : List A) (at p q : ℕ) (x rest whole : List A) → put l p (x ++ rest) ≡ put l₀ at whole → l' ≡ put l p x → q ≡ p + length x → p ≤ length l

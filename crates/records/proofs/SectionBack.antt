@@ -12,8 +12,8 @@ use Rattle.records.specs.Layout.{pages, header_size, header_bytes, lay, offset, 
 use Rattle.records.specs.declared.root.Root.{Root}
 use Rattle.records.specs.declared.section.Section.TheVariants.{System}
 use Rattle.records.specs.declared.section.Part.{Part}
-use Rattle.records.specs.declared.section.Located.{Located}
-use Rattle.records.specs.declared.section.Located.TheVariants.{At}
+use Rattle.std.specs.Prelude.{Option}
+use Rattle.std.specs.Prelude.{Some}
 use Rattle.records.proofs.Laid.{past, none_at, within, section_length, found_in}
 use Rattle.records.proofs.RootBack.{RootFits, root_back}
 
@@ -22,7 +22,7 @@ system_part offset len = record { section = System; offset = offset; len = len }
 
 -- an address of the system section, for an array that ends inside
 pub located_here : (o count width n g : ℕ) → o + count * width ≤ n → n ≤ 0x1000_0000 → (count * width ≡ 0 → ⊥)
-    → located (0x50000000 + o) count width n g ≡ At (system_part o (count * width))
+    → located (0x50000000 + o) count width n g ≡ Some (system_part o (count * width))
 unfolding located
 located_here o count width n g inside small some =
     let a = 0x50000000 + o in
@@ -36,7 +36,7 @@ located_here o count width n g inside small some =
       eq-eqb (bit_and a 0xF000_0000) 0x5000_0000 base,
       le-leb (a % 0x1000_0000 + count * width) n (omega arith),
     )
-    (ap (λ (k : ℕ). At (system_part k (count * width))) rest)
+    (ap (λ (k : ℕ). Some (system_part k (count * width))) rest)
 
 module _ (r : Root) (bs : List (List ℕ)) (small : length (section_bytes r bs) ≤ 0x1000_0000) where
   -- where block i lies
@@ -51,19 +51,19 @@ module _ (r : Root) (bs : List (List ℕ)) (small : length (section_bytes r bs) 
 
   -- its address names that part
   pub located_back : (i count width g : ℕ) → length (get_or bs i []) ≡ count * width
-      → located (address (offset header_size (map length bs) i)) count width (length (section_bytes r bs)) g ≡ At (block_part i)
+      → located (address (offset header_size (map length bs) i)) count width (length (section_bytes r bs)) g ≡ Some (block_part i)
   unfolding address located
   located_back i count width g long = go (length (get_or bs i [])) refl
     where
-      go : (n : ℕ) → length (get_or bs i []) ≡ n → located (address (offset header_size (map length bs) i)) count width (length (section_bytes r bs)) g ≡ At (block_part i)
+      go : (n : ℕ) → length (get_or bs i []) ≡ n → located (address (offset header_size (map length bs) i)) count width (length (section_bytes r bs)) g ≡ Some (block_part i)
       go zero e =
           let none : offset header_size (map length bs) i ≡ 0 = none_at header_size (map length bs) i (size i ∙ e) in
-          (λ k. located (address (none k)) count width (length (section_bytes r bs)) g) ∙ (λ k. At (system_part (sym none k) (sym e k)))
+          (λ k. located (address (none k)) count width (length (section_bytes r bs)) g) ∙ (λ k. Some (system_part (sym none k) (sym e k)))
       go (suc n) e =
           let o = offset header_size (map length bs) i in
           let far : header_size ≤ o = past header_size (map length bs) i (λ z. omega (arith, size i)) in
           rw (ne_eqb o 0 (λ z. omega arith))
-          (located_here o count width (length (section_bytes r bs)) g (omega (arith, block_inside i)) small (λ z. omega arith) ∙ ap (λ (k : ℕ). At (system_part o k)) (sym long))
+          (located_here o count width (length (section_bytes r bs)) g (omega (arith, block_inside i)) small (λ z. omega arith) ∙ ap (λ (k : ℕ). Some (system_part o k)) (sym long))
 
   -- and that part is the block
   pub bytes_back : (i : ℕ) (g : List ℕ) → bytes_of (block_part i) (section_bytes r bs) g ≡ get_or bs i []
@@ -75,7 +75,7 @@ module _ (r : Root) (bs : List (List ℕ)) (small : length (section_bytes r bs) 
   pub array_back : (i count width : ℕ) (g : List ℕ) → length (get_or bs i []) ≡ count * width
       → array_at (address (offset header_size (map length bs) i)) count width (section_bytes r bs) g ≡ get_or bs i []
   unfolding array_at
-  array_back i count width g long = ap (λ (l : Located). part_bytes l (section_bytes r bs) g) (located_back i count width (length g) long) ∙ bytes_back i g
+  array_back i count width g long = ap (λ (l : Option Part). part_bytes l (section_bytes r bs) g) (located_back i count width (length g) long) ∙ bytes_back i g
 
 -- the root is read back from the section
 pub root_in : (r : Root) (bs : List (List ℕ)) (rest : List ℕ) → RootFits r → root_of (section_bytes r bs ++ rest) ≡ r

@@ -5,3 +5,4 @@ pub mod Root
 pub mod Records
 pub mod Put
 pub mod Layout
+pub mod StoredLaws

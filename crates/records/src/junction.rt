@@ -1,8 +1,11 @@
 // A junction record, 12 bytes.
 ghost use Rattle.std.specs.Prelude.{◌≡◌};
+ghost use Rattle.std.proofs.Common.{rules};
 ghost use Rattle.records.specs.Records.{junction_at, junction_bytes};
+ghost use Rattle.records.specs.StoredLaws.{junction_same, junction_long};
 
-use crate::bytes::{bits, byte_at, bytes2, i16_from, u16_from};
+use crate::layout::JUNCTION_SIZE;
+use crate::stored::{Stored, bytes_of, stored_at};
 
 #[derive(Clone, Copy)]
 pub struct NodeJunction {
@@ -15,43 +18,55 @@ pub struct NodeJunction {
     pub heightmap_dim_y: u8,
 }
 
+impl Stored for NodeJunction {
+    const SIZE: usize = JUNCTION_SIZE;
+
+    ghost SIZE = { 12 };
+
+    ghost value_at = { junction_at };
+
+    ghost bytes = { junction_bytes };
+
+    ghost small = { Prim.search rules };
+
+    ghost long = { junction_long };
+
+    ghost same = { junction_same };
+
+    #[tactic(auto, unfolding(crate::specs::Records::junction_at))]
+    fn read(s: &[u8], at: usize) -> NodeJunction {
+        NodeJunction {
+            max_z: i16::read(s, at),
+            position_x: i16::read(s, at + 2),
+            position_y: i16::read(s, at + 4),
+            min_z: i16::read(s, at + 6),
+            heightmap_ptr: u16::read(s, at + 8),
+            heightmap_dim_x: u8::read(s, at + 10),
+            heightmap_dim_y: u8::read(s, at + 11),
+        }
+    }
+
+    fn write(self, section: &mut [u8], at: usize) {
+        self.max_z.write(section, at);
+        self.position_x.write(section, at + 2);
+        self.position_y.write(section, at + 4);
+        self.min_z.write(section, at + 6);
+        self.heightmap_ptr.write(section, at + 8);
+        self.heightmap_dim_x.write(section, at + 10);
+        self.heightmap_dim_y.write(section, at + 11);
+    }
+}
+
 // The junction at a place of a section.
 pub fn junction_at(s: &[u8], at: u32) -> NodeJunction
     ensures { result ≡ junction_at s.now at }
 {
-    let i = at as usize;
-    NodeJunction {
-        max_z: i16_from(s, i),
-        position_x: i16_from(s, i + 2),
-        position_y: i16_from(s, i + 4),
-        min_z: i16_from(s, i + 6),
-        heightmap_ptr: u16_from(s, i + 8),
-        heightmap_dim_x: byte_at(s, i + 10),
-        heightmap_dim_y: byte_at(s, i + 11),
-    }
+    stored_at(s, at as usize)
 }
 
 // A junction as written.
 pub fn junction_bytes(j: NodeJunction) -> [u8; 12]
     ensures { result ≡ junction_bytes j }
 {
-    let max = bytes2(bits(j.max_z));
-    let x = bytes2(bits(j.position_x));
-    let y = bytes2(bits(j.position_y));
-    let min = bytes2(bits(j.min_z));
-    let p = bytes2(j.heightmap_ptr);
-    [
-        max[0],
-        max[1],
-        x[0],
-        x[1],
-        y[0],
-        y[1],
-        min[0],
-        min[1],
-        p[0],
-        p[1],
-        j.heightmap_dim_x,
-        j.heightmap_dim_y,
-    ]
+    bytes_of(j)
 }

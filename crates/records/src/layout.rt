@@ -1,11 +1,12 @@
 // Where the blocks of a written section lie.
-ghost use Rattle.std.specs.Prelude.{◌≡◌, [], ◌∷◌, ◌+◌, ◌≤◌, length};
+ghost use Rattle.std.specs.Prelude.{◌≡◌, ◌+◌, ◌≤◌, length};
 ghost use Rattle.records.specs.Layout.{gap_for, start_of, end_of, address, sizes, places_of, header_size};
 ghost use Rattle.records.specs.Layout.{header_bytes};
 ghost use Rattle.records.specs.Put.{put_in, stored_to};
 
-use crate::put::{Stored, copy_words, copy_zeros};
 use crate::root::{Root, root_words};
+use crate::stored::Stored;
+use numbers::refusal::{Lent, Refusal};
 
 pub const REF_SIZE: usize = 8;
 
@@ -34,48 +35,27 @@ pub struct Places {
 }
 
 // How many zeros stand before a block of that size, when the one before it ends at `at`.
+#[tactic(auto, unfolding(crate::specs::Layout::gap_for))]
 pub fn gap_for(at: usize, size: usize) -> usize
     ensures { result ≡ gap_for at size }
 {
+    if size == 0 { 0 } else { (16 - at % 16) % 16 }
+}
+
+// Lays a block of that size behind the one that ends at `end`: its address, 0 for an empty one.
+fn lay(end: &mut usize, size: usize) -> u64
+    requires at { 1152 ≤ end.old }
+    requires small { end.old + size ≤ 4611686018427387904 }
+    ensures address { result ≡ address (start_of end.old size) }
+    ensures end { end.new ≡ end_of end.old size }
+    ensures near { end.new ≤ end.old + 15 + size }
+{
+    let start = *end + gap_for(*end, size);
+    *end = start + size;
     if size == 0 {
-        return 0;
-    }
-    (16 - at % 16) % 16
-}
-
-fn end_of(at: usize, size: usize) -> usize
-    requires { at + size ≤ 4611686018427387904 }
-    ensures { (result ≡ end_of at size) × (result ≤ at + 15 + size) }
-{
-    at + gap_for(at, size) + size
-}
-
-fn address_of(at: usize, size: usize) -> u64
-    requires { (at + size ≤ 4611686018427387904) × (1152 ≤ at) }
-    ensures { result ≡ address (start_of at size) }
-{
-    if size == 0 {
-        return 0;
-    }
-    SYSTEM_BASE + (at + gap_for(at, size)) as u64
-}
-
-fn lay_sizes(refs: usize, heightmap: usize, junctions: usize, links: usize, nodes: usize) -> Places
-    requires { refs + heightmap + junctions + links + nodes ≤ 1152921504606846976 }
-    ensures { result ≡ places_of (refs ∷ heightmap ∷ junctions ∷ links ∷ nodes ∷ []) }
-{
-    let a = end_of(HEADER_SIZE, refs);
-    let b = end_of(a, heightmap);
-    let c = end_of(b, junctions);
-    let d = end_of(c, links);
-    let e = end_of(d, nodes);
-    Places {
-        refs: address_of(HEADER_SIZE, refs),
-        heightmap: address_of(a, heightmap),
-        junctions: address_of(b, junctions),
-        links: address_of(c, links),
-        nodes: address_of(d, nodes),
-        total: e,
+        0
+    } else {
+        SYSTEM_BASE + start as u64
     }
 }
 
@@ -83,27 +63,30 @@ fn lay_sizes(refs: usize, heightmap: usize, junctions: usize, links: usize, node
 pub fn lay_out(refs: u32, heightmap: u32, junctions: u32, links: u32, nodes: u32) -> Places
     ensures { result ≡ places_of (sizes refs heightmap junctions links nodes) }
 {
-    lay_sizes(
-        refs as usize * REF_SIZE,
-        heightmap as usize,
-        junctions as usize * JUNCTION_SIZE,
-        links as usize * LINK_SIZE,
-        nodes as usize * NODE_SIZE,
-    )
+    let mut end = HEADER_SIZE;
+    Places {
+        refs: lay(&mut end, refs as usize * REF_SIZE),
+        heightmap: lay(&mut end, heightmap as usize),
+        junctions: lay(&mut end, junctions as usize * JUNCTION_SIZE),
+        links: lay(&mut end, links as usize * LINK_SIZE),
+        nodes: lay(&mut end, nodes as usize * NODE_SIZE),
+        total: end,
+    }
 }
 
 // The root and the page block, at the section's start. Nothing is stored in a section that is too short for them.
-pub fn put_header(section: &mut [u8], root: Root) -> Stored
+pub fn put_header(section: &mut [u8], root: Root) -> Result<(), Refusal>
     ensures section_after { section.new ≡ put_in section.old 0 (header_bytes root) }
     ensures value { result ≡ stored_to header_size (length section.old) }
 {
     if section.len() < HEADER_SIZE {
-        return Stored::Refused(7, 5);
+        return Err(Refusal::TooShort(Lent::Section));
     }
     let words = root_words(root);
-    copy_words(section, 0, &words);
-    copy_zeros(section, ROOT_SIZE, 8);
-    section[120] = 128;
-    copy_zeros(section, 121, 1031);
-    Stored::Done
+    for (i, word) in words.iter().enumerate() {
+        word.write(section, 4 * i);
+    }
+    section[ROOT_SIZE..HEADER_SIZE].fill(0);
+    section[ROOT_SIZE + 8] = 128;
+    Ok(())
 }

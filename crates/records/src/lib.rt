@@ -11,3 +11,4 @@ pub mod node;
 pub mod put;
 pub mod root;
 pub mod section;
+mod stored;

@@ -1,77 +1,35 @@
 // Bytes put into a lent section. Where they don't end inside, nothing is stored, and the answer says so.
-ghost use Rattle.std.specs.Prelude.{◌≡◌, ◌+◌, ◌*◌, ◌≤◌, length, replicate};
-ghost use Rattle.records.specs.Bytes.{bytes32};
-ghost use Rattle.records.specs.Put.{put, put_in, stored_to, joined};
+ghost use Rattle.std.specs.Prelude.{◌≡◌, ◌+◌, length, replicate};
+ghost use Rattle.records.specs.Put.{put_in, stored_to, end_inside};
 
-use crate::bytes::bytes4;
+use numbers::refusal::{Lent, Refusal};
 
-// Refused with 7 at 5, a section that is too short.
-#[derive(Clone, Copy)]
-pub enum Stored {
-    Done,
-    Refused(u32, usize),
-}
-
-pub(crate) fn copy_bytes(section: &mut [u8], at: usize, bytes: &[u8])
-    requires { at + length bytes.now ≤ length section.old }
-    ensures { section.new ≡ put section.old at bytes.now }
+// Where so many bytes from a place on end, in a section of `len` bytes.
+fn end_inside(at: usize, count: usize, len: usize) -> Result<usize, Refusal>
+    ensures { result ≡ end_inside at count len }
 {
-    let mut i = 0;
-    while i < bytes.len() {
-        section[at + i] = bytes[i];
-        i += 1;
-    }
-}
-
-pub(crate) fn copy_zeros(section: &mut [u8], at: usize, count: usize)
-    requires { at + count ≤ length section.old }
-    ensures { section.new ≡ put section.old at (replicate count 0) }
-{
-    let mut i = 0;
-    while i < count {
-        section[at + i] = 0;
-        i += 1;
-    }
-}
-
-pub(crate) fn copy_words(section: &mut [u8], at: usize, words: &[u32])
-    requires { at + 4 * length words.now ≤ length section.old }
-    ensures { section.new ≡ put section.old at (joined bytes32 words.now) }
-{
-    let mut i = 0;
-    while i < words.len() {
-        let b = bytes4(words[i]);
-        copy_bytes(section, at + 4 * i, &b);
-        i += 1;
+    match at.checked_add(count) {
+        Some(end) if end <= len => Ok(end),
+        _ => Err(Refusal::TooShort(Lent::Section)),
     }
 }
 
 // The bytes of one slice, over those of the section from `at` on.
-pub fn put_bytes(section: &mut [u8], at: usize, bytes: &[u8]) -> Stored
+pub fn put_bytes(section: &mut [u8], at: usize, bytes: &[u8]) -> Result<(), Refusal>
     ensures section_after { section.new ≡ put_in section.old at bytes.now }
     ensures value { result ≡ stored_to (at + length bytes.now) (length section.old) }
 {
-    if section.len() < at {
-        return Stored::Refused(7, 5);
-    }
-    if section.len() - at < bytes.len() {
-        return Stored::Refused(7, 5);
-    }
-    copy_bytes(section, at, bytes);
-    Stored::Done
+    let end = end_inside(at, bytes.len(), section.len())?;
+    section[at..end].copy_from_slice(bytes);
+    Ok(())
 }
 
 // Zeros, over the section's bytes from `at` on.
-pub fn put_zeros(section: &mut [u8], at: usize, count: usize) -> Stored
+pub fn put_zeros(section: &mut [u8], at: usize, count: usize) -> Result<(), Refusal>
     ensures section_after { section.new ≡ put_in section.old at (replicate count 0) }
     ensures value { result ≡ stored_to (at + count) (length section.old) }
 {
-    if section.len() < at {
-        return Stored::Refused(7, 5);
-    }
-    if section.len() - at < count {
-        return Stored::Refused(7, 5);
-    }
-    copy_zeros(section, at, count);
-    Stored::Done
+    let end = end_inside(at, count, section.len())?;
+    section[at..end].fill(0);
+    Ok(())
 }

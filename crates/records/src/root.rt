@@ -2,7 +2,7 @@
 ghost use Rattle.std.specs.Prelude.{◌≡◌, ◌*◌, ◌/◌, ◌%◌};
 ghost use Rattle.records.specs.Root.{root_of, root_words};
 
-use crate::cursor::{next_u16, next_u32, next_u64, skip, start};
+use crate::cursor::Cursor;
 
 // The root's own words, and where each array lies.
 #[derive(Clone, Copy)]
@@ -28,28 +28,28 @@ pub struct Root {
 pub fn root_of(s: &[u8]) -> Root
     ensures { result ≡ root_of s.now }
 {
-    let mut c = start(s);
-    let vft = next_u32(&mut c);
-    skip(&mut c, 12);
-    let nodes = next_u64(&mut c);
-    let node_count = next_u32(&mut c);
-    let vehicle_node_count = next_u32(&mut c);
-    let ped_node_count = next_u32(&mut c);
-    let unk24 = next_u32(&mut c);
-    let links = next_u64(&mut c);
-    let link_count = next_u32(&mut c);
-    let unk34 = next_u32(&mut c);
-    let junctions = next_u64(&mut c);
-    let heightmap = next_u64(&mut c);
-    let unk48 = next_u32(&mut c);
-    let unk4c = next_u32(&mut c);
-    let refs = next_u64(&mut c);
-    skip(&mut c, 2);
-    let ref_count = next_u16(&mut c);
-    let unk5c = next_u32(&mut c);
-    let junction_count = next_u32(&mut c);
-    let heightmap_count = next_u32(&mut c);
-    let unk68 = next_u32(&mut c);
+    let mut c = Cursor::new(s);
+    let vft = c.next();
+    c.skip(12);
+    let nodes = c.next();
+    let node_count = c.next();
+    let vehicle_node_count = c.next();
+    let ped_node_count = c.next();
+    let unk24 = c.next();
+    let links = c.next();
+    let link_count = c.next();
+    let unk34 = c.next();
+    let junctions = c.next();
+    let heightmap = c.next();
+    let unk48 = c.next();
+    let unk4c = c.next();
+    let refs = c.next();
+    c.skip(2);
+    let ref_count = c.next();
+    let unk5c = c.next();
+    let junction_count = c.next();
+    let heightmap_count = c.next();
+    let unk68 = c.next();
     Root {
         vft,
         nodes,
@@ -64,7 +64,7 @@ pub fn root_of(s: &[u8]) -> Root
         ref_count,
         junction_count,
         heightmap_count,
-        unknowns: [unk24, unk34, unk48, unk4c, unk5c, unk68, next_u32(&mut c)],
+        unknowns: [unk24, unk34, unk48, unk4c, unk5c, unk68, c.next()],
     }
 }
 
@@ -77,7 +77,7 @@ fn low32(n: u64) -> u32
 fn high32(n: u64) -> u32
     ensures { result ≡ n / 4294967296 }
 {
-    (n / 4294967296) as u32
+    (n >> 32) as u32
 }
 
 // The same 16 bits in both halves of a word.

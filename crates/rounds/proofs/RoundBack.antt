@@ -16,12 +16,14 @@ use Rattle.records.proofs.LittleEndian.{Stands, stands_start, stands_first, stan
 use Rattle.records.proofs.LittleEndian.{number_below}
 use Rattle.records.proofs.Puts.{put_start, split}
 use Rattle.cells.proofs.Sequences.Tests.{and_left, and_right, by_test, true_false}
-use Rattle.cells.specs.declared.write.Written.TheVariants as wrote
 use Rattle.rounds.specs.declared.file.Version.TheVariants.{One}
 use Rattle.rounds.specs.Round.{head_bytes, rest_bytes, file_bytes, round_bytes, RoundLeft, round_left}
 use Rattle.rounds.specs.Round.{has_version, rest_read, round_read, written, written_left}
-use Rattle.rounds.specs.declared.file.RoundRead.TheVariants as round
 use Rattle.rounds.proofs.Files.{rest_is, front_long, file_long, write_is, wrote_is}
+use Rattle.std.specs.Prelude.{Result, Ok}
+use Rattle.numbers.specs.declared.refusal.Refusal.{Refusal}
+use Rattle.numbers.proofs.Refusing.{not_refused}
+use Rattle.rounds.specs.declared.file.Round.{Round}
 
 -- what was put first is taken back
 put_taken : (l x : List ℕ) (n : ℕ) → length x ≡ n → take n (put l 0 x) ≡ x
@@ -58,12 +60,12 @@ module _ (head : List ℕ) (start : ℕ) (choices room : List ℕ)
       ∙ stands_next file (length head) (bytes16 start) (bytes16 (length choices)) at_head k h)
 
   pub rest_back : rest_read (length head) file room
-      ≡ round_left (round.Round start (length choices)) (put room 0 choices)
+      ≡ round_left (Ok (record { start = start; count = length choices })) (put room 0 choices)
   unfolding file_bytes
   rest_back =
       rest_is (length head) file room (length choices) (sym rest_count) (omega (arith, file_long head start choices))
       (file_long head start choices) enough
-      ∙ (λ i. round_left (round.Round (rest_start i) (length choices))
+      ∙ (λ i. round_left (Ok (record { start = rest_start i; count = length choices }))
       (put room 0 (drop_at front choices (length head + 4) (front_long head start choices) i)))
 
 has_one : (start : ℕ) (choices : List ℕ) → has_version 1 (round_bytes start choices) ≡ true
@@ -73,16 +75,16 @@ has_one start choices = rw (le-ltb (length (round_bytes start choices)) 5 (omega
 -- T-03: "Reading a written round gives the same round"
 pub read_written : (start : ℕ) (choices room : List ℕ) → start < 65536 → length choices < 65536
     → length choices ≤ length room
-    → round_read (round_bytes start choices) room ≡ round_left (round.Round start (length choices)) (put room 0 choices)
+    → round_read (round_bytes start choices) room ≡ round_left (Ok (record { start = start; count = length choices })) (put room 0 choices)
 unfolding round_read head_bytes
 read_written start choices room small few enough =
     rw (has_one start choices) (rest_back (head_bytes One) start choices room small few enough)
 
 -- the same at the calls: of whatever the writer accepts, the bytes that it answers for
 pub written_back : (start : ℕ) (choices file room : List ℕ) (n : ℕ) → start < 65536 → length choices ≤ length room
-    → (written (head_bytes One) start choices file).answer ≡ wrote.Wrote n
+    → (written (head_bytes One) start choices file).answer ≡ Ok n
     → round_read (take n (written (head_bytes One) start choices file).file) room
-    ≡ round_left (round.Round start (length choices)) (put room 0 choices)
+    ≡ round_left (Ok (record { start = start; count = length choices })) (put room 0 choices)
 written_back start choices file room n small enough h =
     let w = wrote_is (head_bytes One) start choices file n h in
     let few : length choices < 65536 = omega (arith, w.few) in
@@ -135,28 +137,28 @@ pub record Accepted (at : ℕ) (s room : List ℕ) (start count : ℕ) : Type 0 
   pub stored : (rest_read at s room).choices ≡ put room 0 (drop (at + 4) s)
   pub enough : le16 s (at + 2) ≤ length room
 
-pub refused_round : {P : Type 0} {number place p q : ℕ} → round.Refused number place ≡ round.Round p q → P
-refused_round e = let z : ◌≡◌ {A = ℕ} 0 1 = cc in absurd (omega arith)
+-- one answer, one round
+same_round : {r q : Round} → ◌≡◌ {A = Result Round Refusal} (Ok r) (Ok q) → r ≡ q
+same_round e = cc
 
 module _ (at : ℕ) (s room : List ℕ) (start count : ℕ)
-    (held : (rest_read at s room).answer ≡ round.Round start count) where
+    (held : (rest_read at s room).answer ≡ Ok (record { start = start; count = count })) where
   pub accepted : Accepted at s room start count
   unfolding rest_read
   accepted =
-      by_test (ltb (length s) (at + 4)) (λ e. refused_round (rw e at held)) (λ e.
+      by_test (ltb (length s) (at + 4)) (λ e. not_refused (rw e at held)) (λ e.
       by_test (eqb (length s) (at + 4 + le16 s (at + 2))) (λ f.
-      by_test (ltb (length room) (le16 s (at + 2))) (λ g. refused_round (rw (e, f, g) at held)) (λ g.
-      let same : round.Round (le16 s at) (le16 s (at + 2)) ≡ round.Round start count = rw (e, f, g) at held in
-      let same_start : start ≡ le16 s at = cc in
-      let same_count : count ≡ le16 s (at + 2) = cc in
+      by_test (ltb (length room) (le16 s (at + 2))) (λ g. not_refused (rw (e, f, g) at held)) (λ g.
+      let same : ◌≡◌ {A = Round} (record { start = le16 s at; count = le16 s (at + 2) }) (record { start = start; count = count })
+      = same_round (rw (e, f, g) at held) in
       record {
-        started = same_start;
-        counted = same_count;
+        started = ap (λ (r : Round). r.start) (sym same);
+        counted = ap (λ (r : Round). r.count) (sym same);
         long = eqb-true _ _ f;
         stored = rw (e, f, g);
         enough = ltb-false _ _ g;
       }))
-      (λ f. refused_round (rw (e, f) at held)))
+      (λ f. not_refused (rw (e, f) at held)))
 
   -- the choices that were stored
   abbrev pub chosen : List ℕ
@@ -187,16 +189,16 @@ module _ (at : ℕ) (s room : List ℕ) (start count : ℕ)
 
 -- ---- of the call: an accepted file s, read as this start and so many choices
 
-module _ (s room : List ℕ) (start count : ℕ) (held : (round_read s room).answer ≡ round.Round start count) where
+module _ (s room : List ℕ) (start count : ℕ) (held : (round_read s room).answer ≡ Ok (record { start = start; count = count })) where
   has : has_version 1 s ≡ true
   unfolding round_read
-  has = by_test (has_version 1 s) (λ e. e) (λ e. refused_round (rw e at held))
+  has = by_test (has_version 1 s) (λ e. e) (λ e. not_refused (rw e at held))
 
   is_rest : round_read s room ≡ rest_read 5 s room
   unfolding round_read
   is_rest = rw (has)
 
-  rest_held : (rest_read 5 s room).answer ≡ round.Round start count
+  rest_held : (rest_read 5 s room).answer ≡ Ok (record { start = start; count = count })
   rest_held = ap (λ (l : RoundLeft). l.answer) (sym is_rest) ∙ held
 
   -- the choices of the round
@@ -224,12 +226,12 @@ module _ (s room : List ℕ) (start count : ℕ) (held : (round_read s room).ans
 
   -- and at the writer's call, into any memory of that length or more
   pub file_written : Bytes s → (file : List ℕ) → length s ≤ length file
-      → written (head_bytes One) start choices_of file ≡ written_left (wrote.Wrote (length s)) (put file 0 s)
+      → written (head_bytes One) start choices_of file ≡ written_left (Ok (length s)) (put file 0 s)
   file_written b file fits =
       let same : round_bytes start choices_of ≡ s = sym (file_bytes_law b) in
       let room : length (round_bytes start choices_of) ≤ length file = rw same fits in
       write_is (head_bytes One) start choices_of file choices_few room
-      ∙ (λ i. written_left (wrote.Wrote (length (same i))) (put file 0 (same i)))
+      ∙ (λ i. written_left (Ok (length (same i))) (put file 0 (same i)))
 
 -- no two rounds share a file
 pub one_round : (p q : ℕ) (c d : List ℕ) → p < 65536 → q < 65536 → length c < 65536 → length d < 65536
@@ -237,17 +239,18 @@ pub one_round : (p q : ℕ) (c d : List ℕ) → p < 65536 → q < 65536 → len
 one_round p q c d fp fq fc fd e =
     let room = c ++ d in
     let long : length room ≡ length c + length d = length-append c d in
-    let l : round_left (round.Round p (length c)) (put room 0 c) ≡ round_left (round.Round q (length d)) (put room 0 d)
+    let l : round_left (Ok (record { start = p; count = length c })) (put room 0 c) ≡ round_left (Ok (record { start = q; count = length d })) (put room 0 d)
     = sym (read_written p c room fp fc (omega arith)) ∙ ap (λ (s : List ℕ). round_read s room) e
     ∙ read_written q d room fq fd (omega arith) in
-    let a : round.Round p (length c) ≡ round.Round q (length d) = ap (λ (x : RoundLeft). x.answer) l in
-    let n : length c ≡ length d = cc in
-    (cc, sym (put_taken room c (length c) refl) ∙ (λ i. take (n i) (l i).choices) ∙ put_taken room d (length d) refl)
+    let same : ◌≡◌ {A = Round} (record { start = p; count = length c }) (record { start = q; count = length d })
+    = same_round (ap (λ (x : RoundLeft). x.answer) l) in
+    let n : length c ≡ length d = ap (λ (r : Round). r.count) same in
+    (ap (λ (r : Round). r.start) same, sym (put_taken room c (length c) refl) ∙ (λ i. take (n i) (l i).choices) ∙ put_taken room d (length d) refl)
 
 -- two files of one round are equal, whatever memory they were read into
 pub one_file : (s t room other : List ℕ) (start count : ℕ) → Bytes s → Bytes t
-    → (e : (round_read s room).answer ≡ round.Round start count)
-    → (f : (round_read t other).answer ≡ round.Round start count)
+    → (e : (round_read s room).answer ≡ Ok (record { start = start; count = count }))
+    → (f : (round_read t other).answer ≡ Ok (record { start = start; count = count }))
     → take count (round_read s room).choices ≡ take count (round_read t other).choices → s ≡ t
 one_file s t room other start count b d e f same =
     file_bytes_law s room start count e b ∙ ap (round_bytes start) same ∙ sym (file_bytes_law t other start count f d)

@@ -8,7 +8,6 @@ use mathlib.Core.Path.{◌≡◌, sym, ap, ◌∙◌}
 use mathlib.Core.Bool.{true}
 use mathlib.Core.List.{List}
 use lib.ListN.{length, length-map, get_or-map}
-use Rattle.numbers.specs.declared.answer.Answer.TheVariants.{Done}
 use Rattle.cells.specs.Memory.{Memory}
 use Rattle.cells.specs.Read.{read_of}
 use Rattle.cells.specs.Cell.{Cell, Node, node_at, numbers, no_node}
@@ -30,6 +29,7 @@ use Rattle.walks.proofs.Routes.{move_route}
 use Rattle.walks.proofs.WalksAlike.{Lies, read_lies, run_lies, route_left}
 use Rattle.walks.proofs.Demand.{demand_3, walks_unnoticed}
 use Rattle.rounds.specs.Follow.{follow_round}
+use Rattle.std.specs.Prelude.{Ok}
 
 -- the number of the node at a place
 abbrev pub number_at : Memory → ℕ → ℕ
@@ -69,7 +69,7 @@ pub record Followed (first : Cell) (m : Memory) (calls : List Call) (choices : L
   pub same_shown : SameWalk (moved m calls) (walk first choices p)
       (walk (cell_of (run m calls)) choices (moved m calls p))
 
-module _ (system graphics : List ℕ) (lent : Memory) (e : (read_of system graphics lent).answer ≡ Done)
+module _ (system graphics : List ℕ) (lent : Memory) (e : (read_of system graphics lent).answer ≡ Ok tt)
     (s : sound (file_cell system graphics) ≡ true) (calls : List Call) where
   abbrev first : Memory
   first = (read_of system graphics lent).memory

@@ -1,13 +1,12 @@
 // The round file (T-03, T-11): the mark RND, a version, in version 2 an area, the start node's number, the count of
 // choices, then a byte a choice. What follows the head is read and written by functions that know no version.
 ghost use Rattle.std.specs.Prelude.{◌≡◌, ◌≤◌};
-ghost use Rattle.rounds.specs.Round.{head_bytes, rest_bytes, has_version, rest_read, round_read, round_left};
-ghost use Rattle.rounds.specs.Round.{written, written_left, with_version, version_read, version_left};
+ghost use Rattle.rounds.specs.Round.{head_bytes, has_version, rest_read, round_read, round_left};
+ghost use Rattle.rounds.specs.Round.{written, written_left, in_version, version_read, version_left};
 ghost use Rattle.rounds.specs.declared.file.Version.TheVariants.{One, Two};
 
-use cells::write::Written;
-use records::bytes::{byte_at, u16_at};
-use records::put::put_bytes;
+use numbers::refusal::{Lent, Refusal};
+use records::bytes::u16_at;
 
 // The version of a round file. Version 2 says of which area the round is.
 #[derive(Clone, Copy)]
@@ -16,18 +15,19 @@ pub enum Version {
     Two(u16),
 }
 
-// The start node's number and the count of choices.
+// A round as read: the start node's number, and how many choices.
 #[derive(Clone, Copy)]
-pub enum RoundRead {
-    Round(u16, usize),
-    Refused(u32, usize),
+pub struct Round {
+    pub start: u16,
+    pub count: usize,
 }
 
-// The same with the version.
+// The same, with the version that was found.
 #[derive(Clone, Copy)]
-pub enum VersionRead {
-    Round(Version, u16, usize),
-    Refused(u32, usize),
+pub struct VersionRound {
+    pub version: Version,
+    pub start: u16,
+    pub count: usize,
 }
 
 // ---- reading
@@ -36,145 +36,131 @@ pub enum VersionRead {
 fn has_version(file: &[u8], version: u16) -> bool
     ensures { result ≡ has_version version file.now }
 {
-    if file.len() < 5 {
-        return false;
-    }
-    if byte_at(file, 0) != 82 {
-        return false;
-    }
-    if byte_at(file, 1) != 78 {
-        return false;
-    }
-    if byte_at(file, 2) != 68 {
-        return false;
-    }
-    u16_at(file, 3) == version
+    5 <= file.len() && file.starts_with(b"RND") && u16_at(file, 3) == version
 }
 
 // Reads what follows a head of `at` bytes.
-fn read_rest(file: &[u8], at: u32, choices: &mut [u8]) -> RoundRead
+#[tactic(auto, using(numbers::proofs::Refusing::tests), unfolding(crate::specs::Round::rest_read))]
+fn read_rest(file: &[u8], at: u32, choices: &mut [u8]) -> Result<Round, Refusal>
     requires { at ≤ 7 }
     ensures { round_left result choices.new
         ≡ rest_read at file.now choices.old }
 {
     let from = at as usize + 4;
     if file.len() < from {
-        return RoundRead::Refused(16, 0);
+        return Err(Refusal::WrongLength);
     }
     let count = u16_at(file, at + 2) as usize;
     if file.len() != from + count {
-        return RoundRead::Refused(16, 0);
+        return Err(Refusal::WrongLength);
     }
     if choices.len() < count {
-        return RoundRead::Refused(7, 8);
+        return Err(Refusal::TooShort(Lent::List));
     }
-    put_bytes(choices, 0, &file[from..]);
-    RoundRead::Round(u16_at(file, at), count)
+    choices[..count].copy_from_slice(&file[from..]);
+    Ok(Round {
+        start: u16_at(file, at),
+        count,
+    })
 }
 
 // Reads a file of version 1. The choices go into the first entries; later ones stay, and a refusal changes nothing.
-pub fn read_round(file: &[u8], choices: &mut [u8]) -> RoundRead
+#[tactic(auto, unfolding(crate::specs::Round::round_read))]
+pub fn read_round(file: &[u8], choices: &mut [u8]) -> Result<Round, Refusal>
     ensures { round_left result choices.new ≡ round_read file.now choices.old }
 {
     if !has_version(file, 1) {
-        return RoundRead::Refused(15, 0);
+        return Err(Refusal::NoRoundFile);
     }
     read_rest(file, 5, choices)
 }
 
-fn with_version(version: Version, read: RoundRead) -> VersionRead
-    ensures { result ≡ with_version version read }
+// The same, with the version that the head says.
+fn read_in_version(
+    version: Version,
+    file: &[u8],
+    at: u32,
+    choices: &mut [u8],
+) -> Result<VersionRound, Refusal>
+    requires { at ≤ 7 }
+    ensures { version_left result choices.new
+        ≡ in_version version (rest_read at file.now choices.old) }
 {
-    match read {
-        RoundRead::Round(start, count) => VersionRead::Round(version, start, count),
-        RoundRead::Refused(cause, place) => VersionRead::Refused(cause, place),
-    }
+    let Round { start, count } = read_rest(file, at, choices)?;
+    Ok(VersionRound {
+        version,
+        start,
+        count,
+    })
 }
 
 // Reads a file of either version, as `read_round` reads one of version 1.
-pub fn read_version(file: &[u8], choices: &mut [u8]) -> VersionRead
+#[tactic(auto, unfolding(crate::specs::Round::version_read))]
+pub fn read_version(file: &[u8], choices: &mut [u8]) -> Result<VersionRound, Refusal>
     ensures { version_left result choices.new ≡ version_read file.now choices.old }
 {
     if has_version(file, 1) {
-        let one = read_rest(file, 5, choices);
-        return with_version(Version::One, one);
+        return read_in_version(Version::One, file, 5, choices);
     }
     if has_version(file, 2) {
-        let area = u16_at(file, 5);
-        let two = read_rest(file, 7, choices);
-        return with_version(Version::Two(area), two);
+        return read_in_version(Version::Two(u16_at(file, 5)), file, 7, choices);
     }
-    VersionRead::Refused(15, 0)
+    Err(Refusal::NoRoundFile)
 }
 
 // ---- writing
 
-fn numbers(start: u16, count: u16) -> [u8; 4]
-    ensures { result ≡ rest_bytes start count }
-{
-    [
-        (start % 256) as u8,
-        (start / 256 % 256) as u8,
-        (count % 256) as u8,
-        (count / 256 % 256) as u8,
-    ]
-}
-
 // Writes a round behind the bytes that say its version.
-fn write_after(head: &[u8], start: u16, choices: &[u8], file: &mut [u8]) -> Written
+#[tactic(auto, using(numbers::proofs::Refusing::tests, crate::proofs::Files::file_long), unfolding(crate::specs::Round::written))]
+fn write_after(head: &[u8], start: u16, choices: &[u8], file: &mut [u8]) -> Result<usize, Refusal>
     ensures { written_left result file.new
         ≡ written head.now start choices.now file.old }
 {
-    if 65535 < choices.len() {
-        return Written::Refused(16, 0);
-    }
+    let Ok(count) = u16::try_from(choices.len()) else {
+        return Err(Refusal::WrongLength);
+    };
     let n = head.len();
-    if file.len() < n {
-        return Written::Refused(7, 8);
+    let end = n + 4 + choices.len();
+    if file.len() < end {
+        return Err(Refusal::TooShort(Lent::List));
     }
-    if file.len() - n < choices.len() + 4 {
-        return Written::Refused(7, 8);
-    }
-    let b = numbers(start, choices.len() as u16);
-    put_bytes(file, 0, head);
-    put_bytes(file, n, &b);
-    put_bytes(file, n + 4, choices);
-    Written::Wrote(n + 4 + choices.len())
+    file[..n].copy_from_slice(head);
+    file[n..n + 2].copy_from_slice(&start.to_le_bytes());
+    file[n + 2..n + 4].copy_from_slice(&count.to_le_bytes());
+    file[n + 4..end].copy_from_slice(choices);
+    Ok(end)
 }
 
-// Writes a file of version 1 and answers its length. Later bytes stay, and a refusal changes nothing.
-pub fn write_round(start: u16, choices: &[u8], file: &mut [u8]) -> Written
-    ensures { written_left result file.new
-        ≡ written (head_bytes One) start choices.now file.old }
-{
-    let head = [82, 78, 68, 1, 0];
-    write_after(&head, start, choices, file)
-}
-
+#[tactic(auto, unfolding(crate::specs::Round::head_bytes, records::specs::Bytes::number_bytes))]
 fn head_two(area: u16) -> [u8; 7]
     ensures { result ≡ head_bytes (Two area) }
 {
-    [
-        82,
-        78,
-        68,
-        2,
-        0,
-        (area % 256) as u8,
-        (area / 256 % 256) as u8,
-    ]
+    let [low, high] = area.to_le_bytes();
+    [b'R', b'N', b'D', 2, 0, low, high]
 }
 
-// Writes a round in the version that it has, as `write_round` writes version 1.
-pub fn write_version(version: Version, start: u16, choices: &[u8], file: &mut [u8]) -> Written
+// Writes a round in the version that it has, and answers the file's length. Later bytes stay, and a refusal changes
+// nothing.
+#[tactic(auto, unfolding(crate::specs::Round::head_bytes))]
+pub fn write_version(
+    version: Version,
+    start: u16,
+    choices: &[u8],
+    file: &mut [u8],
+) -> Result<usize, Refusal>
     ensures { written_left result file.new
         ≡ written (head_bytes version) start choices.now file.old }
 {
     match version {
-        Version::One => write_round(start, choices, file),
-        Version::Two(area) => {
-            let head = head_two(area);
-            write_after(&head, start, choices, file)
-        }
+        Version::One => write_after(b"RND\x01\0", start, choices, file),
+        Version::Two(area) => write_after(&head_two(area), start, choices, file),
     }
+}
+
+// Writes a file of version 1.
+pub fn write_round(start: u16, choices: &[u8], file: &mut [u8]) -> Result<usize, Refusal>
+    ensures { written_left result file.new
+        ≡ written (head_bytes One) start choices.now file.old }
+{
+    write_version(Version::One, start, choices, file)
 }

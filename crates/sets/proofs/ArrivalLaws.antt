@@ -1,19 +1,23 @@
 -- Links that name a member, by words, test by test.
-use Prim.Native.Nat.{ℕ, zero, suc, ◌-◌, ◌≤◌, ◌<◌, min}
+use Prim.Native.Nat.{ℕ, zero, suc, ◌+◌, ◌-◌, ◌≤◌, ◌<◌, min}
 use native.Mathlib.Omega.{arith}
 use mathlib.Core.Path.{◌≡◌, refl, ap, sym, subst, ◌∙◌}
 use mathlib.Core.Bool.{Bool, true, false, not, ◌&&◌, ◌||◌}
-use mathlib.Core.List.{List}
+use native.Mathlib.Numerals.{add-one}
+use mathlib.Core.List.{List, [], ◌∷◌, map}
+use Rattle.std.specs.List.{list_all, range_with_len}
+use Rattle.std.proofs.lemmas.List.Folds.{list_all-append, list_all-map}
+use Rattle.std.proofs.lemmas.List.FromFn.{map-range_with_len_more}
 use mathlib.Core.Option.{Option, none, some}
-use lib.ListN.{length, get_or, take, drop, length-drop}
-use lib.Dec.{ltb}
-use borrow.Author.Tests.{eq-eqb, ne_eqb, ltb-true, ltb-false}
+use lib.ListN.{length, get_or, take, drop}
+use lib.Seq.{take_all}
+use Rattle.cells.specs.NodeWords.{number_of}
+use borrow.Author.Tests.{eq-eqb, ne_eqb}
 use Rattle.cells.specs.Lists.{every}
 use Rattle.cells.specs.Lookup.{first_with, is_some}
 use Rattle.cells.specs.LookupCall.{numbers_in}
 use Rattle.cells.specs.NodeWords.{link_start, link_count}
 use Rattle.cells.specs.RenumberParts.{Indexed}
-use Rattle.cells.proofs.Sequences.Tests.{by_test}
 use Rattle.walks.specs.SoundParts.{Ready}
 use Rattle.walks.proofs.Ranges.{cut_none}
 use Rattle.walks.proofs.ShownLaws.{cut_held}
@@ -22,9 +26,8 @@ use Rattle.sets.specs.SetRenumber.{is_member}
 use Rattle.sets.specs.Leave.{start_of}
 use Rattle.sets.specs.SetParts.{named_of, count_of, Holding}
 use Rattle.sets.specs.SetSoundParts.{all_below, word_meets, words_meet, numbers_of, part_meets}
-use Rattle.sets.specs.declared.named.Named.TheVariants.{Member, Nobody}
-use Rattle.sets.proofs.PartLaws.{rest}
 use Rattle.sets.proofs.AreasFilled.{part_ends}
+use Rattle.std.specs.Prelude.{Some, None}
 
 -- ---- one link
 
@@ -35,44 +38,57 @@ module _ (all : List ℕ) (k : ℕ) (ks : List ℕ) (i : ℕ) (w : List ℕ) whe
   abbrev there : Bool
   there = is_some (first_with ks (get_or w 1 0))
 
-  pub meets_it : (j : ℕ) → Member j ≡ named_of o → j ≡ k → there ≡ word_meets all k ks i w
+  pub meets_it : (j : ℕ) → Some j ≡ named_of o → j ≡ k → there ≡ word_meets all k ks i w
   unfolding word_meets
   meets_it j e h = go o e
     where
-      go : (r : Option ℕ) → Member j ≡ named_of r → there ≡ (not (is_member k r) || there)
+      go : (r : Option ℕ) → Some j ≡ named_of r → there ≡ (not (is_member k r) || there)
       go (some q) e = let z : j ≡ q = cc in rw (eq-eqb q k (sym z ∙ h))
       go none e = let z : ◌≡◌ {A = ℕ} 0 1 = cc in absurd (omega arith)
 
-  pub meets_other : (j : ℕ) → Member j ≡ named_of o → (j ≡ k → ⊥) → true ≡ word_meets all k ks i w
+  pub meets_other : (j : ℕ) → Some j ≡ named_of o → (j ≡ k → ⊥) → true ≡ word_meets all k ks i w
   unfolding word_meets
   meets_other j e h = go o e
     where
-      go : (r : Option ℕ) → Member j ≡ named_of r → true ≡ (not (is_member k r) || there)
+      go : (r : Option ℕ) → Some j ≡ named_of r → true ≡ (not (is_member k r) || there)
       go (some q) e = let z : j ≡ q = cc in rw (ne_eqb q k (λ f. h (z ∙ f)))
       go none e = refl
 
-  pub meets_nobody : Nobody ≡ named_of o → true ≡ word_meets all k ks i w
+  pub meets_nobody : None ≡ named_of o → true ≡ word_meets all k ks i w
   unfolding word_meets
   meets_nobody e = go o e
     where
-      go : (r : Option ℕ) → Nobody ≡ named_of r → true ≡ (not (is_member k r) || there)
+      go : (r : Option ℕ) → None ≡ named_of r → true ≡ (not (is_member k r) || there)
       go (some q) e = let z : ◌≡◌ {A = ℕ} 0 1 = cc in absurd (omega arith)
       go none e = refl
 
 -- ---- a node's links
 
-module _ (all : List ℕ) (k : ℕ) (ks : List ℕ) (i : ℕ) (links : List (List ℕ)) (l : ℕ) (w : List ℕ) where
-  pub no_links : l ≤ link_start w → true ≡ words_meet all k ks i (take l links) w
-  unfolding words_meet every
-  no_links h = rw (cut_none l (link_start w) (link_count w) links h)
+module _ (all : List ℕ) (k : ℕ) (ks : List ℕ) (i : ℕ) (links : List (List ℕ)) (w : List ℕ) where
+  abbrev f : List ℕ → Bool
+  f = word_meets all k ks i
 
-  pub its_links : (count : ℕ) → l ≤ length links → link_start w < l → count ≡ min (link_count w) (l - link_start w)
-      → every (word_meets all k ks i) (take count (drop (link_start w) links)) ≡ words_meet all k ks i (take l links) w
+  whole : take (length links) links ≡ links
+  whole = take_all (length links) links (omega arith)
+
+  pub no_links : length links ≤ link_start w → true ≡ words_meet all k ks i links w
+  unfolding words_meet every
+  no_links h =
+      sym (ap (λ (l : List (List ℕ)). every f (take (link_count w) (drop (link_start w) l))) (sym whole)
+      ∙ ap (every f) (cut_none (length links) (link_start w) (link_count w) links h))
+
+  pub its_links : (start count : ℕ) → start ≡ link_start w → start < length links
+      → count ≡ min (link_count w) (length links - start)
+      → every f (take (start + count - start) (drop start links)) ≡ words_meet all k ks i links w
   unfolding words_meet
-  its_links count h lt e =
-      let end : min l (length links) ≡ l = omega arith in
-      ap (every (word_meets all k ks i)) (cut_held links l (link_start w) (link_count w) count (e
-      ∙ ap (λ (x : ℕ). min (link_count w) (x - link_start w)) (sym end)) (omega arith))
+  its_links start count es lt e =
+      let end : min (length links) (length links) ≡ length links = omega arith in
+      let n : start + count - start ≡ count = omega arith in
+      ap (λ (n : ℕ). every f (take n (drop start links))) n
+      ∙ ap (every f) (cut_held links (length links) start (link_count w) count (e
+      ∙ ap (λ (x : ℕ). min (link_count w) (x - start)) (sym end)) (omega arith))
+      ∙ ap (λ (l : List (List ℕ)). every f (take (link_count w) (drop start l))) whole
+      ∙ ap (λ (s : ℕ). every f (take (link_count w) (drop s links))) es
 
 -- ---- all of the first
 
@@ -81,16 +97,19 @@ unfolding all_below
 below_yes f zero h = refl
 below_yes f (suc n) h = rw (← below_yes f n (λ j lt. h j (omega arith)), h n (omega arith))
 
-pub below_no : (f : ℕ → Bool) (n j : ℕ) → j < n → f j ≡ false → false ≡ all_below f n
+pub below_all : (f : ℕ → Bool) (n : ℕ) → list_all f (range_with_len 0 n) ≡ all_below f n
 unfolding all_below
-below_no f zero j lt e = absurd (omega arith)
-below_no f (suc n) j lt e = by_test (ltb j n)
-    (λ t. rw (← below_no f n j (ltb-true j n t) e))
-    (λ g. let z : j ≡ n = omega (arith, ltb-false j n g) in go (all_below f n) (f n) (ap f (sym z) ∙ e))
+below_all f zero = refl
+below_all f (suc n) =
+    sym (list_all-map (λ b. b) f (range_with_len 0 (suc n)))
+    ∙ ap (list_all (λ (b : Bool). b)) (ap (λ (k : ℕ). map f (range_with_len 0 k)) (sym (add-one n))
+    ∙ map-range_with_len_more f 0 n n (omega arith))
+    ∙ list_all-append (λ b. b) (map f (range_with_len 0 n)) (f n ∷ [])
+    ∙ (λ i. (list_all-map (λ b. b) f (range_with_len 0 n) ∙ below_all f n) i && and_true (f n) i)
   where
-    go : (a b : Bool) → b ≡ false → false ≡ (a && b)
-    go true b e = sym e
-    go false b e = refl
+    and_true : (b : Bool) → b && true ≡ b
+    and_true true = refl
+    and_true false = refl
 
 -- ---- the parts, lent from their starts
 
@@ -98,41 +117,32 @@ pub starts_inside : (k size : ℕ) (ws : List (List ℕ)) (len i a : ℕ) → i 
     → a ≡ start_of size ws i → a ≤ len
 starts_inside k size ws len i a lt h e = omega (arith, part_ends k size ws len i lt h, e)
 
-pub part_there : {A : Type 0} (k size : ℕ) (ws : List (List ℕ)) (l : List A) (i a n : ℕ) → i < length ws
-    → Holding k size ws (length l)
-    → a ≡ start_of size ws i → n ≡ count_of k ws i → n ≤ length (take (length l - a) (drop a l))
-part_there k size ws l i a n lt h e en = omega (
-  arith,
-  ap length (rest l a),
-  length-drop a l,
-  part_ends k size ws (length l) i lt h,
-  h.held i lt,
-  e,
-  en,
-)
+-- ---- the member that is named, by its own nodes
 
-module _ (ws nodes : List (List ℕ)) (k a n : ℕ) (ea : a ≡ start_of 15 ws k) (en : n ≡ count_of 10 ws k) where
-  numbers_there : numbers_in n (take (length nodes - a) (drop a nodes)) ≡ numbers_of ws nodes k
-  unfolding numbers_of
-  numbers_there = (λ j. numbers_in (en j) (rest nodes a j))
-      ∙ ap (λ (s : ℕ). numbers_in (count_of 10 ws k) (drop s nodes)) ea
+pub numbers_taken : (n : ℕ) (l : List (List ℕ)) → numbers_in (length (take n l)) (take n l) ≡ numbers_in n l
+unfolding numbers_in
+numbers_taken n l = ap (map number_of) (take_all (length (take n l)) (take n l) (omega arith))
 
-  pub ready_there : k < length ws → Holding 10 15 ws (length nodes) → (s : List ℕ)
-      → Ready (count_of 10 ws k) (drop (start_of 15 ws k) nodes) s → Ready n (take (length nodes - a) (drop a nodes)) s
-  unfolding numbers_of
-  ready_there lt h s r = record {
-    nodes_fit = part_there 10 15 ws nodes k a n lt h ea en;
-    scratch_fits = r.scratch_fits;
-    leads = subst (λ (ks : List ℕ). Indexed ks s) (sym numbers_there) r.leads;
-  }
+pub ready_taken : (n : ℕ) (l : List (List ℕ)) (s : List ℕ) → Ready n l s → Ready (length (take n l)) (take n l) s
+ready_taken n l s r = record {
+  nodes_fit = omega arith;
+  scratch_fits = r.scratch_fits;
+  leads = subst (λ (ks : List ℕ). Indexed ks s) (sym (numbers_taken n l)) r.leads;
+}
 
-  pub meets_there : (all : List ℕ) (links : List (List ℕ)) (i s m c l : ℕ) → s ≡ start_of 15 ws i
-      → m ≡ count_of 10 ws i → c ≡ start_of 16 ws i → l ≡ count_of 11 ws i
-      → every (words_meet all k (numbers_in n (take (length nodes - a) (drop a nodes))) i
-      (take l (take (length links - c) (drop c links)))) (take m (take (length nodes - s) (drop s nodes)))
-      ≡ part_meets all ws nodes links k i
-  unfolding part_meets
-  meets_there all links i s m c l es em ec el =
-      (λ j. every (words_meet all k (numbers_there j) i (take (el j) (rest links c j))) (take (em j) (rest nodes s j)))
-      ∙ (λ j. every (words_meet all k (numbers_of ws nodes k) i (take (count_of 11 ws i) (drop (ec j) links)))
-      (take (count_of 10 ws i) (drop (es j) nodes)))
+-- whether the links of each member that name the member k name one of these numbers
+abbrev pub meets_by : List ℕ → List (List ℕ) → List (List ℕ) → List (List ℕ) → ℕ → List ℕ → ℕ → Bool
+meets_by all ws nodes links k ks i =
+    every (words_meet all k ks i (take (count_of 11 ws i) (drop (start_of 16 ws i) links)))
+    (take (count_of 10 ws i) (drop (start_of 15 ws i) nodes))
+
+pub meets_all : (all : List ℕ) (ws nodes links : List (List ℕ)) (k : ℕ) (T : List (List ℕ))
+    → T ≡ take (count_of 10 ws k) (drop (start_of 15 ws k) nodes)
+    → list_all (meets_by all ws nodes links k (numbers_in (length T) T)) (range_with_len 0 (length ws))
+    ≡ all_below (part_meets all ws nodes links k) (length ws)
+unfolding part_meets numbers_of
+meets_all all ws nodes links k T e =
+    ap (λ (ks : List ℕ). list_all (meets_by all ws nodes links k ks) (range_with_len 0 (length ws)))
+    (ap (λ (t : List (List ℕ)). numbers_in (length t) t) e
+    ∙ numbers_taken (count_of 10 ws k) (drop (start_of 15 ws k) nodes))
+    ∙ below_all (part_meets all ws nodes links k) (length ws)

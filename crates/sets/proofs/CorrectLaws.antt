@@ -4,7 +4,7 @@ use native.Mathlib.Omega.{arith}
 use native.Mathlib.Numerals.{add-one}
 use mathlib.Core.Path.{◌≡◌, refl, ap, sym, ◌∙◌}
 use mathlib.Core.Bool.{Bool, true, false, not, ◌&&◌, cond}
-use mathlib.Core.List.{List, [], ◌∷◌, ◌++◌, map, append_assoc, append-nil}
+use mathlib.Core.List.{List, [], ◌∷◌, ◌++◌, map, append_assoc}
 use lib.Dec.{eqb}
 use lib.ListN.{length, get_or, take, drop, length-drop, length-append, drop_of_length-le}
 use lib.Seq.{length-take-le, take_at, drop_at, drop-cons}
@@ -25,7 +25,7 @@ use Rattle.sets.specs.RenumberMember.{correct_part, correct_parts}
 use Rattle.sets.specs.CorrectParts.{relabelled, part_corrected}
 use Rattle.sets.proofs.SetLists.{over_same, over_long}
 use Rattle.sets.proofs.SetLaws.{not_meant, meant_of_area}
-use Rattle.sets.proofs.PartLaws.{total_below, start_more, start_next, start_none, rest}
+use Rattle.sets.proofs.PartLaws.{total_below, start_more, start_next, start_none}
 use Rattle.sets.proofs.CellSetLaws.{area_there}
 
 -- ---- where a part lies
@@ -189,38 +189,27 @@ others_stay x later i (w ∷ ws) l =
         (λ t. part_own x i (word 11 w) (take (word 16 w) l) t)
         (λ f. none_meant x i (word 11 w) (take (word 16 w) l) f (λ a. not_meant x later i a f))
 
--- ---- a list lent from a part's start to its end
-
-module _ {A : Type 0} (l : List A) (a : ℕ) (h : a ≤ length l) where
-  pub to_end : (r : List A) → put_mid a (length l - a) l r ≡ take a l ++ r
-  to_end r =
-      let none : drop (length l - a) (drop a l) ≡ [] =
-      drop_of_length-le (drop a l) {i = length l - a} (omega (arith, length-drop a l)) in
-      ap (λ (t : List A). take a l ++ (r ++ t)) none ∙ ap (λ (t : List A). take a l ++ t) (append-nil r)
-
-  pub lent_long : length (take (length l - a) (drop a l)) ≡ length l - a
-  lent_long = ap length (rest l a) ∙ length-drop a l
+-- ---- a member's links, lent
 
 module _ (ws l : List (List ℕ)) (i : ℕ) (h : Holding 11 16 ws (length l)) (lt : i < length ws)
     (start c : ℕ) (es : start ≡ start_of 16 ws i) (ec : c ≡ count_of 11 ws i) where
-  pub lent_links : c ≤ length (take (length l - start) (drop start l))
-  lent_links =
-      let b : start ≤ length l = omega (arith, start_inside h i lt) in
-      omega (arith, lent_long l start b, part_inside h i lt, h.held i lt)
+  pub lent_links : start + c ≤ length l
+  lent_links = omega (arith, part_inside h i lt, h.held i lt)
 
   -- the links of a member that doesn't claim them
   pub member_corrected : (x : Change) (area : ℕ) → area ≡ get_or x.areas x.member 0
       → is_member x.member (first_with x.areas area) ≡ true
       → eqb i x.member ≡ false → belongs (get_or x.areas i 0) area ≡ false
-      → (r : List (List ℕ)) → r ≡ over (map (relabelled x.old area)) c (take (length l - start) (drop start l))
-      → put_mid start (length l - start) l r ≡ part_corrected x ws i l
+      → (r : List (List ℕ)) → r ≡ map (relabelled x.old area) (take (start + c - start) (drop start l))
+      → put_mid start (start + c - start) l r ≡ part_corrected x ws i l
   member_corrected x area is first f u r er =
       let s = start_of 16 ws i in
       let z = count_of 16 ws i in
       let D = drop s l in
       let fit = part_inside h i lt in
-      to_end l start (omega (arith, start_inside h i lt)) r
-      ∙ ap (λ (t : List (List ℕ)). take start l ++ t) (er ∙ ap (over (map (relabelled x.old area)) c) (rest l start))
+      let n : start + c - start ≡ c = omega arith in
+      ap (λ (t : List (List ℕ)). take start l ++ (t ++ drop (start + c - start) (drop start l))) er
+      ∙ ap (λ (k : ℕ). take start l ++ over (map (relabelled x.old area)) k (drop start l)) n
       ∙ (λ k. take (es k) l ++ over (map (relabelled x.old area)) (ec k) (drop (es k) l))
       ∙ ap (λ (t : List (List ℕ)). take s l ++ t)
       (part_over (map (relabelled x.old area)) (count_of 11 ws i) z D (h.held i lt) (omega (arith, length-drop s l))

@@ -9,29 +9,32 @@ use lib.ListN.{length, get_or, drop, length-map, get_or-eq_default}
 use borrow.Author.Tests.{lt-ltb, le-ltb, leb-true, leb-false, ltb-true, ltb-false}
 use Rattle.numbers.specs.Refusals.{when, decided, unless}
 use Rattle.numbers.proofs.Refusing.{decided_append, passed}
-use Rattle.numbers.specs.declared.answer.Answer.{Answer}
-use Rattle.numbers.specs.declared.answer.Answer.TheVariants as answer
 use Rattle.cells.specs.Memory.{over_limit}
 use Rattle.cells.specs.Cell.{Cell}
 use Rattle.cells.specs.CellOf.{cell_of}
 use Rattle.cells.proofs.Sequences.Tests.{by_test, true_false}
 use Rattle.walks.specs.Walk.{Trail}
 use Rattle.walks.specs.Claim.{places}
-use Rattle.walks.specs.declared.walk.Walked.TheVariants.{Ended, Refused}
 use Rattle.sets.specs.Members.{no_cell, cell_at}
 use Rattle.sets.specs.Crossing.{Location, crossing}
 use Rattle.sets.specs.MemberList.{cells_of, node_count, nodes_together, any_over, over_set}
+use Rattle.sets.specs.MemberList.{unless as kept_unless}
 use Rattle.sets.specs.CrossingCall.{location_words, crossing_left, crossed_by}
 use Rattle.sets.specs.CellSet.{CellSet, ynd_of, members_of, holds_list}
 use Rattle.sets.specs.SetStored.{member_in}
 use Rattle.sets.specs.CrossMember.{cross_causes, cross_member}
 use Rattle.sets.specs.SetParts.{count_of, Holding, bare, areas_of}
 use Rattle.sets.specs.CrossParts.{walked_set, cells_in, trail_in, Walking, crossed_of, visits_over, start_causes}
-use Rattle.sets.specs.declared.crossing.Crossed.{Crossed}
+use Rattle.walks.specs.declared.walk.Walked.{Walked}
 use Rattle.sets.proofs.CellSetLaws.{members_many, member_at_law, areas_held}
 use Rattle.sets.proofs.RoomLaws.{any_found, few_members, members_over, holding}
 use Rattle.sets.proofs.MemberCells.{nodes_at}
 use Rattle.sets.proofs.CrossSame.{SameRoute, same_route}
+use Rattle.std.specs.Prelude.{Ok, Err}
+use Rattle.numbers.specs.declared.refusal.Refusal.{Refusal}
+use Rattle.numbers.specs.Refusals.{Answer}
+use Rattle.numbers.specs.declared.refusal.Refusal.TheVariants.{TooShort, NoSuchPlace, AtLimit}
+use Rattle.numbers.specs.declared.refusal.Lent.TheVariants as lent
 
 -- ---- what an accepted start says
 
@@ -56,7 +59,7 @@ pub record Starts (ws nodes links : List (List ℕ)) (s : Location) : Type 0 whe
   pub links_hold : Holding 11 16 ws (length links)
 
 pub starts : (ws nodes links : List (List ℕ)) (s : Location)
-    → answer.Done ≡ decided (start_causes ws (length nodes) (length links) s) → Starts ws nodes links s
+    → (Ok tt) ≡ decided (start_causes ws (length nodes) (length links) s) → Starts ws nodes links s
 unfolding start_causes
 starts ws nodes links s e =
     let cs = start_causes ws (length nodes) (length links) s in
@@ -104,7 +107,7 @@ module _ (y : CellSet) (bs : List ℕ) (s : Location) (visited : List (List ℕ)
 
   -- the causes at the start, then the visited list
   causes_split : (count room : ℕ) → decided (cross_causes y s count room)
-      ≡ unless start answer.Refused (decided (when (ltb room count) 7 8 ∷ []))
+      ≡ unless start (decided (when (ltb room count) (TooShort lent.List) ∷ []))
   unfolding cross_causes start_causes
   causes_split count room = by_test (leb (length ws) s.member)
       (λ t. rw t refl)
@@ -112,30 +115,30 @@ module _ (y : CellSet) (bs : List ℕ) (s : Location) (visited : List (List ℕ)
       let lt : s.member < length ws = leb-false _ _ f in
       rw (f, count_is lt, members_over y)
       (decided_append
-      (when (leb (count_of 10 ws s.member) s.place) 13 0
-      ∷ when (over_set (bare ws)) 14 0
-      ∷ when (not (holds_list 10 15 ws (length y.nodes))) 7 0
-      ∷ when (not (holds_list 11 16 ws (length y.links))) 7 1
+      (when (leb (count_of 10 ws s.member) s.place) NoSuchPlace
+      ∷ when (over_set (bare ws)) AtLimit
+      ∷ when (not (holds_list 10 15 ws (length y.nodes))) (TooShort lent.Nodes)
+      ∷ when (not (holds_list 11 16 ws (length y.links))) (TooShort lent.Links)
       ∷ [])
-      (when (ltb room count) 7 8 ∷ [])))
+      (when (ltb room count) (TooShort lent.List) ∷ [])))
 
   call_split : cross_member y bs s visited
-      ≡ crossed_by (unless start answer.Refused
-      (decided (when (ltb (length visited) (length (places trail))) 7 8 ∷ []))) trail visited
+      ≡ crossed_by (unless start
+      (decided (when (ltb (length visited) (length (places trail))) (TooShort lent.List) ∷ []))) trail visited
   unfolding cross_member
   call_split = ap (λ (a : Answer). crossed_by a trail visited) (causes_split (length (places trail)) (length visited))
 
-  pub start_refused : (x p : ℕ) → answer.Refused x p ≡ start → crossing_left (Refused x p) visited
+  pub start_refused : (x : Refusal) → Err x ≡ start → crossing_left (Err x) visited
       ≡ cross_member y bs s visited
-  start_refused x p e = sym (call_split ∙ ap
-      (λ (a : Answer). crossed_by (unless a answer.Refused
-      (decided (when (ltb (length visited) (length (places trail))) 7 8 ∷ []))) trail visited) (sym e))
+  start_refused x e = sym (call_split ∙ ap
+      (λ (a : Answer). crossed_by (unless a
+      (decided (when (ltb (length visited) (length (places trail))) (TooShort lent.List) ∷ []))) trail visited) (sym e))
 
   -- the other three lists don't count
   abbrev seen : Trail Location
   seen = trail_in ws y.nodes y.links bs s
 
-  module _ (done : answer.Done ≡ start) where
+  module _ (done : (Ok tt) ≡ start) where
     h : Starts ws y.nodes y.links s
     h = starts ws y.nodes y.links s done
 
@@ -165,27 +168,27 @@ module _ (y : CellSet) (bs : List ℕ) (s : Location) (visited : List (List ℕ)
         (sym (areas_held y) ∙ areas_held (walked_set ws y.nodes y.links)) bs s
 
     accepted : cross_member y bs s visited
-        ≡ crossed_by (decided (when (ltb (length visited) (length (places seen))) 7 8 ∷ [])) seen visited
+        ≡ crossed_by (decided (when (ltb (length visited) (length (places seen))) (TooShort lent.List) ∷ [])) seen visited
     accepted =
         call_split
-        ∙ ap (λ (a : Answer). crossed_by (unless a answer.Refused
-        (decided (when (ltb (length visited) (length (places trail))) 7 8 ∷ []))) trail visited) (sym done)
+        ∙ ap (λ (a : Answer). crossed_by (unless a
+        (decided (when (ltb (length visited) (length (places trail))) (TooShort lent.List) ∷ []))) trail visited) (sym done)
         ∙ by_route (same_trail.ending) (same_trail.visits)
       where
         by_route : trail.ending ≡ seen.ending → places trail ≡ places seen
-            → crossed_by (decided (when (ltb (length visited) (length (places trail))) 7 8 ∷ [])) trail visited
-            ≡ crossed_by (decided (when (ltb (length visited) (length (places seen))) 7 8 ∷ [])) seen visited
-        by_route e p = λ i. unless (decided (when (ltb (length visited) (length (p i))) 7 8 ∷ []))
-            (λ cause place. crossing_left (Refused cause place) visited)
-            (crossing_left (Ended (e i) (length (p i))) (map location_words (p i) ++ drop (length (p i)) visited))
+            → crossed_by (decided (when (ltb (length visited) (length (places trail))) (TooShort lent.List) ∷ [])) trail visited
+            ≡ crossed_by (decided (when (ltb (length visited) (length (places seen))) (TooShort lent.List) ∷ [])) seen visited
+        by_route e p = λ i. kept_unless (decided (when (ltb (length visited) (length (p i))) (TooShort lent.List) ∷ []))
+            (λ cause. crossing_left (Err cause) visited)
+            (crossing_left (Ok (record { end = (e i); count = (length (p i)) })) (map location_words (p i) ++ drop (length (p i)) visited))
 
-    pub visited_short : leb (length (places seen)) (length visited) ≡ false → crossing_left (Refused 7 8) visited
+    pub visited_short : leb (length (places seen)) (length visited) ≡ false → crossing_left (Err (TooShort lent.List)) visited
         ≡ cross_member y bs s visited
     visited_short f = sym (accepted ∙ rw (lt-ltb (length visited) (length (places seen)) (leb-false _ _ f)))
 
-    pub walked : (t : Crossed) (after : List (List ℕ)) → leb (length (places seen)) (length visited) ≡ true
+    pub walked : (t : Walked) (after : List (List ℕ)) → leb (length (places seen)) (length visited) ≡ true
         → t ≡ crossed_of seen → after ≡ visits_over seen visited
-        → crossing_left (Ended t.end t.count) after ≡ cross_member y bs s visited
+        → crossing_left (Ok t) after ≡ cross_member y bs s visited
     walked t after fits et ea =
-        (λ i. crossing_left (Ended (et i).end (et i).count) (ea i))
+        (λ i. crossing_left (Ok (et i)) (ea i))
         ∙ sym (accepted ∙ rw (le-ltb (length visited) (length (places seen)) (leb-true _ _ fits)))

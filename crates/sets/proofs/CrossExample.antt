@@ -15,8 +15,6 @@ use Rattle.walks.specs.Sound.{differing, sound}
 use Rattle.walks.specs.SoundCall.{indexed}
 use Rattle.walks.specs.Walk.{next, walk_in}
 use Rattle.walks.specs.declared.walk.End.TheVariants.{Done, Left, NoNode}
-use Rattle.walks.specs.declared.walk.Walked.TheVariants.{Ended, Refused}
-use Rattle.walks.specs.declared.sound.Soundness.TheVariants as says
 use Rattle.sets.specs.Members.{member_for, map_from, every_from}
 use Rattle.sets.specs.Crossing.{location, next_in, crossing}
 use Rattle.sets.specs.MemberList.{no_memory, nodes_together, any_over, over_set}
@@ -25,6 +23,9 @@ use Rattle.sets.specs.SetSound.{set_sound}
 use Rattle.sets.specs.CellSet.{CellSet, cell_set, ynd_of, words_at, total, parts_of, parts_in, members_of, holds_list}
 use Rattle.sets.specs.CrossMember.{cross_causes, cross_member}
 use Rattle.sets.specs.SetSoundCall.{indexed_set, sound_causes, set_sound_call}
+use Rattle.std.specs.Prelude.{true, false, Ok, Err}
+use Rattle.numbers.specs.declared.refusal.Refusal.TheVariants.{TooShort, NoSuchPlace}
+use Rattle.numbers.specs.declared.refusal.Lent.TheVariants as lacking
 
 -- a member of two nodes and two links, in parts of so many entries
 abbrev entry : ℕ → ℕ → List ℕ
@@ -52,7 +53,7 @@ lent = (70 ∷ 71 ∷ []) ∷ (72 ∷ 73 ∷ []) ∷ (74 ∷ 75 ∷ []) ∷ (76 
 
 -- from node 7 into area 6, back to node 3, and out: four choices, of which the last is not used
 pub crosses : cross_member (two_cells 7) (0 ∷ 0 ∷ 0 ∷ 0 ∷ []) (location 0 0) lent
-    ≡ crossing_left (Ended (Left 8 1) 3) ((0 ∷ 0 ∷ []) ∷ (1 ∷ 1 ∷ []) ∷ (0 ∷ 1 ∷ []) ∷ (76 ∷ 77 ∷ []) ∷ [])
+    ≡ crossing_left (Ok (record { end = (Left 8 1); count = 3 })) ((0 ∷ 0 ∷ []) ∷ (1 ∷ 1 ∷ []) ∷ (0 ∷ 1 ∷ []) ∷ (76 ∷ 77 ∷ []) ∷ [])
 unfolding cross_member cross_causes holds_list total words_at every over_set nodes_together any_over over_limit no_memory
     members_of map_from parts_in parts_of ynd_of crossing walk_in next_in next find member_for belongs first_with cell_of
     nodes_of junctions_of refs_of area_of number_of body_of to_node
@@ -60,23 +61,23 @@ crosses = refl
 
 -- a link to a number that area 5 lacks
 pub no_node_there : cross_member (two_cells 8) (0 ∷ []) (location 1 0) lent
-    ≡ crossing_left (Ended NoNode 1) ((1 ∷ 0 ∷ []) ∷ (72 ∷ 73 ∷ []) ∷ (74 ∷ 75 ∷ []) ∷ (76 ∷ 77 ∷ []) ∷ [])
+    ≡ crossing_left (Ok (record { end = NoNode; count = 1 })) ((1 ∷ 0 ∷ []) ∷ (72 ∷ 73 ∷ []) ∷ (74 ∷ 75 ∷ []) ∷ (76 ∷ 77 ∷ []) ∷ [])
 unfolding cross_member cross_causes holds_list total words_at every over_set nodes_together any_over over_limit no_memory
     members_of map_from parts_in parts_of ynd_of crossing walk_in next_in next find member_for belongs first_with cell_of
     nodes_of junctions_of refs_of area_of number_of body_of to_node
 no_node_there = refl
 
 -- no third member; no third place, though the part has an entry there; a list of two for three nodes
-pub no_member : cross_member (two_cells 7) [] (location 2 0) lent ≡ crossing_left (Refused 13 0) lent
+pub no_member : cross_member (two_cells 7) [] (location 2 0) lent ≡ crossing_left (Err NoSuchPlace) lent
 unfolding cross_member cross_causes
 no_member = refl
 
-pub no_place : cross_member (two_cells 7) [] (location 0 2) lent ≡ crossing_left (Refused 13 0) lent
+pub no_place : cross_member (two_cells 7) [] (location 0 2) lent ≡ crossing_left (Err NoSuchPlace) lent
 unfolding cross_member cross_causes no_memory members_of map_from parts_in parts_of words_at ynd_of
 no_place = refl
 
 pub visited_short : cross_member (two_cells 7) (0 ∷ 0 ∷ 0 ∷ []) (location 0 0) ((70 ∷ 71 ∷ []) ∷ (72 ∷ 73 ∷ []) ∷ [])
-    ≡ crossing_left (Refused 7 8) ((70 ∷ 71 ∷ []) ∷ (72 ∷ 73 ∷ []) ∷ [])
+    ≡ crossing_left (Err (TooShort lacking.List)) ((70 ∷ 71 ∷ []) ∷ (72 ∷ 73 ∷ []) ∷ [])
 unfolding cross_member cross_causes holds_list total words_at every over_set nodes_together any_over over_limit no_memory
     members_of map_from parts_in parts_of ynd_of crossing walk_in next_in next find member_for belongs first_with cell_of
     nodes_of junctions_of refs_of area_of number_of body_of to_node
@@ -84,13 +85,13 @@ visited_short = refl
 
 -- made by hand: a part of one entry for two nodes, and parts of more links than the list has
 pub part_short : cross_member (walked (entry 1 2 ∷ []) (node 5 7 0 ∷ node 5 3 1 ∷ []) (link 6 9 ∷ link 8 1 ∷ [])) []
-    (location 0 0) lent ≡ crossing_left (Refused 7 0) lent
+    (location 0 0) lent ≡ crossing_left (Err (TooShort lacking.Nodes)) lent
 unfolding cross_member cross_causes holds_list total words_at every over_set nodes_together any_over over_limit no_memory
     members_of map_from parts_in parts_of ynd_of
 part_short = refl
 
 pub list_short : cross_member (walked (entry 2 3 ∷ []) (node 5 7 0 ∷ node 5 3 1 ∷ []) (link 6 9 ∷ link 8 1 ∷ [])) []
-    (location 0 0) lent ≡ crossing_left (Refused 7 1) lent
+    (location 0 0) lent ≡ crossing_left (Err (TooShort lacking.Links)) lent
 unfolding cross_member cross_causes holds_list total words_at every over_set nodes_together any_over over_limit no_memory
     members_of map_from parts_in parts_of ynd_of
 list_short = refl
@@ -105,7 +106,7 @@ twice = walked (entry 2 2 ∷ entry 2 2 ∷ entry 2 2 ∷ [])
 
 -- a link of area 6 means the first joined
 pub first_joined : cross_member twice (0 ∷ []) (location 2 0) ((70 ∷ 71 ∷ []) ∷ (72 ∷ 73 ∷ []) ∷ [])
-    ≡ crossing_left (Ended Done 2) ((2 ∷ 0 ∷ []) ∷ (0 ∷ 0 ∷ []) ∷ [])
+    ≡ crossing_left (Ok (record { end = Done; count = 2 })) ((2 ∷ 0 ∷ []) ∷ (0 ∷ 0 ∷ []) ∷ [])
 unfolding cross_member cross_causes holds_list total words_at every over_set nodes_together any_over over_limit no_memory
     members_of map_from parts_in parts_of ynd_of crossing walk_in next_in next find member_for belongs first_with cell_of
     nodes_of junctions_of refs_of area_of number_of body_of to_node
@@ -114,7 +115,7 @@ first_joined = refl
 -- the second's own rule has its say first: its link to number 4 of area 5 stays in it, though the first has no such
 -- node
 pub own_stays : cross_member twice (0 ∷ []) (location 1 1) ((70 ∷ 71 ∷ []) ∷ (72 ∷ 73 ∷ []) ∷ [])
-    ≡ crossing_left (Ended Done 2) ((1 ∷ 1 ∷ []) ∷ (1 ∷ 1 ∷ []) ∷ [])
+    ≡ crossing_left (Ok (record { end = Done; count = 2 })) ((1 ∷ 1 ∷ []) ∷ (1 ∷ 1 ∷ []) ∷ [])
 unfolding cross_member cross_causes holds_list total words_at every over_set nodes_together any_over over_limit no_memory
     members_of map_from parts_in parts_of ynd_of crossing walk_in next_in next find member_for belongs first_with cell_of
     nodes_of junctions_of refs_of area_of number_of body_of to_node
@@ -125,7 +126,7 @@ own_stays = refl
 abbrev scratch : List ℕ
 scratch = replicate 65536 50
 
-pub is_sound : (set_sound_call (two_cells 7) scratch).answer ≡ says.Sound
+pub is_sound : (set_sound_call (two_cells 7) scratch).answer ≡ (Ok true)
 unfolding set_sound_call sound_causes holds_list total words_at every over_set nodes_together any_over over_limit members_of
     map_from parts_in parts_of ynd_of set_sound sound every_from member_for belongs first_with cell_of nodes_of junctions_of
     refs_of area_of number_of body_of to_node differing
@@ -145,20 +146,20 @@ unfolding set_sound_call sound_causes holds_list total words_at every over_set n
 scratch_ten = refl
 
 -- a link into area 5 to the number 8, which no node of it has: each member is sound, the set is not
-pub lost_link : (set_sound_call (two_cells 8) scratch).answer ≡ says.Unsound
+pub lost_link : (set_sound_call (two_cells 8) scratch).answer ≡ (Ok false)
 unfolding set_sound_call sound_causes holds_list total words_at every over_set nodes_together any_over over_limit members_of
     map_from parts_in parts_of ynd_of set_sound sound every_from member_for belongs first_with cell_of nodes_of junctions_of
     refs_of area_of number_of body_of to_node differing
 lost_link = refl
 
 -- a link into area 5, of which the first joined lacks the number 4 and the second has it
-pub first_lacks : (set_sound_call twice scratch).answer ≡ says.Unsound
+pub first_lacks : (set_sound_call twice scratch).answer ≡ (Ok false)
 unfolding set_sound_call sound_causes holds_list total words_at every over_set nodes_together any_over over_limit members_of
     map_from parts_in parts_of ynd_of set_sound sound every_from member_for belongs first_with cell_of nodes_of junctions_of
     refs_of area_of number_of body_of to_node differing
 first_lacks = refl
 
-pub scratch_short : set_sound_call (two_cells 7) (50 ∷ []) ≡ record { answer = says.Refused 7 6; scratch = 50 ∷ [] }
+pub scratch_short : set_sound_call (two_cells 7) (50 ∷ []) ≡ record { answer = Err (TooShort lacking.Scratch); scratch = 50 ∷ [] }
 unfolding set_sound_call sound_causes holds_list total words_at every over_set nodes_together any_over over_limit members_of
     map_from parts_in parts_of ynd_of
 scratch_short = refl

@@ -6,17 +6,18 @@ use mathlib.Core.Bool.{false}
 use mathlib.Core.List.{List, []}
 use mathlib.Core.Option.{Option, none, some}
 use lib.ListN.{length, get_or, take, drop, length-drop}
-use lib.Seq.{get_or-drop}
+use lib.Seq.{get_or-take, length-take-le}
 use borrow.Author.Tests.{le-ltb}
 use Rattle.cells.specs.Cell.{Link, Node, Cell, numbers}
 use Rattle.cells.specs.CellOf.{link_of, nodes_of}
 use Rattle.cells.specs.Memory.{Memory, over_limit}
 use Rattle.cells.specs.NodeWords.{link_start, link_count}
 use Rattle.cells.specs.Lookup.{find}
-use Rattle.cells.specs.LookupCall.{place_of, find_in, node_call}
+use Rattle.cells.specs.LookupCall.{Place, place_of, find_in, node_call}
 use Rattle.cells.specs.declared.ynd.Ynd.{Ynd}
-use Rattle.cells.specs.declared.lookup.Place.TheVariants as place
 use Rattle.walks.specs.Walk.{link_at}
+use Rattle.walks.specs.declared.walk.End.{End}
+use Rattle.sets.specs.declared.cross.Location.{Location}
 use Rattle.walks.specs.declared.walk.End.TheVariants.{NoLink, Left, NoNode}
 use Rattle.walks.proofs.StepLaws.{link_past, link_out, link_in}
 use Rattle.sets.specs.Members.{cell_at, areas, member_for}
@@ -25,14 +26,13 @@ use Rattle.sets.specs.CellSet.{ynd_of}
 use Rattle.sets.specs.Leave.{start_of}
 use Rattle.sets.specs.SetParts.{named_of, count_of, Holding}
 use Rattle.sets.specs.CrossParts.{walked_set, cells_in, cross_of, Lent}
-use Rattle.sets.specs.declared.named.Named.TheVariants.{Member, Nobody}
-use Rattle.sets.specs.declared.cross.Cross.{Cross}
-use Rattle.sets.specs.declared.cross.Cross.TheVariants as cross
 use Rattle.sets.proofs.PartLaws.{rest}
 use Rattle.sets.proofs.CellSetLaws.{areas_many, areas_held}
 use Rattle.sets.proofs.MemberLaws.{take_in, next_is, member_inside}
 use Rattle.sets.proofs.AreasFilled.{part_ends}
 use Rattle.sets.proofs.MemberCells.{from_start, numbers_at, nodes_at}
+use Rattle.std.specs.Prelude.{Result, Ok, Err, Some, None}
+use Rattle.numbers.specs.declared.refusal.Refusal.{Refusal}
 
 -- ---- what `node` finds in a member
 
@@ -44,7 +44,7 @@ module _ (ws nodes links : List (List ℕ)) (k number : ℕ) where
       (within : over_limit (ynd_of (get_or ws k [])) ≡ false)
       (start : ℕ) (v : Ynd) (es : start ≡ start_of 15 ws k) (ev : v ≡ ynd_of (get_or ws k [])) where
     -- its nodes from where the part starts
-    found_there : node_call v (take (length nodes - start) (drop start nodes)) number ≡ place_of found
+    found_there : node_call v (take (length nodes - start) (drop start nodes)) number ≡ Ok (place_of found)
     unfolding node_call find_in ynd_of cells_in
     found_there =
         let a = start_of 15 ws k in
@@ -58,53 +58,53 @@ module _ (ws nodes links : List (List ℕ)) (k number : ℕ) where
         ap (λ (l : List (List ℕ)). node_call v l number) (rest nodes start)
         ∙ (λ i. node_call (ev i) (drop (es i) nodes) number)
         ∙ rw (within, le-ltb (length (drop a nodes)) (count_of 10 ws k) held)
-        (ap (λ (ns : List ℕ). place_of (find ns number))
+        (ap (λ (ns : List ℕ). Ok (place_of (find ns number)))
         (sym (numbers_at (walked_set ws nodes links) k lt (h.held k lt))))
 
-    pub arrive_at : (q : ℕ) → place.At q ≡ node_call v (take (length nodes - start) (drop start nodes)) number
-        → cross.To k q ≡ cross_of (arrive_in k found)
+    pub arrive_at : (q : ℕ) → Ok (Some q) ≡ node_call v (take (length nodes - start) (drop start nodes)) number
+        → Ok (record { member = k; place = q }) ≡ cross_of (arrive_in k found)
     arrive_at q e = go found (e ∙ found_there)
       where
-        go : (o : Option ℕ) → place.At q ≡ place_of o → cross.To k q ≡ cross_of (arrive_in k o)
-        go (some p) e = let z : q ≡ p = cc in ap (cross.To k) z
+        go : (o : Option ℕ) → ◌≡◌ {A = Place} (Ok (Some q)) (Ok (place_of o)) → Ok (record { member = k; place = q }) ≡ cross_of (arrive_in k o)
+        go (some p) e = let z : q ≡ p = cc in ap (λ (x : ℕ). Ok (record { member = k; place = x })) z
         go none e = let z : ◌≡◌ {A = ℕ} 0 1 = cc in absurd (omega arith)
 
-    pub arrive_not : place.Nothing ≡ node_call v (take (length nodes - start) (drop start nodes)) number
-        → cross.Stop NoNode ≡ cross_of (arrive_in k found)
+    pub arrive_not : (Ok None) ≡ node_call v (take (length nodes - start) (drop start nodes)) number
+        → Err NoNode ≡ cross_of (arrive_in k found)
     arrive_not e = go found (e ∙ found_there)
       where
-        go : (o : Option ℕ) → place.Nothing ≡ place_of o → cross.Stop NoNode ≡ cross_of (arrive_in k o)
+        go : (o : Option ℕ) → ◌≡◌ {A = Place} (Ok None) (Ok (place_of o)) → Err NoNode ≡ cross_of (arrive_in k o)
         go (some p) e = let z : ◌≡◌ {A = ℕ} 0 1 = cc in absurd (omega arith)
         go none e = refl
 
-    pub arrive_never : (a b : ℕ) → place.Refused a b
-        ≡ node_call v (take (length nodes - start) (drop start nodes)) number → cross.Stop NoNode
+    pub arrive_never : (a : Refusal) → Err a
+        ≡ node_call v (take (length nodes - start) (drop start nodes)) number → Err NoNode
         ≡ cross_of (arrive_in k found)
-    arrive_never a b e = go found (e ∙ found_there)
+    arrive_never a e = go found (e ∙ found_there)
       where
-        go : (o : Option ℕ) → place.Refused a b ≡ place_of o → cross.Stop NoNode ≡ cross_of (arrive_in k o)
+        go : (o : Option ℕ) → ◌≡◌ {A = Place} (Err a) (Ok (place_of o)) → Err NoNode ≡ cross_of (arrive_in k o)
         go (some p) e = let z : ◌≡◌ {A = ℕ} 0 1 = cc in absurd (omega arith)
         go none e = let z : ◌≡◌ {A = ℕ} 0 1 = cc in absurd (omega arith)
 
 -- ---- by a link
 
 -- a member that a link names is there
-pub named_there : (all : List ℕ) (i a k : ℕ) → i < length all → Member k ≡ named_of (member_for all i a)
+pub named_there : (all : List ℕ) (i a k : ℕ) → i < length all → Some k ≡ named_of (member_for all i a)
     → k < length all
 named_there all i a k lt e = go (member_for all i a) (λ j f. member_inside all i a j lt f) e
   where
-    go : (o : Option ℕ) → ((j : ℕ) → o ≡ some j → j < length all) → Member k ≡ named_of o → k < length all
+    go : (o : Option ℕ) → ((j : ℕ) → o ≡ some j → j < length all) → Some k ≡ named_of o → k < length all
     go (some j) h e = let z : k ≡ j = cc in omega (arith, h j refl, z)
     go none h e = let z : ◌≡◌ {A = ℕ} 0 1 = cc in absurd (omega arith)
 
-pub enter_member : (cs : List Cell) (a n k : ℕ) (o : Option ℕ) (r : Cross) → Member k ≡ named_of o
+pub enter_member : (cs : List Cell) (a n k : ℕ) (o : Option ℕ) (r : Result Location End) → Some k ≡ named_of o
     → r ≡ cross_of (arrive_in k (find (numbers (cell_at cs k).nodes) n)) → r ≡ cross_of (enter cs a n o)
 enter_member cs a n k (some q) r e h =
     let z : k ≡ q = cc in
     h ∙ ap (λ (j : ℕ). cross_of (arrive_in j (find (numbers (cell_at cs j).nodes) n))) z
 enter_member cs a n k none r e h = let z : ◌≡◌ {A = ℕ} 0 1 = cc in absurd (omega arith)
 
-pub enter_nobody : (cs : List Cell) (a n : ℕ) (o : Option ℕ) → Nobody ≡ named_of o → cross.Stop (Left a n)
+pub enter_nobody : (cs : List Cell) (a n : ℕ) (o : Option ℕ) → None ≡ named_of o → Err (Left a n)
     ≡ cross_of (enter cs a n o)
 enter_nobody cs a n (some q) e = let z : ◌≡◌ {A = ℕ} 0 1 = cc in absurd (omega arith)
 enter_nobody cs a n none e = refl
@@ -150,11 +150,40 @@ module _ (all : List ℕ) (ws nodes links : List (List ℕ)) (h : Lent all ws no
   )
 
   -- the words of the node at the place p, and of the link at the place j
-  pub node_words_law : (first p : ℕ) → first ≡ start_of 15 ws i → get_or nodes (first + p) [] ≡ get_or here.nodes p []
-  node_words_law first p e = ap (λ (s : ℕ). get_or nodes (s + p) []) e ∙ sym (get_or-drop (start_of 15 ws i) nodes p [])
+  -- the member's own nodes and links
+  pub own_node : (own : List (List ℕ)) (p : ℕ) → own ≡ take (count_of 10 ws i) (drop (start_of 15 ws i) nodes)
+      → p < count_of 10 ws i → get_or own p [] ≡ get_or here.nodes p []
+  own_node own p e below =
+      ap (λ (l : List (List ℕ)). get_or l p []) e
+      ∙ get_or-take (count_of 10 ws i) (drop (start_of 15 ws i) nodes) p [] below
 
-  pub link_words_law : (first j : ℕ) → first ≡ start_of 16 ws i → get_or links (first + j) [] ≡ get_or here.links j []
-  link_words_law first j e = ap (λ (s : ℕ). get_or links (s + j) []) e ∙ sym (get_or-drop (start_of 16 ws i) links j [])
+  pub own_link : (own : List (List ℕ)) (j : ℕ) → own ≡ take (count_of 11 ws i) (drop (start_of 16 ws i) links)
+      → j < count_of 11 ws i → get_or own j [] ≡ get_or here.links j []
+  own_link own j e below =
+      ap (λ (l : List (List ℕ)). get_or l j []) e
+      ∙ get_or-take (count_of 11 ws i) (drop (start_of 16 ws i) links) j [] below
+
+  pub own_many : (own : List (List ℕ)) → own ≡ take (count_of 10 ws i) (drop (start_of 15 ws i) nodes)
+      → length own ≡ count_of 10 ws i
+  own_many own e =
+      ap length e
+      ∙ length-take-le (count_of 10 ws i) (drop (start_of 15 ws i) nodes) (omega (
+        arith,
+        length-drop (start_of 15 ws i) nodes,
+        part_ends 10 15 ws (length nodes) i lt h.nodes_hold,
+        h.nodes_hold.held i lt,
+      ))
+
+  pub links_many : (own : List (List ℕ)) → own ≡ take (count_of 11 ws i) (drop (start_of 16 ws i) links)
+      → length own ≡ count_of 11 ws i
+  links_many own e =
+      ap length e
+      ∙ length-take-le (count_of 11 ws i) (drop (start_of 16 ws i) links) (omega (
+        arith,
+        length-drop (start_of 16 ws i) links,
+        part_ends 11 16 ws (length links) i lt hl,
+        hl.held i lt,
+      ))
 
   module _ (p b : ℕ) (lp : p < count_of 10 ws i) where
     inside : p < here.ynd.node_count
@@ -167,11 +196,11 @@ module _ (all : List ℕ) (ws nodes links : List (List ℕ)) (h : Lent all ws no
         ∙ ap (λ (ns : List Node). take_in cs i (link_at ns p b)) nodes_here ∙ ap (take_in cs i) e)
 
     module _ (w : List ℕ) (ew : w ≡ get_or here.nodes p []) where
-      pub past_links : link_count w ≤ b → cross.Stop NoLink ≡ cross_of (next_in cs (location i p) b)
+      pub past_links : link_count w ≤ b → Err NoLink ≡ cross_of (next_in cs (location i p) b)
       past_links le = sym (step_by none (link_past here held_nodes p b inside (rw ew at le)))
 
       module _ (some-links : b < link_count w) where
-        pub out_of_links : count_of 11 ws i ≤ link_start w + b → cross.Stop NoLink
+        pub out_of_links : count_of 11 ws i ≤ link_start w + b → Err NoLink
             ≡ cross_of (next_in cs (location i p) b)
         unfolding ynd_of
         out_of_links le = sym (step_by none
@@ -179,7 +208,7 @@ module _ (all : List ℕ) (ws nodes links : List (List ℕ)) (h : Lent all ws no
 
         -- a link that is there: on by what it names
         pub by_link : link_start w + b < count_of 11 ws i → (l : List ℕ) → l ≡ get_or here.links (link_start w + b) []
-            → (r : Cross) → r ≡ cross_of (enter cs (get_or l 0 0) (get_or l 1 0) (member_for all i (get_or l 0 0)))
+            → (r : Result Location End) → r ≡ cross_of (enter cs (get_or l 0 0) (get_or l 1 0) (member_for all i (get_or l 0 0)))
             → r ≡ cross_of (next_in cs (location i p) b)
         unfolding ynd_of
         by_link le l el r er =

@@ -26,14 +26,15 @@ use Rattle.sets.specs.CellSet.{ynd_of, members_of}
 use Rattle.sets.specs.Leave.{start_of}
 use Rattle.sets.specs.SetParts.{count_of, Holding}
 use Rattle.sets.specs.CrossParts.{walked_set, cells_in, trail_in, cross_of, Lent, crossed_of, visits_over}
-use Rattle.sets.specs.declared.cross.Cross.TheVariants as cross
-use Rattle.sets.specs.declared.crossing.Crossed.{Crossed}
+use Rattle.walks.specs.declared.walk.Walked.{Walked}
 use Rattle.sets.proofs.CellSetLaws.{members_many}
 use Rattle.sets.proofs.MemberLaws.{first_has, member_inside, take_in, next_is}
 use Rattle.sets.proofs.AreasFilled.{part_ends}
 use Rattle.sets.proofs.MemberCells.{from_start, nodes_at}
 use Rattle.sets.proofs.TrailReached.{Reached, Finished, reached_step, reached_stop, reached_end, last_counted}
 use Rattle.sets.proofs.TrailStored.{visits_few, Stored, stored_start_law, stored_step, stored_last}
+use Rattle.std.specs.Prelude.{Err, Ok, Result}
+use Rattle.sets.specs.declared.cross.Location.{Location as Here}
 
 -- ---- a step leads to a node of a member
 
@@ -67,16 +68,19 @@ step_stands cs t b u lt e = go (link_at (cell_at cs t.member).nodes t.place b) (
 
 -- ---- what the code's answer says of the step
 
-led_on : (j q : ℕ) (y : Next Location) → cross.To j q ≡ cross_of y → y ≡ to (location j q)
-led_on j q (to s) e =
-    let a : j ≡ s.member = cc in
-    let b : q ≡ s.place = cc in
-    λ i. to (record { member = sym a i; place = sym b i })
-led_on j q (stop x) e = let z : ◌≡◌ {A = ℕ} 0 1 = cc in absurd (omega arith)
+abbrev led_to : Result Here End → Next Location
+led_to (Ok l) = to (location l.member l.place)
+led_to (Err x) = stop x
 
-ended : (x : End) (y : Next Location) → cross.Stop x ≡ cross_of y → y ≡ stop x
-ended x (to s) e = let z : ◌≡◌ {A = ℕ} 0 1 = cc in absurd (omega arith)
-ended x (stop f) e = cc
+led_back : (y : Next Location) → led_to (cross_of y) ≡ y
+led_back (to s) = refl
+led_back (stop x) = refl
+
+led_on : (j q : ℕ) (y : Next Location) → Ok (record { member = j; place = q }) ≡ cross_of y → y ≡ to (location j q)
+led_on j q y e = sym (ap led_to e ∙ led_back y)
+
+ended : (x : End) (y : Next Location) → Err x ≡ cross_of y → y ≡ stop x
+ended x y e = sym (ap led_to e ∙ led_back y)
 
 -- ---- the members that lists hold
 
@@ -141,7 +145,7 @@ module _ (all : List ℕ) (ws nodes links : List (List ℕ)) (h : Lent all ws no
           (omega (arith, visits_few (world_in cs) bs s)))
 
       module _ (k i p : ℕ) (r : At k (location i p)) where
-        pub led : i < length ws → (j q : ℕ) → k < length bs → cross.To j q
+        pub led : i < length ws → (j q : ℕ) → k < length bs → Ok (record { member = j; place = q })
             ≡ cross_of (next_in cs (location i p) (get_or bs k 0))
             → (j < length ws) × (q < count_of 10 ws j) × At (k + 1) (location j q)
         led li j q lt e =
@@ -154,7 +158,7 @@ module _ (all : List ℕ) (ws nodes links : List (List ℕ)) (h : Lent all ws no
               reached_step (world_in cs) bs s k (location i p) r (location j q) lt y,
             )
 
-        pub stopped : (e : End) → k < length bs → cross.Stop e ≡ cross_of (next_in cs (location i p) (get_or bs k 0))
+        pub stopped : (e : End) → k < length bs → Err e ≡ cross_of (next_in cs (location i p) (get_or bs k 0))
             → Ends k (location i p) e
         stopped e lt x = reached_stop (world_in cs) bs s k (location i p) r e lt
             (ended e (next_in cs (location i p) (get_or bs k 0)) x)
@@ -182,7 +186,7 @@ module _ (all : List ℕ) (ws nodes links : List (List ℕ)) (h : Lent all ws no
               stored_step (world_in cs) location_words bs s first fits_walk now k (location i p) t x e (location j q) r
 
           pub storing_last : (z : End) → Ends k (location i p) z
-              → ◌≡◌ {A = Crossed} (record { end = z; count = k + 1 }) (crossed_of (trail_in ws nodes links bs s))
+              → ◌≡◌ {A = Walked} (record { end = z; count = k + 1 }) (crossed_of (trail_in ws nodes links bs s))
               × (set now k x ≡ visits_over (trail_in ws nodes links bs s) first)
           unfolding trail_in crossing
           storing_last z f =

@@ -8,9 +8,7 @@ use lib.Dec.{eqb, ltb}
 use lib.ListN.{length, set, drop, length-map, length-set}
 use lib.Seq.{get_or-set_same, get_or-set_other}
 use borrow.Author.Tests.{eqb-true, eqb-false, lt-leb, le-leb}
-use Rattle.numbers.specs.Refusals.{Cause, when, decided, unless}
-use Rattle.numbers.specs.declared.answer.Answer.{Answer}
-use Rattle.numbers.specs.declared.answer.Answer.TheVariants.{Done, Refused}
+use Rattle.numbers.specs.Refusals.{Cause, when, decided}
 use Rattle.cells.specs.Memory.{Memory}
 use Rattle.cells.specs.CellOf.{cell_of}
 use Rattle.cells.specs.Renumber.{renumber}
@@ -20,17 +18,21 @@ use Rattle.walks.specs.Calls.{Call, renumbering, write_read, after, run}
 use Rattle.walks.specs.Claim.{places, SameWalk}
 use Rattle.walks.specs.declared.walk.End.{End}
 use Rattle.walks.specs.declared.walk.Walked.{Walked}
-use Rattle.walks.specs.declared.walk.Walked.TheVariants as walked
 use Rattle.walks.proofs.WalksAlike.{Lies, nodes_long, run_lies}
 use Rattle.sets.specs.Members.{map_from}
 use Rattle.sets.specs.Crossing.{Location, crossing}
-use Rattle.sets.specs.MemberList.{no_memory, member_at, cells_of, node_count, nodes_together, any_over, over_set, member_causes}
+use Rattle.sets.specs.MemberList.{no_memory, member_at, cells_of, node_count, nodes_together, any_over, over_set, member_causes, unless}
 use Rattle.sets.specs.SetRenumber.{Change, change_of, correct_words, correct_memory, members_after, renumbered_in, not_renumbered, renumber_in, both_in, not_written, write_read_in}
 use Rattle.sets.specs.SetCalls.{SetCall, after_in, run_in}
 use Rattle.sets.specs.CrossingCall.{visit_words, nodes_held, links_held, crossing_left, crossing_causes, crossing_call}
 use Rattle.sets.specs.SetClaim.{Stands}
 use Rattle.sets.proofs.SetLists.{every_all, over_long, length_from, from_map}
 use Rattle.sets.proofs.SetMemory.{member_there, cell_at_law}
+use Rattle.std.specs.Prelude.{Result, Ok, Err}
+use Rattle.numbers.specs.Refusals.{Answer}
+use Rattle.numbers.specs.declared.refusal.Refusal.{Refusal}
+use Rattle.numbers.specs.declared.refusal.Refusal.TheVariants.{TooShort, AtLimit}
+use Rattle.numbers.specs.declared.refusal.Lent.TheVariants as lent
 
 -- ---- the call
 
@@ -40,7 +42,7 @@ Held ms = (i : ℕ) → i < length ms → Lies (member_at ms i)
 
 -- what is left of the causes: the set's limits, and the visited list
 abbrev left_causes : Bool → ℕ → ℕ → List Cause
-left_causes over count room = when over 14 0 ∷ when (ltb room count) 7 8 ∷ []
+left_causes over count room = when over AtLimit ∷ when (ltb room count) (TooShort lent.List) ∷ []
 
 held_causes : (ms : List Memory) → Held ms → (s : Location) (count room : ℕ) → Stands (cells_of ms) s
     → decided (crossing_causes ms s count room) ≡ decided (left_causes (over_set ms) count room)
@@ -57,13 +59,13 @@ held_causes ms h s count room st =
     ) refl
 
 -- the answer, by the causes, the end and the count
-abbrev answer_by : Answer → End → ℕ → Walked
-answer_by a e count = unless a walked.Refused (walked.Ended e count)
+abbrev answer_by : Answer → End → ℕ → Result Walked Refusal
+answer_by a e count = unless a Err (Ok (record { end = e; count = count }))
 
 left_answer : (a : Answer) (e : End) (count : ℕ) (old new : List (List ℕ))
-    → (unless a (λ cause place. crossing_left (walked.Refused cause place) old) (crossing_left (walked.Ended e count) new)).answer ≡ answer_by a e count
-left_answer Done e count old new = refl
-left_answer (Refused x p) e count old new = refl
+    → (unless a (λ cause. crossing_left (Err cause) old) (crossing_left (Ok (record { end = e; count = count })) new)).answer ≡ answer_by a e count
+left_answer (Ok tt) e count old new = refl
+left_answer (Err x) e count old new = refl
 
 call_answer : (ms : List Memory) → Held ms → (choices : List ℕ) (s : Location) (visited : List (List ℕ)) → Stands (cells_of ms) s
     → (crossing_call ms choices s visited).answer
@@ -147,19 +149,19 @@ after_held ms k h = go k.call
     go (write_read b) = asked (decided (member_causes ms j)) refl
       where
         asked : (a : Answer) → decided (member_causes ms j) ≡ a → Held (unless a (not_written ms b) (both_in ms j (write_read_of (member_at ms j) b))).members
-        asked Done e = let lj = member_there ms j e in set_held ms j (write_read_of (member_at ms j) b).memory lj (written_lies (member_at ms j) b (h j lj)) h
-        asked (Refused x p) e = h
+        asked (Ok tt) e = let lj = member_there ms j e in set_held ms j (write_read_of (member_at ms j) b).memory lj (written_lies (member_at ms j) b (h j lj)) h
+        asked (Err x) e = h
     go (renumbering s ps) = asked (decided (member_causes ms j)) refl
       where
         called : j < length ms → (a : Answer) → Held (members_after a ms j (renumber (member_at ms j) (length s) ps).memory)
-        called lj Done =
+        called lj (Ok tt) =
             set_held (map_from (correct_memory (change_of (cells_of ms) j)) 0 ms) j (renumber (member_at ms j) (length s) ps).memory
             (rw (length_from (correct_memory (change_of (cells_of ms) j)) 0 ms) lj) (renumbered_lies (member_at ms j) s ps (h j lj)) (corrected_held (change_of (cells_of ms) j) ms h)
-        called lj (Refused x p) = h
+        called lj (Err x) = h
 
         asked : (a : Answer) → decided (member_causes ms j) ≡ a → Held (unless a (not_renumbered ms ps) (renumbered_in ms j (renumber (member_at ms j) (length s) ps))).members
-        asked Done e = called (member_there ms j e) (renumber (member_at ms j) (length s) ps).answer
-        asked (Refused x p) e = h
+        asked (Ok tt) e = called (member_there ms j e) (renumber (member_at ms j) (length s) ps).answer
+        asked (Err x) e = h
 
 pub run_held : (ms : List Memory) (ks : List SetCall) → Held ms → Held (run_in ms ks)
 unfolding run_in

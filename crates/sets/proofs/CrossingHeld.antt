@@ -9,9 +9,7 @@ use lib.Dec.{ltb, leb}
 use lib.ListN.{length, get_or, drop, length-map, length-drop}
 use lib.Seq.{length-take-le}
 use borrow.Author.Tests.{le-ltb, le-leb, lt-leb, ltb-true, ltb-false}
-use Rattle.numbers.specs.Refusals.{Cause, when, decided, unless}
-use Rattle.numbers.specs.declared.answer.Answer.{Answer}
-use Rattle.numbers.specs.declared.answer.Answer.TheVariants as answer
+use Rattle.numbers.specs.Refusals.{Cause, when, decided}
 use Rattle.cells.specs.Lists.{every}
 use Rattle.cells.specs.Memory.{Memory, over_limit}
 use Rattle.cells.specs.CellOf.{nodes_of, cell_of}
@@ -20,10 +18,9 @@ use Rattle.cells.proofs.Sequences.Tests.{by_test, map_drop, map_append}
 use Rattle.walks.specs.Walk.{Visit, Trail, walk}
 use Rattle.walks.specs.Claim.{places}
 use Rattle.walks.specs.WalkCall.{Route, route, WalkLeft, walk_left, walk_call}
-use Rattle.walks.specs.declared.walk.Walked.TheVariants.{Ended, Refused}
 use Rattle.walks.proofs.Routes.{trail_route}
 use Rattle.sets.specs.Crossing.{Location, location, crossing}
-use Rattle.sets.specs.MemberList.{no_memory, cells_of, nodes_together, any_over, over_set}
+use Rattle.sets.specs.MemberList.{no_memory, cells_of, nodes_together, any_over, over_set, unless}
 use Rattle.sets.specs.CrossingCall.{location_words, visit_words, nodes_held, links_held, CrossingLeft, crossing_left}
 use Rattle.sets.specs.CrossingCall.{crossed_by, crossing_causes, crossing_call}
 use Rattle.sets.specs.CellSet.{CellSet, ynd_of, words_at, parts_of, parts_in, members_of, room_for, holds_list}
@@ -35,6 +32,11 @@ use Rattle.sets.proofs.PartLaws.{part_of}
 use Rattle.sets.proofs.CellSetLaws.{members_many, member_at_law}
 use Rattle.sets.proofs.AreasFilled.{part_ends}
 use Rattle.sets.proofs.OneMember.{one_member}
+use Rattle.std.specs.Prelude.{Ok, Err}
+use Rattle.numbers.specs.declared.refusal.Refusal.{Refusal}
+use Rattle.numbers.specs.Refusals.{Answer}
+use Rattle.numbers.specs.declared.refusal.Refusal.TheVariants.{TooShort, NoSuchPlace, AtLimit}
+use Rattle.numbers.specs.declared.refusal.Lent.TheVariants as lent
 
 -- ---- lists that hold the members
 
@@ -134,11 +136,11 @@ module _ (m : Memory) where
   module _ (choices : List ℕ) (p : ℕ) (visited : List ℕ) where
     abbrev causes : ℕ → ℕ → List Cause
     causes count room =
-        when (leb m.ynd.node_count p) 13 0
-        ∷ when (over_limit m.ynd) 14 0
-        ∷ when (ltb (length m.nodes) m.ynd.node_count) 7 0
-        ∷ when (ltb (length m.links) m.ynd.link_count) 7 1
-        ∷ when (ltb room count) 7 8
+        when (leb m.ynd.node_count p) NoSuchPlace
+        ∷ when (over_limit m.ynd) AtLimit
+        ∷ when (ltb (length m.nodes) m.ynd.node_count) (TooShort lent.Nodes)
+        ∷ when (ltb (length m.links) m.ynd.link_count) (TooShort lent.Links)
+        ∷ when (ltb room count) (TooShort lent.List)
         ∷ []
 
     one_causes : (count room : ℕ) → decided (crossing_causes (m ∷ []) (location 0 p) count room)
@@ -156,10 +158,10 @@ module _ (m : Memory) where
     abbrev n : ℕ
     n = length r.places
 
-    in_order : {A : Type 0} (a o b c d : Bool) (refusal : ℕ → ℕ → A) (x : A)
-        → cond a (refusal 13 0) (cond o (refusal 14 0)
-        (cond b (refusal 7 0) (cond c (refusal 7 1) (cond d (refusal 7 8) x))))
-        ≡ unless (decided (when a 13 0 ∷ when o 14 0 ∷ when b 7 0 ∷ when c 7 1 ∷ when d 7 8 ∷ [])) refusal x
+    in_order : {A : Type 0} (a o b c d : Bool) (refusal : Refusal → A) (x : A)
+        → cond a (refusal NoSuchPlace) (cond o (refusal AtLimit)
+        (cond b (refusal (TooShort lent.Nodes)) (cond c (refusal (TooShort lent.Links)) (cond d (refusal (TooShort lent.List)) x))))
+        ≡ unless (decided (when a NoSuchPlace ∷ when o AtLimit ∷ when b (TooShort lent.Nodes) ∷ when c (TooShort lent.Links) ∷ when d (TooShort lent.List) ∷ [])) refusal x
     in_order true o b c d f x = refl
     in_order false true b c d f x = refl
     in_order false false true c d f x = refl
@@ -168,8 +170,8 @@ module _ (m : Memory) where
     in_order false false false false false f x = refl
 
     walk_causes : walk_call m choices p visited
-        ≡ unless (decided (causes n (length visited))) (λ cause place. walk_left (Refused cause place) visited)
-        (walk_left (Ended r.ending n) (r.places ++ drop n visited))
+        ≡ unless (decided (causes n (length visited))) (λ cause. walk_left (Err cause) visited)
+        (walk_left (Ok (record { end = r.ending; count = n })) (r.places ++ drop n visited))
     unfolding walk_call
     walk_causes = in_order (leb m.ynd.node_count p) (over_limit m.ynd) (ltb (length m.nodes) m.ynd.node_count)
         (ltb (length m.links) m.ynd.link_count) (ltb (length visited) n) _ _
@@ -210,10 +212,10 @@ module _ (m : Memory) where
         ∙ ap placed_call (sym walk_causes)
       where
         go : (a : Answer) → crossed_by a t (in_first visited)
-            ≡ placed_call (unless a (λ cause place. walk_left (Refused cause place) visited)
-            (walk_left (Ended r.ending n) (r.places ++ drop n visited)))
-        go answer.Done = λ i. crossing_left (Ended (ending_is i) (long i)) (stored_is i)
-        go (answer.Refused cause place) = refl
+            ≡ placed_call (unless a (λ cause. walk_left (Err cause) visited)
+            (walk_left (Ok (record { end = r.ending; count = n })) (r.places ++ drop n visited)))
+        go (Ok tt) = λ i. crossing_left (Ok (record { end = (ending_is i); count = (long i) })) (stored_is i)
+        go (Err cause) = refl
 
 -- the same of six lists that hold the member
 pub one_crossing : (y : CellSet) (m : Memory) → members_of y ≡ m ∷ [] → Holding 10 15 y.members (length y.nodes)

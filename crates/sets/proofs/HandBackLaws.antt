@@ -2,24 +2,18 @@
 use Prim.Native.Nat.{ℕ, ◌+◌, ◌≤◌, ◌<◌}
 use native.Mathlib.Omega.{arith}
 use mathlib.Core.Path.{◌≡◌, refl, ap, sym, ◌∙◌}
-use mathlib.Core.Bool.{Bool, cond}
-use mathlib.Core.List.{List, [], ◌∷◌, map}
+use mathlib.Core.List.{List, [], map}
 use mathlib.Core.Option.{Option, none, some}
-use lib.Dec.{ltb}
 use lib.ListN.{length, take, drop}
 use lib.Seq.{length-take-le, take_at}
-use borrow.Author.Tests.{lt-ltb, le-ltb, lt-leb}
-use Rattle.numbers.specs.Refusals.{when, decided}
+use borrow.Author.Tests.{lt-leb}
+use Rattle.numbers.specs.Refusals.{decided}
 use Rattle.numbers.specs.Refusals.{unless as otherwise}
-use Rattle.numbers.proofs.Refusing.{decided_append}
-use Rattle.numbers.specs.declared.answer.Answer.{Answer}
-use Rattle.numbers.specs.declared.answer.Answer.TheVariants.{Done, Refused}
-use Rattle.cells.specs.Memory.{Memory, memory, Left, unless, left, refuse, short}
+use Rattle.cells.specs.Memory.{Memory, memory, Left, unless, refuse}
 use Rattle.cells.specs.Add.{done}
 use Rattle.cells.specs.Lookup.{first_with}
 use Rattle.cells.specs.CellOf.{link_of, ref_of, node_with, junction_with, nodes_of, junctions_of, refs_of, cell_of}
 use Rattle.cells.specs.declared.ynd.Ynd.{Ynd}
-use Rattle.cells.specs.declared.ynd.Outcome.{Outcome}
 use Rattle.cells.proofs.Reading.Fits.{Whole, whole}
 use Rattle.sets.specs.CellSet.{CellSet, ynd_of, set_causes}
 use Rattle.sets.specs.Leave.{first_of_area, leave_causes, start_of}
@@ -30,13 +24,16 @@ use Rattle.sets.specs.HandBack.{copied, leaver, lack_of_back, hand_causes, hand_
 use Rattle.sets.specs.MemberParts.{between, part_memory, Given, Giving}
 use Rattle.sets.specs.declared.parts.PerList.{PerList}
 use Rattle.sets.specs.declared.member.MemberPart.{MemberPart}
-use Rattle.sets.specs.declared.named.Named.TheVariants.{Member, Nobody}
 use Rattle.sets.proofs.PartLaws.{start_next}
 use Rattle.sets.proofs.LeaveLaws.{found_is, named_some, named_none}
 use Rattle.sets.proofs.MemberLaws.{first_has}
 use Rattle.sets.proofs.CellSetLaws.{areas_many}
 use Rattle.sets.proofs.RoomLaws.{accepted, causes_held}
 use Rattle.sets.proofs.MemberPartLaws.{OpenAt, member_whole}
+use Rattle.std.specs.Prelude.{Ok, Err, Some, None}
+use Rattle.numbers.specs.Refusals.{Answer}
+use Rattle.numbers.specs.declared.refusal.Refusal.{Refusal}
+use Rattle.numbers.specs.declared.refusal.Refusal.TheVariants.{NoSuchPlace}
 
 -- ---- what is copied
 
@@ -91,10 +88,6 @@ own_words from m v = refl
 
 -- ---- the call's answers
 
-pub given_not : (m : Memory) (x q : ℕ) (r : Outcome) → r ≡ record { answer = Refused x q; ynd = m.ynd }
-    → left r m.nodes m.links m.junctions m.heights m.refs ≡ refuse x q m
-given_not m x q r e = ap (λ (o : Outcome). left o m.nodes m.links m.junctions m.heights m.refs) e
-
 first_there : (y : CellSet) (area j : ℕ) → first_of_area y area ≡ some j → j < length y.members
 first_there y area j at =
     omega (arith, (first_has (areas_of y.members y.nodes) area j (found_is y area ∙ at)).0, areas_many y.members y.nodes)
@@ -103,29 +96,25 @@ module _ (y : CellSet) (area : ℕ) (m : Memory) where
   abbrev found : Option ℕ
   found = first_with (areas_of y.members y.nodes) area
 
-  pub hand_nobody : Nobody ≡ named_of found → refuse 13 0 m ≡ hand_back y area m
+  pub hand_nobody : None ≡ named_of found → refuse NoSuchPlace m ≡ hand_back y area m
   unfolding hand_back hand_causes leave_causes
   hand_nobody n = let e : first_of_area y area ≡ none = sym (found_is y area) ∙ named_none y area found n in rw e
 
   module _ (j : ℕ) where
-    abbrev lack : ℕ
-    lack = lack_of_back (member_in y j) m
-
     abbrev last : Answer
-    last = decided (when (ltb lack 5) 7 lack ∷ [])
+    last = lack_of_back (member_in y j) m
 
     hand_is : first_of_area y area ≡ some j
-        → hand_back y area m ≡ unless (otherwise (decided (set_causes y)) Refused last) m (done (copied (member_in y j) m))
+        → hand_back y area m ≡ unless (otherwise (decided (set_causes y)) last) m (done (copied (member_in y j) m))
     unfolding hand_back hand_causes leave_causes leaver
-    hand_is at = rw at (ap (λ (a : Answer). unless a m (done (copied (member_in y j) m)))
-        (decided_append (set_causes y) (when (ltb lack 5) 7 lack ∷ [])))
+    hand_is at = rw at
 
     set_asked : j < length y.members → decided (ask_causes y j) ≡ decided (set_causes y)
     unfolding ask_causes
     set_asked lt = rw (lt-leb (length y.members) j lt)
 
     -- an accepted call: the lists lent hold the cell that the member is
-    pub handed_cell : first_of_area y area ≡ some j → (hand_back y area m).answer ≡ Done
+    pub handed_cell : first_of_area y area ≡ some j → (hand_back y area m).answer ≡ (Ok tt)
         → cell_of (hand_back y area m).memory ≡ cell_of (member_in y j)
     handed_cell at e =
         let s = hand_is at in
@@ -135,47 +124,46 @@ module _ (y : CellSet) (area : ℕ) (m : Memory) where
         ap (λ (l : Left). cell_of l.memory) s ∙ ap cell_of r.1
         ∙ copied_cell (member_in y j) m (member_whole y j there k.whole)
       where
-        accepts : (a b : Answer) → (unless (otherwise a Refused b) m (done (copied (member_in y j) m))).answer ≡ Done
-            → (a ≡ Done) × ((unless (otherwise a Refused b) m (done (copied (member_in y j) m))).memory
+        accepts : (a b : Answer) → (unless (otherwise a b) m (done (copied (member_in y j) m))).answer ≡ (Ok tt)
+            → (a ≡ (Ok tt)) × ((unless (otherwise a b) m (done (copied (member_in y j) m))).memory
             ≡ copied (member_in y j) m)
-        accepts Done Done e = (refl, refl)
-        accepts Done (Refused x p) e = let z : ◌≡◌ {A = ℕ} 0 1 = cc in absurd (omega arith)
-        accepts (Refused x p) b e = let z : ◌≡◌ {A = ℕ} 0 1 = cc in absurd (omega arith)
+        accepts (Ok u) (Ok v) e = (refl, refl)
+        accepts (Ok u) (Err x) e = let z : ◌≡◌ {A = ℕ} 0 1 = cc in absurd (omega arith)
+        accepts (Err x) b e = let z : ◌≡◌ {A = ℕ} 0 1 = cc in absurd (omega arith)
 
-  module _ (j : ℕ) (f : Member j ≡ named_of found) where
+  module _ (j : ℕ) (f : Some j ≡ named_of found) where
     at : first_of_area y area ≡ some j
     at = sym (found_is y area) ∙ named_some y area j found f
 
-    pub hand_not : j < length y.members → (x p : ℕ) → decided (ask_causes y j) ≡ Refused x p
-        → refuse x p m ≡ hand_back y area m
-    hand_not lt x p e = ap (λ (a : Answer). unless (otherwise a Refused (last j)) m (done (copied (member_in y j) m)))
+    pub hand_not : j < length y.members → (x : Refusal) → decided (ask_causes y j) ≡ Err x
+        → refuse x m ≡ hand_back y area m
+    hand_not lt x e = ap (λ (a : Answer). unless (otherwise a (last j)) m (done (copied (member_in y j) m)))
         (sym e ∙ set_asked j lt) ∙ sym (hand_is j at)
 
-    module _ (p : MemberPart) (k : OpenAt y j p) (n : ℕ)
-        (en : n ≡ lack_of_back (memory p.ynd [] [] [] [] []) m) where
-      lack_is : n ≡ lack j
-      lack_is = en ∙ ap (λ (v : Memory). lack_of_back (memory v.ynd [] [] [] [] []) m) k.part
+    module _ (p : MemberPart) (k : OpenAt y j p) where
+      abbrev asked : Answer
+      asked = lack_of_back (memory p.ynd [] [] [] [] []) m
 
-      passed : hand_back y area m ≡ unless (last j) m (done (copied (member_in y j) m))
-      passed = hand_is j at
-          ∙ ap (λ (a : Answer). unless (otherwise a Refused (last j)) m (done (copied (member_in y j) m)))
-          (sym (set_asked j k.may.there) ∙ k.asked)
+      abbrev handed : Answer → Left
+      handed a = unless a m (done (copied (member_in y j) m))
 
-      pub hand_short : n < 5 → refuse 7 n m ≡ hand_back y area m
-      hand_short lt =
-          ap (λ (z : ℕ). refuse 7 z m) lack_is
-          ∙ sym (passed ∙ ap (λ (b : Bool). unless (cond b (Refused 7 (lack j)) Done) m
-          (done (copied (member_in y j) m)))
-          (lt-ltb (lack j) 5 (let z : lack j < 5 = omega (arith, lack_is) in z)))
+      lack_is : asked ≡ last j
+      lack_is = ap (λ (v : Memory). lack_of_back (memory v.ynd [] [] [] [] []) m) k.part
 
-      pub hand_done : 5 ≤ n → (r : Memory)
+      passed : handed asked ≡ hand_back y area m
+      passed = ap handed lack_is
+          ∙ sym (hand_is j at ∙ ap (λ (a : Answer). handed (otherwise a (last j)))
+          (sym (set_asked j k.may.there) ∙ k.asked))
+
+      pub hand_short : (x : Refusal) → asked ≡ Err x → refuse x m ≡ hand_back y area m
+      hand_short x e = ap handed (sym e) ∙ passed
+
+      pub hand_done : asked ≡ (Ok tt) → (r : Memory)
           → r ≡ copied (part_memory p.ynd p.a p.e y) (memory p.ynd m.nodes m.links m.junctions m.heights m.refs)
           → done r ≡ hand_back y area m
-      hand_done le r e =
+      hand_done d r e =
           ap done (e ∙ own_words (part_memory p.ynd p.a p.e y) m p.ynd ∙ ap (λ (v : Memory). copied v m) k.part)
-          ∙ sym (passed ∙ ap (λ (b : Bool). unless (cond b (Refused 7 (lack j)) Done) m
-          (done (copied (member_in y j) m)))
-          (le-ltb (lack j) 5 (let z : 5 ≤ lack j = omega (arith, lack_is) in z)))
+          ∙ ap handed (sym d) ∙ passed
 
       given : (c size : ℕ) (len have a e : ℕ) → Holding c size y.members len → (w : ℕ) → w ≡ count_of c y.members j
           → a ≡ start_of size y.members j → e ≡ start_of size y.members (j + 1) → e ≤ len → w ≤ have
@@ -186,11 +174,10 @@ module _ (y : CellSet) (area : ℕ) (m : Memory) where
         room = hw;
       }
 
-      pub hand_fits : 5 ≤ n → Giving p (set_lengths y) (cell_lengths m)
+      pub hand_fits : asked ≡ (Ok tt) → Giving p (set_lengths y) (cell_lengths m)
       unfolding ynd_of
-      hand_fits le =
-          let t = whole (memory p.ynd m.nodes m.links m.junctions m.heights m.refs)
-          (let z : 5 ≤ short (memory p.ynd m.nodes m.links m.junctions m.heights m.refs) = omega (arith, en) in z) in
+      hand_fits d =
+          let t = whole (memory p.ynd m.nodes m.links m.junctions m.heights m.refs) d in
           let h = k.may.whole in
           record {
             nodes = given 10 15 _ _ _ _ h.nodes_hold _ (ap (λ (v : Ynd). v.node_count) k.own)

@@ -1,55 +1,44 @@
 -- The call `join`, by what its parts answer.
-use Prim.Native.Nat.{ℕ, ◌+◌, ◌-◌, ◌≤◌}
+use Prim.Native.Nat.{ℕ, ◌+◌, ◌≤◌, min}
 use native.Mathlib.Omega.{arith}
 use mathlib.Core.Path.{◌≡◌, ap, sym, ◌∙◌}
 use mathlib.Core.Bool.{Bool, ◌||◌}
 use mathlib.Core.List.{List, [], ◌∷◌, ◌++◌}
 use lib.Dec.{ltb, leb}
-use lib.ListN.{length, set, take, drop, length-append}
-use lib.Seq.{length-take-le, take_all}
-use borrow.Author.Tests.{ltb-true, ltb-false}
-use Rattle.numbers.specs.Refusals.{when, decided, unless}
-use Rattle.numbers.specs.declared.answer.Answer.{Answer}
-use Rattle.numbers.specs.declared.answer.Answer.TheVariants.{Done, Refused}
+use lib.ListN.{length, set, take, length-append}
+use Rattle.std.proofs.lemmas.List.{length-take, take_min}
+use Rattle.numbers.specs.Refusals.{when, decided}
 use Rattle.cells.specs.Memory.{Memory, over_limit}
 use Rattle.cells.specs.CellOf.{cell_of}
 use Rattle.cells.specs.NodeWords.{first_area}
 use Rattle.cells.specs.Lookup.{first_with, is_some}
-use Rattle.cells.proofs.Sequences.Tests.{by_test}
 use Rattle.cells.proofs.Lookups.LookupLaws.{area_held}
 use Rattle.sets.specs.Members as members
 use Rattle.sets.specs.Members.{areas}
-use Rattle.sets.specs.MemberList.{cells_of, node_count, nodes_together, any_over, over_set}
+use Rattle.sets.specs.MemberList.{cells_of, node_count, nodes_together, any_over, over_set, unless}
 use Rattle.sets.specs.CellSet.{CellSet, cell_set, words_at, total, parts_in, members_of}
 use Rattle.sets.specs.Leave.{SetLeft, set_left, used, start_of, first_of_area}
 use Rattle.sets.specs.Join.{entry_of, stored, lack_for, set_lengths, cell_lengths, join_causes, with_cell, join_cell}
-use Rattle.sets.specs.SetParts.{starts_of, areas_of, bare, bare_cell, counts_in, entry_causes, least}
+use Rattle.sets.specs.SetParts.{starts_of, areas_of, bare, bare_cell, counts_in, entry_causes}
 use Rattle.sets.specs.declared.parts.PerList.{PerList}
 use Rattle.sets.proofs.PartLaws.{start_all}
 use Rattle.sets.proofs.CellSetLaws.{members_many, areas_held}
 use Rattle.sets.proofs.RoomLaws.{bare_many, from_together, from_over}
 use Rattle.sets.proofs.JoinLaws.{together_more, over_more, AllFit, may}
+use Rattle.std.specs.Prelude.{Ok, Err}
+use Rattle.numbers.specs.declared.refusal.Refusal.{Refusal}
+use Rattle.numbers.specs.Refusals.{Answer}
+use Rattle.numbers.specs.declared.refusal.Refusal.TheVariants.{TooShort, AtLimit, AreaTaken}
+use Rattle.numbers.specs.declared.refusal.Lent.TheVariants as lent
 
 -- ---- the set's entries
 
-pub least_is : {A : Type 0} (l : List A) (count h : ℕ) → h ≡ least count (length l) → h ≡ length (take count l)
-least_is l count h e = by_test (ltb count (length l))
-    (λ t. e ∙ rw t (sym (length-take-le count l (let z = ltb-true count (length l) t in omega arith))))
-    (λ f. e ∙ rw f (ap length (sym (take_all count l (ltb-false count (length l) f)))))
-
-pub least_below : (a b h : ℕ) → h ≡ least a b → h ≤ b
-least_below a b h e = by_test (ltb a b)
-    (λ t. let z : h ≡ a = e ∙ rw t in let l = ltb-true a b t in omega arith)
-    (λ f. let z : h ≡ b = e ∙ rw f in omega arith)
+pub least_is : {A : Type 0} (l : List A) (count h : ℕ) → h ≡ min count (length l) → h ≡ length (take count l)
+least_is l count h e = e ∙ sym (length-take count l)
 
 -- the slice that is lent is the set's entries
-pub front_is : {A : Type 0} (l : List A) (count h : ℕ) → h ≡ least count (length l) → take (h - 0) (drop 0 l) ≡ take count l
-front_is l count h e =
-    let d : h - 0 ≡ h = omega arith in
-    ap (λ (n : ℕ). take n l) (d ∙ e)
-    ∙ by_test (ltb count (length l))
-    (λ t. rw t)
-    (λ f. rw f (take_all (length l) l (omega arith) ∙ sym (take_all count l (ltb-false count (length l) f))))
+pub front_is : {A : Type 0} (l : List A) (count h : ℕ) → h ≡ min count (length l) → take h l ≡ take count l
+front_is l count h e = ap (λ (n : ℕ). take n l) e ∙ take_min count l
 
 -- ---- the causes
 
@@ -81,24 +70,28 @@ module _ (count : ℕ) (y : CellSet) (m : Memory) (sizes : PerList) where
   causes_are area e =
       let here : is_some (first_with (areas_of z.members y.nodes) area) ≡ is_some (first_with (areas (cells_of (members_of z))) (members.area_of (cell_of m))) = λ i. is_some (first_with (areas_held z i) ((e ∙ sym (area_held m)) i)) in
       let lack = lack_for z.members (set_lengths y) (cell_lengths m) m.ynd sizes in
-      λ i. decided (when (here i) 18 0 ∷ when (sym (over_alike z m) i) 14 0 ∷ when (ltb lack 5) 7 lack ∷ when (leb room (length z.members)) 7 10 ∷ [])
+      λ i. decided (when (here i) AreaTaken ∷ when (sym (over_alike z m) i) AtLimit ∷ (lack ++ (when (leb room (length z.members)) (TooShort lent.Members) ∷ [])))
 
   abbrev pub left : Answer → SetLeft
-  left a = unless a (λ cause place. set_left (Refused cause place) (length z.members) y) (set_left Done (length z.members + 1) (with_cell y z m sizes))
+  left a = unless a (λ cause. set_left (Err cause) (length z.members) y) (set_left (Ok tt) (length z.members + 1) (with_cell y z m sizes))
 
-  module _ (area : ℕ) (ea : area ≡ first_area (take m.ynd.node_count m.nodes)) (h : ℕ) (eh : h ≡ least count room) where
+  module _ (area : ℕ) (ea : area ≡ first_area (take m.ynd.node_count m.nodes)) (h : ℕ) (eh : h ≡ min count room) where
     pub call_is : left (asked area) ≡ join_cell count y m sizes
     unfolding join_cell
     call_is = ap left (causes_are area ea)
 
-    pub refused_join : (a : Answer) (x p : ℕ) → a ≡ asked area → a ≡ Refused x p → set_left a h y ≡ join_cell count y m sizes
-    refused_join a x p e t =
-        (λ i. set_left (t i) (least_is y.members count h eh i) y) ∙ ap left (sym t ∙ e) ∙ call_is
+    pub refused_join : (x : Refusal) → Err x ≡ asked area → set_left (Err x) (length z.members) y ≡ join_cell count y m sizes
+    refused_join x e = ap left e ∙ call_is
+
+    pub asked_is : (lens haves : PerList) → lens ≡ set_lengths y → haves ≡ cell_lengths m → (a : Answer)
+        → a ≡ decided (entry_causes (take h y.members) y.nodes lens haves m.ynd sizes area room) → a ≡ asked area
+    asked_is lens haves el ec a e =
+        e ∙ (λ i. decided (entry_causes (front_is y.members count h eh i) y.nodes (el i) (ec i) m.ynd sizes area room))
 
     end : (size : ℕ) → start_of size z.members h ≡ total (words_at size z.members)
     end size = ap (start_of size z.members) (least_is y.members count h eh) ∙ start_all size z.members
 
-    module _ (d : Done ≡ asked area) (s : PerList) (es : s ≡ starts_of z.members h) (k : PerList) (ek : k ≡ counts_in m.ynd) where
+    module _ (d : (Ok tt) ≡ asked area) (s : PerList) (es : s ≡ starts_of z.members h) (k : PerList) (ek : k ≡ counts_in m.ynd) where
       fits : AllFit z.members (set_lengths y) (cell_lengths m) m.ynd sizes
       fits = (may z.members y.nodes (set_lengths y) (cell_lengths m) m.ynd sizes area room d).fit
 
@@ -120,11 +113,11 @@ module _ (count : ℕ) (y : CellSet) (m : Memory) (sizes : PerList) where
           → N ≡ stored s.nodes (take k.nodes m.nodes) y.nodes → L ≡ stored s.links (take k.links m.links) y.links
           → J ≡ stored s.junctions (take k.junctions m.junctions) y.junctions → H ≡ stored s.heights (take k.heights m.heights) y.heights
           → R ≡ stored s.refs (take k.refs m.refs) y.refs
-          → set_left Done (h + 1) (cell_set (set y.members h W) N L J H R) ≡ join_cell count y m sizes
+          → set_left (Ok tt) (h + 1) (cell_set (set y.members h W) N L J H R) ≡ join_cell count y m sizes
       unfolding with_cell
       joined W N L J R H eW eN eL eJ eH eR =
           let e = least_is y.members count h eh in
-          (λ i. set_left Done (e i + 1) (record {
+          (λ i. set_left (Ok tt) (e i + 1) (record {
             members = set y.members (e i) (eW i);
             nodes = (eN ∙ (λ j. stored ((ap (λ (q : PerList). q.nodes) es ∙ end 15) j) (take (ek j).nodes m.nodes) y.nodes)) i;
             links = (eL ∙ (λ j. stored ((ap (λ (q : PerList). q.links) es ∙ end 16) j) (take (ek j).links m.links) y.links)) i;

@@ -4,13 +4,12 @@ use native.Mathlib.Omega.{arith}
 use mathlib.Core.Path.{◌≡◌, refl, ap, sym, ◌∙◌}
 use mathlib.Core.Bool.{Bool, true, false, ◌||◌}
 use mathlib.Core.List.{List, [], ◌∷◌, ◌++◌}
-use mathlib.Core.Option.{Option, none, some}
+use mathlib.Core.Option.{Option}
 use lib.Dec.{ltb, leb}
 use lib.ListN.{length, length-append}
 use borrow.Author.Tests.{lt-ltb, le-ltb, lt-leb, le-leb, leb-true, leb-false, ltb-true, ltb-false}
-use Rattle.numbers.specs.Refusals.{decided}
-use Rattle.numbers.specs.declared.answer.Answer.{Answer}
-use Rattle.numbers.specs.declared.answer.Answer.TheVariants.{Done, Refused}
+use Rattle.numbers.specs.Refusals.{Cause, when, decided, unless}
+use Rattle.numbers.proofs.Refusing.{decided_append, not_refused, passed}
 use Rattle.cells.specs.Lookup.{first_with, is_some}
 use Rattle.cells.specs.Memory.{Memory, over_limit}
 use Rattle.cells.specs.declared.ynd.Ynd.{Ynd}
@@ -18,11 +17,15 @@ use Rattle.cells.proofs.Sequences.Tests.{by_test, and_left, and_right, true_fals
 use Rattle.sets.specs.MemberList.{node_count, nodes_together, any_over, over_set}
 use Rattle.cells.specs.Lists.{every}
 use Rattle.sets.specs.CellSet.{words_at, total, room_for, holds_list}
-use Rattle.sets.specs.Join.{part_fits, lack_later, lack_for}
-use Rattle.sets.specs.SetParts.{named_of, bare, bare_cell, areas_of, entry_causes}
+use Rattle.sets.specs.Join.{part_fits, lack_for}
+use Rattle.sets.specs.SetParts.{bare, bare_cell, areas_of, entry_causes}
 use Rattle.sets.specs.declared.parts.PerList.{PerList}
-use Rattle.sets.specs.declared.named.Named.TheVariants.{Member, Nobody}
-use Rattle.sets.proofs.RoomLaws.{bare_many, bare_together}
+use Rattle.sets.proofs.RoomLaws.{bare_many, bare_together, fit_true, tail_done}
+use Rattle.std.specs.Prelude.{Ok, Err}
+use Rattle.numbers.specs.Refusals.{Answer}
+use Rattle.numbers.specs.declared.refusal.Refusal.{Refusal}
+use Rattle.numbers.specs.declared.refusal.Refusal.TheVariants.{TooShort, AtLimit, AreaTaken}
+use Rattle.numbers.specs.declared.refusal.Lent.TheVariants as lent
 
 -- ---- a part
 
@@ -82,56 +85,15 @@ fitting k size ws len have count room t =
 
 -- ---- the five lists
 
+-- two lists of causes, one behind the other
+pub both_done : (xs ys : List Cause) → decided (xs ++ ys) ≡ (Ok tt) → (decided xs ≡ (Ok tt)) × (decided ys ≡ (Ok tt))
+both_done xs ys e = go (decided xs) (decided ys) (sym (decided_append xs ys) ∙ e)
+  where
+    go : (a b : Answer) → unless a b ≡ (Ok tt) → (a ≡ (Ok tt)) × (b ≡ (Ok tt))
+    go (Ok tt) b e = (refl, e)
+    go (Err x) b e = not_refused e
+
 module _ (ws : List (List ℕ)) (lens haves : PerList) (y : Ynd) (sizes : PerList) where
-  abbrev F₀ : Bool
-  F₀ = part_fits 10 15 ws lens.nodes haves.nodes y.node_count sizes.nodes
-
-  abbrev F₁ : Bool
-  F₁ = part_fits 11 16 ws lens.links haves.links y.link_count sizes.links
-
-  abbrev F₂ : Bool
-  F₂ = part_fits 12 17 ws lens.junctions haves.junctions y.junction_count sizes.junctions
-
-  abbrev F₃ : Bool
-  F₃ = part_fits 13 18 ws lens.heights haves.heights y.heightmap_count sizes.heights
-
-  abbrev F₄ : Bool
-  F₄ = part_fits 14 19 ws lens.refs haves.refs y.ref_count sizes.refs
-
-  abbrev lack_at : ℕ
-  lack_at = lack_for ws lens haves y sizes
-
-  pub for_nodes : F₀ ≡ false → 0 ≡ lack_at
-  unfolding lack_for
-  for_nodes a = rw a
-
-  pub for_links : F₀ ≡ true → F₁ ≡ false → 1 ≡ lack_at
-  unfolding lack_for
-  for_links a b = rw (a, b)
-
-  abbrev later_at : ℕ
-  later_at = lack_later ws lens haves y sizes
-
-  pub for_later : F₀ ≡ true → F₁ ≡ true → later_at ≡ lack_at
-  unfolding lack_for
-  for_later a b = rw (a, b)
-
-  pub later_junctions : F₂ ≡ false → 2 ≡ later_at
-  unfolding lack_later
-  later_junctions c = rw c
-
-  pub later_heights : F₂ ≡ true → F₃ ≡ false → 3 ≡ later_at
-  unfolding lack_later
-  later_heights c d = rw (c, d)
-
-  pub later_refs : F₂ ≡ true → F₃ ≡ true → F₄ ≡ false → 4 ≡ later_at
-  unfolding lack_later
-  later_refs c d e = rw (c, d, e)
-
-  pub later_none : F₂ ≡ true → F₃ ≡ true → F₄ ≡ true → 5 ≡ later_at
-  unfolding lack_later
-  later_none c d e = rw (c, d, e)
-
   pub record AllFit : Type 0 where
     pub nodes : Fitting 15 ws lens.nodes haves.nodes y.node_count sizes.nodes
     pub links : Fitting 16 ws lens.links haves.links y.link_count sizes.links
@@ -139,16 +101,18 @@ module _ (ws : List (List ℕ)) (lens haves : PerList) (y : Ynd) (sizes : PerLis
     pub heights : Fitting 18 ws lens.heights haves.heights y.heightmap_count sizes.heights
     pub refs : Fitting 19 ws lens.refs haves.refs y.ref_count sizes.refs
 
-  pub all_fit : 5 ≤ lack_at → AllFit
-  unfolding lack_for lack_later
-  all_fit h =
-      by_test F₀ (λ a. by_test F₁ (λ b. by_test F₂ (λ c. by_test F₃ (λ d. by_test F₄ (λ e.
-      record { nodes = fitting 10 15 ws _ _ _ _ a; links = fitting 11 16 ws _ _ _ _ b; junctions = fitting 12 17 ws _ _ _ _ c; heights = fitting 13 18 ws _ _ _ _ d; refs = fitting 14 19 ws _ _ _ _ e })
-      (λ f. absurd (let z : 5 ≤ 4 = rw (a, b, c, d, f) at h in omega arith)))
-      (λ f. absurd (let z : 5 ≤ 3 = rw (a, b, c, f) at h in omega arith)))
-      (λ f. absurd (let z : 5 ≤ 2 = rw (a, b, f) at h in omega arith)))
-      (λ f. absurd (let z : 5 ≤ 1 = rw (a, f) at h in omega arith)))
-      (λ f. absurd (let z : 5 ≤ 0 = rw f at h in omega arith))
+  abbrev lack : List Cause
+  lack = lack_for ws lens haves y sizes
+
+  pub all_fit : decided lack ≡ (Ok tt) → AllFit
+  unfolding lack_for
+  all_fit e = record {
+    nodes = fitting 10 15 ws _ _ _ _ (fit_true _ (passed lack 0 e));
+    links = fitting 11 16 ws _ _ _ _ (fit_true _ (passed lack 1 e));
+    junctions = fitting 12 17 ws _ _ _ _ (fit_true _ (passed lack 2 e));
+    heights = fitting 13 18 ws _ _ _ _ (fit_true _ (passed lack 3 e));
+    refs = fitting 14 19 ws _ _ _ _ (fit_true _ (passed lack 4 e));
+  }
 
 -- ---- the limits, with the cell
 
@@ -207,16 +171,6 @@ module _ (ws : List (List ℕ)) (y : Ynd) where
   pub few_of : over_set with_it ≡ false → length ws < 9
   few_of e = by_test (ltb (length ws) 9) (λ t. ltb-true (length ws) 9 t) (λ g. true_false (tenth (ltb-false (length ws) 9 g) ∙ e))
 
--- ---- the area
-
-pub some_named : (k : ℕ) (o : Option ℕ) → Member k ≡ named_of o → true ≡ is_some o
-some_named k (some q) e = refl
-some_named k none e = let z : ◌≡◌ {A = ℕ} 0 1 = cc in absurd (omega arith)
-
-pub none_named : (o : Option ℕ) → Nobody ≡ named_of o → false ≡ is_some o
-none_named (some q) e = let z : ◌≡◌ {A = ℕ} 0 1 = cc in absurd (omega arith)
-none_named none e = refl
-
 -- ---- the answer
 
 module _ (ws nodes : List (List ℕ)) (lens haves : PerList) (y : Ynd) (sizes : PerList) (area room : ℕ) where
@@ -226,42 +180,54 @@ module _ (ws nodes : List (List ℕ)) (lens haves : PerList) (y : Ynd) (sizes : 
   abbrev answer : Answer
   answer = decided (entry_causes ws nodes lens haves y sizes area room)
 
-  pub area_there : is_some found ≡ true → Refused 18 0 ≡ answer
+  pub area_there : is_some found ≡ true → Err AreaTaken ≡ answer
   unfolding entry_causes
   area_there t = rw t
 
   module _ (n : is_some found ≡ false) where
-    pub limit_passed : over_set (bare ws ++ (bare_cell y ∷ [])) ≡ true → Refused 14 0 ≡ answer
+    pub limit_passed : over_set (bare ws ++ (bare_cell y ∷ [])) ≡ true → Err AtLimit ≡ answer
     unfolding entry_causes
     limit_passed o = rw (n, o)
 
     module _ (o : over_set (bare ws ++ (bare_cell y ∷ [])) ≡ false) where
-      pub list_short : (k : ℕ) → k ≡ lack_for ws lens haves y sizes → k < 5 → Refused 7 k ≡ answer
+      abbrev asked : List Cause
+      asked = lack_for ws lens haves y sizes
+
+      abbrev last : Answer → Answer
+      last a = unless a (decided (when (leb room (length ws)) (TooShort lent.Members) ∷ []))
+
+      joins_as : answer ≡ last (decided asked)
       unfolding entry_causes
-      list_short k e lt = rw (n, o, ← e, lt-ltb k 5 lt)
+      joins_as = rw (n, o) (decided_append asked (when (leb room (length ws)) (TooShort lent.Members) ∷ []))
 
-      module _ (k : ℕ) (e : k ≡ lack_for ws lens haves y sizes) (le : 5 ≤ k) where
-        pub list_full : room ≤ length ws → Refused 7 10 ≡ answer
-        unfolding entry_causes
-        list_full f = rw (n, o, ← e, le-ltb k 5 le, le-leb room (length ws) f)
+      pub list_short : (x : Refusal) → decided asked ≡ Err x → Err x ≡ answer
+      list_short x e = sym (joins_as ∙ ap last e)
 
-        pub may_join : length ws < room → Done ≡ answer
-        unfolding entry_causes
-        may_join f = rw (n, o, ← e, le-ltb k 5 le, lt-leb room (length ws) f)
+      module _ (e : decided asked ≡ (Ok tt)) where
+        pub list_full : room ≤ length ws → Err (TooShort lent.Members) ≡ answer
+        list_full f = sym (joins_as ∙ ap last e ∙ rw (le-leb room (length ws) f) refl)
+
+        pub may_join : length ws < room → (Ok tt) ≡ answer
+        may_join f = sym (joins_as ∙ ap last e ∙ rw (lt-leb room (length ws) f) refl)
 
   pub record May : Type 0 where
     pub few : length ws < 9
     pub fit : AllFit ws lens haves y sizes
     pub entry : length ws < room
 
-  pub may : Done ≡ answer → May
+  pub may : (Ok tt) ≡ answer → May
   unfolding entry_causes
   may e =
-      by_test (is_some found) (λ t. refused (rw t at e)) (λ a.
-      by_test (over_set (bare ws ++ (bare_cell y ∷ []))) (λ t. refused (rw (a, t) at e)) (λ b.
-      by_test (ltb (lack_for ws lens haves y sizes) 5) (λ t. refused (rw (a, b, t) at e)) (λ c.
-      by_test (leb room (length ws)) (λ t. refused (rw (a, b, c, t) at e)) (λ d.
-      record { few = few_of ws y b; fit = all_fit ws lens haves y sizes (ltb-false _ 5 c); entry = leb-false room (length ws) d }))))
-    where
-      refused : {P : Type 0} {x p : ℕ} → Done ≡ Refused x p → P
-      refused d = let z : ◌≡◌ {A = ℕ} 0 1 = cc in absurd (omega arith)
+      let cs = entry_causes ws nodes lens haves y sizes area room in
+      let full = when (leb room (length ws)) (TooShort lent.Members) in
+      let over = passed cs 1 (sym e) in
+      let rest = lack_for ws lens haves y sizes ++ (full ∷ []) in
+      let taken = when (is_some found) AreaTaken in
+      let limit = when (over_set (bare ws ++ (bare_cell y ∷ []))) AtLimit in
+      let later = both_done (lack_for ws lens haves y sizes) (full ∷ [])
+      (tail_done limit rest (tail_done taken (limit ∷ rest) (sym e))) in
+      record {
+        few = few_of ws y over;
+        fit = all_fit ws lens haves y sizes later.0;
+        entry = leb-false room (length ws) (passed (full ∷ []) 0 later.1);
+      }

@@ -6,19 +6,20 @@ use mathlib.Core.Path.{◌≡◌, refl, ap, sym, ◌∙◌}
 use mathlib.Core.List.{List}
 use mathlib.Core.Option.{Option, none, some}
 use lib.ListN.{length}
-use Rattle.numbers.specs.Refusals.{unless}
-use Rattle.numbers.specs.declared.answer.Answer.{Answer}
-use Rattle.numbers.specs.declared.answer.Answer.TheVariants.{Done, Refused}
 use Rattle.cells.specs.Lookup.{first_with}
+use Rattle.sets.specs.MemberList.{unless}
 use Rattle.sets.specs.CellSet.{CellSet, cell_set, words_at, total}
-use Rattle.sets.specs.Leave.{set_left, closed, start_of, without, first_of_area, leave_causes, left_by, leave_area}
+use Rattle.sets.specs.Leave.{SetLeft, set_left, closed, start_of, without, first_of_area, leave_causes, left_by, leave_area}
 use Rattle.sets.specs.SetParts.{named_of, starts_of, areas_of}
 use Rattle.sets.specs.declared.parts.PerList.{PerList}
-use Rattle.sets.specs.declared.named.Named.TheVariants.{Member, Nobody}
 use Rattle.sets.proofs.MemberLaws.{first_has}
 use Rattle.sets.proofs.PartLaws.{total_below, start_next, start_all}
 use Rattle.sets.proofs.CellSetLaws.{areas_many, areas_held}
 use Rattle.sets.proofs.RoomLaws.{lists_of, causes_held}
+use Rattle.std.specs.Prelude.{Ok, Err, Some, None}
+use Rattle.numbers.specs.declared.refusal.Refusal.{Refusal}
+use Rattle.numbers.specs.Refusals.{Answer}
+use Rattle.numbers.specs.declared.refusal.Refusal.TheVariants.{NoSuchPlace}
 
 module _ (y : CellSet) (j : ℕ) where
   abbrev ws : List (List ℕ)
@@ -58,37 +59,35 @@ module _ (y : CellSet) (area : ℕ) where
   unfolding first_of_area
   found_is = ap (λ (l : List ℕ). first_with l area) (areas_held y)
 
-  pub named_some : (j : ℕ) (o : Option ℕ) → Member j ≡ named_of o → o ≡ some j
+  pub named_some : (j : ℕ) (o : Option ℕ) → Some j ≡ named_of o → o ≡ some j
   named_some j (some q) e = cc
   named_some j none e = let z : ◌≡◌ {A = ℕ} 0 1 = cc in absurd (omega arith)
 
-  pub named_none : (o : Option ℕ) → Nobody ≡ named_of o → o ≡ none
+  pub named_none : (o : Option ℕ) → None ≡ named_of o → o ≡ none
   named_none (some q) e = let z : ◌≡◌ {A = ℕ} 0 1 = cc in absurd (omega arith)
   named_none none e = refl
 
-  pub nobody : Nobody ≡ named_of found → set_left (Refused 13 0) (length y.members) y ≡ leave_area y area
+  pub nobody : None ≡ named_of found → set_left (Err NoSuchPlace) (length y.members) y ≡ leave_area y area
   unfolding leave_area leave_causes
   nobody n = let e : first_of_area y area ≡ none = sym found_is ∙ named_none found n in rw e
 
-  pub asked_of : (j : ℕ) → first_of_area y area ≡ some j → leave_area y area ≡ unless (lists_of y) (λ cause place. set_left (Refused cause place) (length y.members) y) (left_by (some j) y)
+  pub asked_of : (j : ℕ) → first_of_area y area ≡ some j → leave_area y area ≡ unless (lists_of y) (λ cause. set_left (Err cause) (length y.members) y) (left_by (some j) y)
   unfolding leave_area leave_causes
   asked_of j e = rw (e, causes_held y)
 
-  module _ (j : ℕ) (n : Member j ≡ named_of found) where
+  module _ (j : ℕ) (n : Some j ≡ named_of found) where
     pub there : j < length y.members
     there = omega (arith, (first_has (areas_of y.members y.nodes) area j (named_some j found n)).0, areas_many y.members y.nodes)
 
-    asked : leave_area y area ≡ unless (lists_of y) (λ cause place. set_left (Refused cause place) (length y.members) y) (left_by (some j) y)
+    asked : leave_area y area ≡ unless (lists_of y) (λ cause. set_left (Err cause) (length y.members) y) (left_by (some j) y)
     asked = asked_of j (sym found_is ∙ named_some j found n)
 
-    pub refused_leave : (a : Answer) (x p : ℕ) → a ≡ lists_of y → a ≡ Refused x p → set_left a (length y.members) y ≡ leave_area y area
-    refused_leave a x p e t =
-        ap (λ (z : Answer). set_left z (length y.members) y) t
-        ∙ ap (λ (z : Answer). unless z (λ cause place. set_left (Refused cause place) (length y.members) y) (left_by (some j) y)) (sym t ∙ e)
-        ∙ sym asked
+    abbrev left : Answer → SetLeft
+    left a = unless a (λ cause. set_left (Err cause) (length y.members) y) (left_by (some j) y)
 
-    pub gone : (y' : CellSet) → Done ≡ lists_of y → y' ≡ without y j → set_left Done (length y.members - 1) y' ≡ leave_area y area
-    gone y' e t =
-        ap (set_left Done (length y.members - 1)) t
-        ∙ ap (λ (z : Answer). unless z (λ cause place. set_left (Refused cause place) (length y.members) y) (left_by (some j) y)) e
-        ∙ sym asked
+    pub refused_leave : (x : Refusal) → lists_of y ≡ Err x → set_left (Err x) (length y.members) y ≡ leave_area y area
+    refused_leave x e = ap left (sym e) ∙ sym asked
+
+    pub gone : (y' : CellSet) → lists_of y ≡ (Ok tt) → y' ≡ without y j
+        → set_left (Ok tt) (length y.members - 1) y' ≡ leave_area y area
+    gone y' e t = ap (set_left (Ok tt) (length y.members - 1)) t ∙ ap left (sym e) ∙ sym asked

@@ -14,7 +14,6 @@ pub mod SetRead
 pub mod PartLaws
 pub mod CellSetLaws
 pub mod RoomLaws
-pub mod MoveLaws
 pub mod LeaveLaws
 pub mod MembersLeft
 pub mod LeaveExample

@@ -8,14 +8,12 @@ use lib.Dec.{ltb, leb}
 use lib.ListN.{length, get_or, set, drop, replicate, length-replicate, drop_of_length-le}
 use lib.Seq.{drop-cons, set-get_or}
 use borrow.Author.Tests.{lt-ltb, le-ltb, le-leb, lt-leb}
-use Rattle.numbers.specs.Refusals.{Cause, decided, unless}
-use Rattle.numbers.specs.declared.answer.Answer.{Answer}
-use Rattle.numbers.specs.declared.answer.Answer.TheVariants.{Done, Refused}
+use Rattle.numbers.specs.Refusals.{Cause, decided}
 use Rattle.records.specs.Put.{put}
-use Rattle.cells.specs.Memory.{Memory, memory, Left}
+use Rattle.cells.specs.Memory.{Memory, memory, Left, left}
 use Rattle.cells.specs.declared.ynd.Ynd.{Ynd}
 use Rattle.cells.proofs.Sequences.Tests.{by_test, true_false}
-use Rattle.sets.specs.MemberList.{nodes_together, over_set}
+use Rattle.sets.specs.MemberList.{nodes_together, over_set, unless}
 use Rattle.sets.specs.CellSet.{CellSet, cell_set, ynd_of, words_at, total, parts_in, members_of, holds_list, lack_of}
 use Rattle.sets.specs.CellSet.{set_causes}
 use Rattle.sets.specs.Leave.{start_of}
@@ -27,11 +25,13 @@ use Rattle.sets.specs.MemberParts.{entry_ask, opened, held_by, part_memory, Part
 use Rattle.sets.specs.MemberEdit.{set_edited, lists_left, edited_in, edit_by, add_causes}
 use Rattle.sets.specs.declared.parts.PerList.{PerList}
 use Rattle.sets.specs.declared.member.MemberPart.{MemberPart}
-use Rattle.sets.specs.declared.member.Opened.{Opened}
-use Rattle.sets.specs.declared.member.Opened.TheVariants.{At}
 use Rattle.sets.proofs.PartLaws.{start_all}
 use Rattle.sets.proofs.RoomLaws.{members_over, few_members, bare_together, from_together}
 use Rattle.sets.proofs.MemberPartLaws.{OpenAt, ask_held, open_in, put_back}
+use Rattle.std.specs.Prelude.{Result, Ok, Err}
+use Rattle.numbers.specs.Refusals.{Answer}
+use Rattle.numbers.specs.declared.refusal.Refusal.{Refusal}
+use Rattle.numbers.specs.declared.refusal.Refusal.TheVariants.{NoSuchPlace, AtLimit}
 
 -- ---- what the lists that aren't lent count as
 
@@ -78,8 +78,8 @@ module _ (ws : List (List ℕ)) (j : ℕ) (a b : PerList) (n : Alike 15 ws a.nod
 
 -- ---- bounds, whatever lists aren't lent
 
-pub lens_lie : (ws : List (List ℕ)) (lens : PerList) (j : ℕ) (o : Opened) (p : MemberPart) → o ≡ opened ws lens j
-    → o ≡ At p
+pub lens_lie : (ws : List (List ℕ)) (lens : PerList) (j : ℕ) (o : Result MemberPart Refusal) (p : MemberPart) → o ≡ opened ws lens j
+    → o ≡ Ok p
     → PartsLie p.a p.e lens × (j < length ws)
 lens_lie ws lens j o p eo e =
     let y = cell_set ws (replicate lens.nodes []) (replicate lens.links []) (replicate lens.junctions [])
@@ -139,20 +139,20 @@ module _ (y : CellSet) (j : ℕ) (p : MemberPart) (k : OpenAt y j p) (words : le
   -- ---- an edit
 
   -- a refused edit of a cell leaves its memory
-  module _ (edit : Memory → Left) (kept : (m : Memory) (x q : ℕ) → (edit m).answer ≡ Refused x q → (edit m).memory ≡ m)
-      (causes : List Cause) (passed : decided causes ≡ Done) where
+  module _ (edit : Memory → Left) (kept : (m : Memory) (x : Refusal) → (edit m).answer ≡ Err x → (edit m).memory ≡ m)
+      (causes : List Cause) (passed : decided causes ≡ (Ok tt)) where
     abbrev E : Left
     E = edit part
 
     settled : (a : Answer) → E.answer ≡ a → with_member y j E.memory ≡ lists_left a y j E.memory
-    settled Done e = refl
-    settled (Refused x q) e = ap (with_member y j) (kept part x q e) ∙ part_back
+    settled (Ok tt) e = refl
+    settled (Err x) e = ap (with_member y j) (kept part x e) ∙ part_back
 
     edited : edited_in y j E ≡ edit_by causes y j edit
     unfolding edit_by
     edited =
         ap (λ (m : Memory). edited_in y j (edit m)) k.part
-        ∙ ap (λ (a : Answer). unless a (λ cause place. set_edited (Refused cause place) y)
+        ∙ ap (λ (a : Answer). unless a (λ cause. set_edited (Err cause) y)
         (edited_in y j (edit (member_in y j))))
         (sym passed)
 
@@ -177,13 +177,30 @@ module _ (y : CellSet) (j : ℕ) (p : MemberPart) (k : OpenAt y j p) (words : le
         } in
         (λ t. set_edited (e t).answer ((lists ∙ settled E.answer refl) t)) ∙ edited
 
+    -- the same by what the cell's own edit gives
+    module _ (q : Result Ynd Refusal) (n l i r : List (List ℕ)) (h : List ℕ) (e : left p.ynd q n l i h r ≡ E)
+        (N L J R : List (List ℕ)) (H : List ℕ)
+        (eN : N ≡ put y.nodes p.a.nodes n) (eL : L ≡ put y.links p.a.links l) (eJ : J ≡ put y.junctions p.a.junctions i)
+        (eH : H ≡ put y.heights p.a.heights h) (eR : R ≡ put y.refs p.a.refs r) where
+      pub edit_stored : (v : Ynd) → q ≡ Ok v → (W : List (List ℕ)) → W ≡ set ws j (entry_with v (get_or ws j []))
+          → set_edited (Ok tt) (cell_set W N L J H R) ≡ edit_by causes y j edit
+      edit_stored v is W eW =
+          edit_part (Ok tt) v n l i r h (ap (λ (z : Result Ynd Refusal). left p.ynd z n l i h r) (sym is) ∙ e)
+          W N L J R H eW eN eL eJ eH eR
+
+      pub edit_refused : (x : Refusal) → q ≡ Err x
+          → set_edited (Err x) (cell_set ws N L J H R) ≡ edit_by causes y j edit
+      edit_refused x is =
+          edit_part (Err x) p.ynd n l i r h (ap (λ (z : Result Ynd Refusal). left p.ynd z n l i h r) (sym is) ∙ e)
+          ws N L J R H (sym own_entry) eN eL eJ eH eR
+
 -- a refusal of the set
-pub edit_not : (y : CellSet) (j : ℕ) (edit : Memory → Left) (causes : List Cause) (x q : ℕ)
-    → decided causes ≡ Refused x q
-    → set_edited (Refused x q) y ≡ edit_by causes y j edit
+pub edit_not : (y : CellSet) (j : ℕ) (edit : Memory → Left) (causes : List Cause) (x : Refusal)
+    → decided causes ≡ Err x
+    → set_edited (Err x) y ≡ edit_by causes y j edit
 unfolding edit_by
-edit_not y j edit causes x q e =
-    ap (λ (a : Answer). unless a (λ cause place. set_edited (Refused cause place) y)
+edit_not y j edit causes x e =
+    ap (λ (a : Answer). unless a (λ cause. set_edited (Err cause) y)
     (edited_in y j (edit (member_in y j)))) (sym e)
 
 -- ---- by the lists that a call is lent; t is what the others count as
@@ -278,11 +295,11 @@ module _ (y : CellSet) (j : ℕ) where
   unfolding members_of
   together = from_together (parts_in y) 0 y.members ∙ bare_together y.members
 
-  pub add_13 : length y.members ≤ j → decided (add_causes y j) ≡ Refused 13 0
+  pub add_13 : length y.members ≤ j → decided (add_causes y j) ≡ Err NoSuchPlace
   unfolding add_causes
   add_13 h = rw (le-leb (length y.members) j h)
 
-  pub add_full : j < length y.members → true ≡ full → decided (add_causes y j) ≡ Refused 14 0
+  pub add_full : j < length y.members → true ≡ full → decided (add_causes y j) ≡ Err AtLimit
   unfolding add_causes
   add_full lt e = rw (lt-leb (length y.members) j lt, members_over y, together) (
       by_test (over_set (bare y.members)) (λ t. rw t) (λ o.

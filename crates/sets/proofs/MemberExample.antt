@@ -2,7 +2,6 @@
 use Prim.Native.Nat.{ℕ}
 use mathlib.Core.Path.{◌≡◌, refl}
 use mathlib.Core.List.{List, [], ◌∷◌}
-use Rattle.numbers.specs.declared.answer.Answer.TheVariants.{Done, Refused}
 use Rattle.records.specs.Put.{put}
 use Rattle.records.specs.declared.junction_ref.NodeJunctionRef.{NodeJunctionRef}
 use Rattle.cells.specs.Lists.{every}
@@ -11,7 +10,6 @@ use Rattle.cells.specs.NodeWords.{area_of, number_of}
 use Rattle.cells.specs.CellOf.{nodes_of, cell_of}
 use Rattle.cells.specs.Lookup.{first_with, find}
 use Rattle.cells.specs.LookupCall.{node_call, numbers_in, find_in}
-use Rattle.cells.specs.declared.lookup.Place.TheVariants as place
 use Rattle.cells.specs.Words.{ref_words}
 use Rattle.cells.specs.Add.{with_counts, room_for, done, add_node, add_ref}
 use Rattle.cells.specs.NewYnd.{new_ynd}
@@ -26,6 +24,9 @@ use Rattle.sets.specs.MemberEdit.{set_edited, edit_by, edit_member, add_causes, 
 use Rattle.sets.specs.MemberLookup.{ask_member, node_member}
 use Rattle.sets.specs.HandBack.{copied, leaver, hand_causes, hand_back}
 use Rattle.numbers.specs.declared.math.Vec3.{Vec3}
+use Rattle.std.specs.Prelude.{Ok, Err, Some}
+use Rattle.numbers.specs.declared.refusal.Refusal.TheVariants.{TooShort, NoSuchPlace, AtLimit}
+use Rattle.numbers.specs.declared.refusal.Lent.TheVariants as lacking
 
 -- a member of so many nodes and refs, in parts of so many entries
 abbrev entry : ℕ → ℕ → ℕ → ℕ → List ℕ
@@ -51,13 +52,13 @@ two = pair (entry 1 2 0 1 ∷ entry 1 1 0 1 ∷ []) (ref 7 ∷ ref 8 ∷ ref 9 �
 
 -- of the second member the count of refs alone changes, and the ref in its part
 pub ref_added : edit_member two 1 (λ m. add_ref m ref_of_node)
-    ≡ set_edited Done (pair (entry 1 2 0 1 ∷ entry 1 1 1 1 ∷ []) (ref 7 ∷ (6 ∷ 2 ∷ 3 ∷ 4 ∷ []) ∷ ref 9 ∷ []))
+    ≡ set_edited (Ok tt) (pair (entry 1 2 0 1 ∷ entry 1 1 1 1 ∷ []) (ref 7 ∷ (6 ∷ 2 ∷ 3 ∷ 4 ∷ []) ∷ ref 9 ∷ []))
 unfolding edit_by ask_causes set_causes members_of map_from parts_in parts_of words_at total ynd_of over_set nodes_together
     any_over over_limit lack_of holds_list every with_member put add_ref room_for with_counts ref_words
 ref_added = refl
 
 -- 13 before all else, a third member of two
-pub no_member : edit_member two 2 (λ m. add_ref m ref_of_node) ≡ set_edited (Refused 13 0) two
+pub no_member : edit_member two 2 (λ m. add_ref m ref_of_node) ≡ set_edited (Err NoSuchPlace) two
 unfolding edit_by ask_causes
 no_member = refl
 
@@ -65,13 +66,13 @@ no_member = refl
 abbrev full_refs : CellSet
 full_refs = pair (entry 1 2 0 1 ∷ entry 1 1 1 1 ∷ []) (ref 7 ∷ ref 8 ∷ ref 9 ∷ [])
 
-pub refs_full : edit_member full_refs 1 (λ m. add_ref m ref_of_node) ≡ set_edited (Refused 7 4) full_refs
+pub refs_full : edit_member full_refs 1 (λ m. add_ref m ref_of_node) ≡ set_edited (Err (TooShort lacking.Refs)) full_refs
 unfolding edit_by ask_causes set_causes members_of map_from parts_in parts_of words_at total ynd_of over_set nodes_together
     any_over over_limit lack_of holds_list every add_ref room_for
 refs_full = refl
 
 -- a node more: 7 where the part is full; 14 where the set has 65,536 together, though neither cell has
-pub nodes_full : (at : Vec3) → add_node_member two 1 6 at ≡ set_edited (Refused 7 0) two
+pub nodes_full : (at : Vec3) → add_node_member two 1 6 at ≡ set_edited (Err (TooShort lacking.Nodes)) two
 unfolding edit_by add_causes members_of map_from parts_in parts_of words_at total ynd_of over_set nodes_together any_over
     over_limit lack_of holds_list every add_node room_for
 nodes_full at = refl
@@ -79,7 +80,7 @@ nodes_full at = refl
 abbrev wide : CellSet
 wide = cell_set (entry 32768 40000 0 0 ∷ entry 32768 32768 0 0 ∷ []) [] [] [] [] []
 
-pub total_full : (at : Vec3) → add_node_member wide 0 5 at ≡ set_edited (Refused 14 0) wide
+pub total_full : (at : Vec3) → add_node_member wide 0 5 at ≡ set_edited (Err AtLimit) wide
 unfolding edit_by add_causes members_of map_from parts_in parts_of words_at total ynd_of over_set nodes_together any_over
     over_limit
 total_full at = refl
@@ -97,20 +98,20 @@ unfolding hand_back hand_causes leave_causes leaver copied stored first_of_area 
     nodes_of first_with area_of number_of
 back = refl
 
-pub back_short : hand_back two 5 (lent []) ≡ record { answer = Refused 7 0; memory = lent [] }
+pub back_short : hand_back two 5 (lent []) ≡ record { answer = Err (TooShort lacking.Nodes); memory = lent [] }
 unfolding hand_back hand_causes leave_causes leaver first_of_area set_causes members_of map_from parts_in parts_of words_at
     total ynd_of over_set nodes_together any_over over_limit lack_of holds_list every short_of cell_of nodes_of first_with
     area_of number_of
 back_short = refl
 
-pub back_nobody : hand_back two 7 (lent []) ≡ record { answer = Refused 13 0; memory = lent [] }
+pub back_nobody : hand_back two 7 (lent []) ≡ record { answer = Err NoSuchPlace; memory = lent [] }
 unfolding hand_back hand_causes leave_causes leaver first_of_area set_causes members_of map_from parts_in parts_of words_at
     total ynd_of short_of cell_of nodes_of first_with area_of number_of
 back_nobody = refl
 
 -- ---- a lookup
 
-pub found : node_member two 1 0 ≡ place.At 0
+pub found : node_member two 1 0 ≡ Ok (Some 0)
 unfolding ask_member ask_causes set_causes members_of map_from parts_in parts_of words_at total ynd_of over_set nodes_together
     any_over over_limit lack_of holds_list every node_call find_in numbers_in find first_with number_of
 found = refl

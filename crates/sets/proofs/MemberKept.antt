@@ -8,11 +8,8 @@ use mathlib.Core.List.{List, [], ◌++◌, map}
 use lib.ListN.{length, take, drop, length-append, length-drop, length-map}
 use lib.Seq.{length-take-le}
 use borrow.Author.Tests.{le-ltb}
-use Rattle.numbers.specs.declared.answer.Answer.{Answer}
-use Rattle.numbers.specs.declared.answer.Answer.TheVariants.{Done, Refused}
 use Rattle.records.specs.Sections.{located, bytes_of}
 use Rattle.records.specs.declared.section.Part.{Part}
-use Rattle.records.specs.declared.section.Located.{Located}
 use Rattle.records.specs.declared.root.Root.{Root}
 use Rattle.cells.specs.Lists.{up_to, join_to}
 use Rattle.cells.specs.Checks.{root_read, sizes_check, too_few, arrays_found, opened, arrays_check, counts_of, links_at}
@@ -27,11 +24,6 @@ use Rattle.cells.specs.NodeWords.{is_ped, number_from, reordered, old_of, relink
 use Rattle.cells.specs.Order.{parted}
 use Rattle.cells.specs.Renumber.{over, recounted, renumber_lists, new_lists, renumber_memory, answer_of, left_by, renumber}
 use Rattle.cells.specs.declared.count.Counts.{Counts}
-use Rattle.cells.specs.declared.count.Counted.{Counted}
-use Rattle.cells.specs.declared.count.Counted.TheVariants as counted
-use Rattle.cells.specs.declared.arrays.Found.TheVariants as found
-use Rattle.cells.specs.declared.write.Written.{Written}
-use Rattle.cells.specs.declared.write.Written.TheVariants as written
 use Rattle.cells.proofs.Forms.Limits.{not_over}
 use Rattle.cells.proofs.Reading.Fits.{Whole}
 use Rattle.cells.proofs.Reading.ReadLaws as laws
@@ -42,6 +34,11 @@ use Rattle.cells.proofs.WritingBack.SectionBack.{long_enough, root_read_law, nod
 use Rattle.cells.proofs.WritingBack.SectionBack.{heights_here, refs_here}
 use Rattle.cells.proofs.WritingBack.WrittenBack.{Told, write_told}
 use Rattle.cells.proofs.WritingBack.WrittenFew.{written_few}
+use Rattle.std.specs.Prelude.{Result, Ok, Err, Option}
+use Rattle.numbers.specs.Refusals.{Answer}
+use Rattle.numbers.proofs.Refusing.{not_refused}
+use Rattle.numbers.specs.declared.refusal.Array.TheVariants as array
+use Rattle.numbers.specs.declared.refusal.Refusal.{Refusal}
 
 -- the memory m before a call, d after it
 pub record Stays (m d : Memory) : Type 0 where
@@ -103,8 +100,8 @@ renumber_stays m ps s r = go (answer_of (over_limit m.ynd) m.ynd.node_count (sho
         (length-map (take m.ynd.ref_count m.refs) (relinked (old_of m.ynd.node_count m.nodes))) r.whole.refs_fit
 
     go : (a : Answer) → Stays m (left_by a m ps).memory
-    go (Refused x p) = stays_same m r
-    go Done = record {
+    go (Err x) = stays_same m r
+    go (Ok tt) = record {
       nodes_long = nodes_as;
       links_long = links_as;
       junctions_long = refl;
@@ -124,8 +121,8 @@ renumber_stays m ps s r = go (answer_of (over_limit m.ynd) m.ynd.node_count (sho
 
 -- ---- reading back
 
-refused : {P : Type 0} {a b : ℕ} → Refused a b ≡ Done → P
-refused e = let z : ◌≡◌ {A = ℕ} 0 1 = cc in absurd (omega arith)
+refused : {P : Type 0} {a : Refusal} → ◌≡◌ {A = Answer} (Err a) (Ok tt) → P
+refused e = not_refused e
 
 -- what an accepted reading of five arrays fills
 pub record Filled (root : Root) (n l j h r : List ℕ) (m d : Memory) : Type 0 where
@@ -134,7 +131,7 @@ pub record Filled (root : Root) (n l j h r : List ℕ) (m d : Memory) : Type 0 w
       (length m.refs)
   pub limits : laws.Holds n j r (counts_of n j r)
 
-arrays_filled : (root : Root) (n l j h r : List ℕ) (m : Memory) → (read_arrays root n l j h r m).answer ≡ Done
+arrays_filled : (root : Root) (n l j h r : List ℕ) (m : Memory) → (read_arrays root n l j h r m).answer ≡ (Ok tt)
     → Filled root n l j h r m (read_arrays root n l j h r m).memory
 unfolding read_arrays
 arrays_filled root n l j h r m e = go (arrays_check n l j h r) refl e
@@ -143,22 +140,22 @@ arrays_filled root n l j h r m e = go (arrays_check n l j h r) refl e
     room k = room_check k (length m.nodes) (length m.links) (length m.junctions) (length m.heights) (length m.refs)
 
     fill : Counts → Left
-    fill k = record { answer = Done; memory = filled root k n l j h r m }
+    fill k = record { answer = (Ok tt); memory = filled root k n l j h r m }
 
-    inner : (k : Counts) (c : Answer) → room k ≡ c → laws.Holds n j r k → (unless c m (fill k)).answer ≡ Done
+    inner : (k : Counts) (c : Answer) → room k ≡ c → laws.Holds n j r k → (unless c m (fill k)).answer ≡ (Ok tt)
         → Filled root n l j h r m (unless c m (fill k)).memory
-    inner k (Refused a b) d q t = refused t
-    inner k Done d q t = record {
+    inner k (Err a) d q t = refused t
+    inner k (Ok tt) d q t = record {
       is = ap (λ (x : Counts). filled root x n l j h r m) q.counts;
       room = subst (λ (x : Counts). laws.Room x (length m.nodes) (length m.links) (length m.junctions)
           (length m.heights) (length m.refs)) q.counts (laws.room k _ _ _ _ _ d);
       limits = record { few_nodes = q.few_nodes; few_junctions = q.few_junctions; counts = refl };
     }
 
-    go : (c : Counted) → arrays_check n l j h r ≡ c → (if_held c m (λ k. unless (room k) m (fill k))).answer ≡ Done
+    go : (c : Result Counts Refusal) → arrays_check n l j h r ≡ c → (if_held c m (λ k. unless (room k) m (fill k))).answer ≡ (Ok tt)
         → Filled root n l j h r m (if_held c m (λ k. unless (room k) m (fill k))).memory
-    go (counted.Refused a b) d t = refused t
-    go (counted.Held k) d t = inner k (room k) refl (laws.holds n l j h r k d) t
+    go (Err a) d t = refused t
+    go (Ok k) d t = inner k (room k) refl (laws.holds n l j h r k d) t
 
 filled_stays : (root : Root) (n l j h r : List ℕ) (m d : Memory) → Filled root n l j h r m d
     → length n / 40 ≡ m.ynd.node_count → length root.unknowns ≡ 7 → Stays m d
@@ -256,9 +253,9 @@ module _ (h m : Memory) (told : Told h) where
       reading n l j t r = read_arrays (root_read w) (bytes_of n w []) (bytes_of l w []) (bytes_of j w [])
           (bytes_of t w []) (bytes_of r w []) m
 
-      by : Located → Located → Located → Located → Located → Left
+      by : Option Part → Option Part → Option Part → Option Part → Option Part → Left
       by a b c d f =
-          if_found (opened 0 a λ n. opened 1 b λ l. opened 2 c λ j. opened 3 d λ t. opened 4 f λ r. found.Arrays
+          if_found (opened array.Nodes a λ n. opened array.Links b λ l. opened array.Junctions c λ j. opened array.Heightmap d λ t. opened array.Refs f λ r. Ok
           (record { nodes = n; links = l; junctions = j; heights = t; refs = r })) m reading
 
       parts : Root → Left
@@ -281,7 +278,7 @@ module _ (h m : Memory) (told : Told h) where
   seven_read : length (root_read w).unknowns ≡ 7
   seven_read = ap (λ (r : Root). length r.unknowns) (root_read_law h told.refs_told (written_few h told))
 
-  back_stays : length h.nodes ≡ m.ynd.node_count → (read_of w [] m).answer ≡ Done → Stays m (read_of w [] m).memory
+  back_stays : length h.nodes ≡ m.ynd.node_count → (read_of w [] m).answer ≡ (Ok tt) → Stays m (read_of w [] m).memory
   back_stays e t =
       let n = nodes_block h.links h.nodes in
       let many : length n / 40 ≡ m.ynd.node_count = omega (arith, nodes_length h.links h.nodes, e) in
@@ -299,15 +296,15 @@ write_read_stays m s r = go (write_call m s).answer refl
     t : List ℕ
     t = (write_call m s).section
 
-    reading : (n : ℕ) → (write_call m s).answer ≡ written.Wrote n → (c : Answer) → (read_of (take n t) [] m).answer ≡ c
+    reading : (n : ℕ) → (write_call m s).answer ≡ Ok n → (c : Answer) → (read_of (take n t) [] m).answer ≡ c
         → Stays m (if_read n t c (read_of (take n t) [] m).memory m s).memory
-    reading n d (Refused x y) e = stays_same m r
-    reading n d Done e =
+    reading n d (Err x) e = stays_same m r
+    reading n d (Ok tt) e =
         let p = write_told m s n d in
         subst (λ (b : List ℕ). Stays m (read_of b [] m).memory) (sym p.bytes)
         (back_stays (held m) m p.told (length-take-le m.ynd.node_count m.nodes r.whole.nodes_fit)
         (ap (λ (b : List ℕ). (read_of b [] m).answer) (sym p.bytes) ∙ e))
 
-    go : (a : Written) → (write_call m s).answer ≡ a → Stays m (if_written a t m s).memory
-    go (written.Refused x y) d = stays_same m r
-    go (written.Wrote n) d = reading n d (read_of (take n t) [] m).answer refl
+    go : (a : Result ℕ Refusal) → (write_call m s).answer ≡ a → Stays m (if_written a t m s).memory
+    go (Err x) d = stays_same m r
+    go (Ok n) d = reading n d (read_of (take n t) [] m).answer refl

@@ -9,8 +9,7 @@ use lib.ListN.{length, get_or, take, drop, length-drop, take-append-drop}
 use lib.Seq.{length-take-le, drop-drop}
 use borrow.Author.Tests.{leb-false, le-leb, lt-leb}
 use Rattle.numbers.specs.Refusals.{decided, unless}
-use Rattle.numbers.specs.declared.answer.Answer.{Answer}
-use Rattle.numbers.specs.declared.answer.Answer.TheVariants.{Done, Refused}
+use Rattle.numbers.proofs.Refusing.{not_refused}
 use Rattle.records.specs.Put.{put}
 use Rattle.cells.specs.Memory.{Memory, memory}
 use Rattle.cells.specs.declared.ynd.Ynd.{Ynd}
@@ -25,13 +24,14 @@ use Rattle.sets.specs.SetStored.{member_in, ask_causes}
 use Rattle.sets.specs.MemberParts.{entry_ask, opened, between, part_memory, PartsLie}
 use Rattle.sets.specs.declared.parts.PerList.{PerList}
 use Rattle.sets.specs.declared.member.MemberPart.{MemberPart}
-use Rattle.sets.specs.declared.member.Opened.{Opened}
-use Rattle.sets.specs.declared.member.Opened.TheVariants as opened
-use Rattle.sets.specs.declared.member.Opened.TheVariants.{At}
 use Rattle.sets.proofs.PartLaws.{total_below, start_next, part_of}
 use Rattle.sets.proofs.CellSetLaws.{member_at_law}
 use Rattle.sets.proofs.MemberStored.{FitsMember}
 use Rattle.sets.proofs.RoomLaws.{lists_of, accepted, causes_held, few_members}
+use Rattle.std.specs.Prelude.{Result, Ok, Err}
+use Rattle.numbers.specs.Refusals.{Answer}
+use Rattle.numbers.specs.declared.refusal.Refusal.{Refusal}
+use Rattle.numbers.specs.declared.refusal.Refusal.TheVariants.{NoSuchPlace}
 
 -- ---- one list
 
@@ -77,7 +77,7 @@ module _ (y : CellSet) (j : ℕ) where
   unfolding entry_ask ask_causes
   ask_held = go (leb (length ws) j)
     where
-      go : (b : Bool) → cond b (Refused 13 0) (lists_of y) ≡ cond b (Refused 13 0) (decided (set_causes y))
+      go : (b : Bool) → cond b (Err NoSuchPlace) (lists_of y) ≡ cond b (Err NoSuchPlace) (decided (set_causes y))
       go true = refl
       go false = sym (causes_held y)
 
@@ -87,14 +87,14 @@ module _ (y : CellSet) (j : ℕ) where
     pub few : length ws ≤ 9
     pub whole : Holds y
 
-  pub may : Done ≡ decided (entry_ask ws (set_lengths y) j) → May
+  pub may : (Ok tt) ≡ decided (entry_ask ws (set_lengths y) j) → May
   unfolding entry_ask
   may e = by_test (leb (length ws) j) (λ t. refused (rw t at e)) (λ f.
       let k = accepted y (rw f at e) in
       record { there = leb-false (length ws) j f; few = k.few; whole = k.whole })
     where
-      refused : {P : Type 0} {a b : ℕ} → Done ≡ Refused a b → P
-      refused d = let z : ◌≡◌ {A = ℕ} 0 1 = cc in absurd (omega arith)
+      refused : {P : Type 0} {a : Refusal} → ◌≡◌ {A = Answer} (Ok tt) (Err a) → P
+      refused d = not_refused (sym d)
 
   module _ (k : May) (a e : PerList) (ea : a ≡ starts_of ws j) (ee : e ≡ starts_of ws (j + 1)) where
     rises : (size : ℕ) → start_of size ws j ≤ start_of size ws (j + 1)
@@ -182,10 +182,10 @@ abbrev pub member_part : List (List ℕ) → ℕ → MemberPart
 member_part ws j = record { ynd = ynd_of (get_or ws j []); a = starts_of ws j; e = starts_of ws (j + 1) }
 
 module _ (ws : List (List ℕ)) (lens : PerList) (j : ℕ) where
-  refused : {P : Type 0} {a b : ℕ} → Done ≡ Refused a b → P
-  refused d = let z : ◌≡◌ {A = ℕ} 0 1 = cc in absurd (omega arith)
+  refused : {P : Type 0} {a : Refusal} → ◌≡◌ {A = Answer} (Ok tt) (Err a) → P
+  refused d = not_refused (sym d)
 
-  pub asked_13 : length ws ≤ j → Refused 13 0 ≡ decided (entry_ask ws lens j)
+  pub asked_13 : length ws ≤ j → Err NoSuchPlace ≡ decided (entry_ask ws lens j)
   unfolding entry_ask
   asked_13 h = rw (le-leb (length ws) j h)
 
@@ -196,39 +196,39 @@ module _ (ws : List (List ℕ)) (lens : PerList) (j : ℕ) where
   asked_on a h e = rw (lt-leb (length ws) j h) e
 
   -- who passed is on a member, of nine at most
-  pub asked_few : Done ≡ decided (entry_ask ws lens j) → (j < length ws) × (length ws ≤ 9)
+  pub asked_few : (Ok tt) ≡ decided (entry_ask ws lens j) → (j < length ws) × (length ws ≤ 9)
   unfolding entry_ask list_causes
   asked_few e = by_test (leb (length ws) j) (λ t. refused (rw t at e)) (λ f.
       by_test (over_set (bare ws)) (λ t. refused (rw (f, t) at e)) (λ o. (leb-false (length ws) j f, few_members ws o)))
 
-  pub open_refused : (x p : ℕ) → opened.Refused x p ≡ opened ws lens j → decided (entry_ask ws lens j) ≡ Refused x p
+  pub open_refused : (x : Refusal) → Err x ≡ opened ws lens j → decided (entry_ask ws lens j) ≡ Err x
   unfolding opened
-  open_refused x p e = go (decided (entry_ask ws lens j)) e
+  open_refused x e = go (decided (entry_ask ws lens j)) e
     where
-      go : (a : Answer) → opened.Refused x p ≡ unless a (λ cause place. opened.Refused cause place) (At (member_part ws j))
-          → a ≡ Refused x p
-      go (Refused m q) e = cc
-      go Done e = let z : ◌≡◌ {A = ℕ} 0 1 = cc in absurd (omega arith)
+      go : (a : Answer) → Err x ≡ unless a (Ok (member_part ws j))
+          → a ≡ Err x
+      go (Err m) e = cc
+      go (Ok tt) e = let z : ◌≡◌ {A = ℕ} 0 1 = cc in absurd (omega arith)
 
-  pub open_at : (p : MemberPart) → At p ≡ opened ws lens j → (Done ≡ decided (entry_ask ws lens j)) × (p ≡ member_part ws j)
+  pub open_at : (p : MemberPart) → Ok p ≡ opened ws lens j → ((Ok tt) ≡ decided (entry_ask ws lens j)) × (p ≡ member_part ws j)
   unfolding opened
   open_at p e = go (decided (entry_ask ws lens j)) e
     where
-      go : (a : Answer) → At p ≡ unless a (λ cause place. opened.Refused cause place) (At (member_part ws j))
-          → (Done ≡ a) × (p ≡ member_part ws j)
-      go Done e = (refl, cc)
-      go (Refused m q) e = let z : ◌≡◌ {A = ℕ} 0 1 = cc in absurd (omega arith)
+      go : (a : Answer) → Ok p ≡ unless a (Ok (member_part ws j))
+          → ((Ok tt) ≡ a) × (p ≡ member_part ws j)
+      go (Ok tt) e = (refl, cc)
+      go (Err m) e = let z : ◌≡◌ {A = ℕ} 0 1 = cc in absurd (omega arith)
 
-  pub open_done : (v : Ynd) (a e : PerList) → Done ≡ decided (entry_ask ws lens j) → v ≡ ynd_of (get_or ws j [])
-      → a ≡ starts_of ws j → e ≡ starts_of ws (j + 1) → At (record { ynd = v; a = a; e = e }) ≡ opened ws lens j
+  pub open_done : (v : Ynd) (a e : PerList) → (Ok tt) ≡ decided (entry_ask ws lens j) → v ≡ ynd_of (get_or ws j [])
+      → a ≡ starts_of ws j → e ≡ starts_of ws (j + 1) → Ok (record { ynd = v; a = a; e = e }) ≡ opened ws lens j
   unfolding opened
   open_done v a e t ev ea ee =
-      (λ i. At (record { ynd = ev i; a = ea i; e = ee i }))
-      ∙ ap (λ (z : Answer). unless z (λ cause place. opened.Refused cause place) (At (member_part ws j))) t
+      (λ i. Ok (record { ynd = ev i; a = ea i; e = ee i }))
+      ∙ ap (λ (z : Answer). unless z (Ok (member_part ws j))) t
 
-  pub open_not : (x p : ℕ) → Refused x p ≡ decided (entry_ask ws lens j) → opened.Refused x p ≡ opened ws lens j
+  pub open_not : (x : Refusal) → Err x ≡ decided (entry_ask ws lens j) → Err x ≡ opened ws lens j
   unfolding opened
-  open_not x p e = ap (λ (z : Answer). unless z (λ cause place. opened.Refused cause place) (At (member_part ws j))) e
+  open_not x e = ap (λ (z : Answer). unless z (Ok (member_part ws j))) e
 
 -- what an opened member is
 pub record OpenAt (y : CellSet) (j : ℕ) (p : MemberPart) : Type 0 where
@@ -238,10 +238,10 @@ pub record OpenAt (y : CellSet) (j : ℕ) (p : MemberPart) : Type 0 where
   pub own : p.ynd ≡ ynd_of (get_or y.members j [])
   pub starts : p.a ≡ starts_of y.members j
   pub ends : p.e ≡ starts_of y.members (j + 1)
-  pub asked : decided (ask_causes y j) ≡ Done
+  pub asked : decided (ask_causes y j) ≡ (Ok tt)
 
 pub open_in : (y : CellSet) (j : ℕ) (p : MemberPart) (lens : PerList)
-    → decided (entry_ask y.members lens j) ≡ decided (ask_causes y j) → At p ≡ opened y.members lens j → OpenAt y j p
+    → decided (entry_ask y.members lens j) ≡ decided (ask_causes y j) → Ok p ≡ opened y.members lens j → OpenAt y j p
 open_in y j p lens same e =
     let o = open_at y.members lens j p e in
     let k = may y j (o.0 ∙ same ∙ sym (ask_held y j)) in
@@ -264,9 +264,9 @@ pub lens_held : (y : CellSet) (j : ℕ) (lens : PerList) → lens ≡ set_length
 lens_held y j lens e = ap (λ (l : PerList). decided (entry_ask y.members l j)) e ∙ ask_held y j
 
 module _ (y : CellSet) (j : ℕ) (lens : PerList) (same : decided (entry_ask y.members lens j) ≡ decided (ask_causes y j))
-    (o : Opened) (eo : o ≡ opened y.members lens j) where
-  pub is_open : (p : MemberPart) → o ≡ At p → OpenAt y j p
+    (o : Result MemberPart Refusal) (eo : o ≡ opened y.members lens j) where
+  pub is_open : (p : MemberPart) → o ≡ Ok p → OpenAt y j p
   is_open p e = open_in y j p lens same (sym e ∙ eo)
 
-  pub not_open : (x q : ℕ) → o ≡ opened.Refused x q → decided (ask_causes y j) ≡ Refused x q
-  not_open x q e = sym same ∙ open_refused y.members lens j x q (sym e ∙ eo)
+  pub not_open : (x : Refusal) → o ≡ Err x → decided (ask_causes y j) ≡ Err x
+  not_open x e = sym same ∙ open_refused y.members lens j x (sym e ∙ eo)

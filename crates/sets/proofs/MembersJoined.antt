@@ -1,5 +1,5 @@
 -- What joins stands behind the others, which are as they were, and holds the cell that was joined.
-use Prim.Native.Nat.{ℕ, ◌+◌, ◌-◌, ◌≤◌, ◌<◌}
+use Prim.Native.Nat.{ℕ, ◌+◌, ◌-◌, ◌≤◌, ◌<◌, min}
 use native.Mathlib.Omega.{arith}
 use native.Mathlib.Numerals.{add-one}
 use mathlib.Core.Path.{◌≡◌, refl, ap, sym, ◌∙◌}
@@ -8,8 +8,6 @@ use lib.Dec.{ltb}
 use lib.ListN.{length, get_or, set, take, drop, length-append, length-drop, take-append-drop, get_or-append}
 use lib.Seq.{length-take-le, take_all, take_at, drop_at, take-add, take-suc-set, get_or-append_seam}
 use borrow.Author.Tests.{ltb-true, ltb-false}
-use Rattle.numbers.specs.declared.answer.Answer.{Answer}
-use Rattle.numbers.specs.declared.answer.Answer.TheVariants.{Done, Refused}
 use Rattle.cells.specs.Memory.{Memory, memory}
 use Rattle.cells.specs.NodeWords.{first_area}
 use Rattle.cells.specs.CellOf.{link_of, ref_of, node_with, junction_with, nodes_of, junctions_of, refs_of, cell_of}
@@ -18,13 +16,15 @@ use Rattle.cells.proofs.Sequences.Tests.{by_test, map_append}
 use Rattle.sets.specs.MemberList.{no_memory, member_at}
 use Rattle.sets.specs.CellSet.{CellSet, cell_set, word, ynd_of, words_at, total, parts_of, parts_in, members_of}
 use Rattle.sets.specs.Leave.{SetLeft, used}
-use Rattle.sets.specs.SetParts.{least}
 use Rattle.sets.specs.Join.{entry_of, stored, set_lengths, cell_lengths, part_of_cell, joined_member, with_cell, join_cell}
 use Rattle.sets.specs.declared.parts.PerList.{PerList}
 use Rattle.sets.proofs.PartLaws.{words_many, parts_many}
 use Rattle.sets.proofs.CellSetLaws.{members_many, member_at_law, members_same}
 use Rattle.sets.proofs.JoinLaws.{Fitting, AllFit, may}
 use Rattle.sets.proofs.JoinDone.{asked, left, call_is}
+use Rattle.std.specs.Prelude.{Ok, Err}
+use Rattle.numbers.specs.declared.refusal.Refusal.{Refusal}
+use Rattle.numbers.specs.Refusals.{Answer}
 
 -- ---- one list
 
@@ -219,24 +219,24 @@ module _ (count : ℕ) (y : CellSet) (m : Memory) (sizes : PerList) (u : length 
   Stored r = (members_of (used r.count r.lists) ≡ members_of (used count y) ++ (joined_member (take count y.members) y m sizes ∷ []))
       × (cell_of (joined_member (take count y.members) y m sizes) ≡ cell_of m)
 
-  after : (a : Answer) → a ≡ asked count y m sizes area → (left count y m sizes a).answer ≡ Done → Stored (left count y m sizes a)
-  after (Refused x p) t e = let z : ◌≡◌ {A = ℕ} 0 1 = cc in absurd (omega arith)
-  after Done t e =
+  after : (a : Answer) → a ≡ asked count y m sizes area → (left count y m sizes a).answer ≡ (Ok tt) → Stored (left count y m sizes a)
+  after (Err x) t e = let z : ◌≡◌ {A = ℕ} 0 1 = cc in absurd (omega arith)
+  after (Ok tt) t e =
       let k = may (take count y.members) y.nodes (set_lengths y) (cell_lengths m) m.ynd sizes area (length y.members) t in
       (members_joined count y m sizes u k.fit k.entry, cell_joined count y m sizes u k.fit)
 
   -- an accepted call: the members are those before it and the cell, in parts of its own
-  pub join_done : (join_cell count y m sizes).answer ≡ Done → Stored (join_cell count y m sizes)
+  pub join_done : (join_cell count y m sizes).answer ≡ (Ok tt) → Stored (join_cell count y m sizes)
   join_done e =
-      let s = call_is count y m sizes area refl (least count (length y.members)) refl in
+      let s = call_is count y m sizes area refl (min count (length y.members)) refl in
       rw (← s) (after (asked count y m sizes area) refl (ap (λ (r : SetLeft). r.answer) s ∙ e))
 
   -- a refused one leaves all six lists, and the number of members
-  pub join_refused : (x p : ℕ) → (join_cell count y m sizes).answer ≡ Refused x p → ((join_cell count y m sizes).lists ≡ y) × ((join_cell count y m sizes).count ≡ length (take count y.members))
-  join_refused x p e =
-      let s = call_is count y m sizes area refl (least count (length y.members)) refl in
+  pub join_refused : (x : Refusal) → (join_cell count y m sizes).answer ≡ Err x → ((join_cell count y m sizes).lists ≡ y) × ((join_cell count y m sizes).count ≡ length (take count y.members))
+  join_refused x e =
+      let s = call_is count y m sizes area refl (min count (length y.members)) refl in
       rw (← s) (go (asked count y m sizes area) (ap (λ (r : SetLeft). r.answer) s ∙ e))
     where
-      go : (a : Answer) → (left count y m sizes a).answer ≡ Refused x p → ((left count y m sizes a).lists ≡ y) × ((left count y m sizes a).count ≡ length (take count y.members))
-      go Done e = let z : ◌≡◌ {A = ℕ} 0 1 = cc in absurd (omega arith)
-      go (Refused n q) e = (refl, refl)
+      go : (a : Answer) → (left count y m sizes a).answer ≡ Err x → ((left count y m sizes a).lists ≡ y) × ((left count y m sizes a).count ≡ length (take count y.members))
+      go (Ok tt) e = let z : ◌≡◌ {A = ℕ} 0 1 = cc in absurd (omega arith)
+      go (Err n) e = (refl, refl)

@@ -8,14 +8,12 @@ use lib.Dec.{ltb}
 use lib.ListN.{length, get_or, take, drop, length-append, length-drop, length-map}
 use lib.Seq.{length-take-le, take_all, take_at, drop_at, take-add, drop-drop}
 use borrow.Author.Tests.{ltb-true, ltb-false}
-use Rattle.numbers.specs.Refusals.{decided, unless}
-use Rattle.numbers.specs.declared.answer.Answer.{Answer}
-use Rattle.numbers.specs.declared.answer.Answer.TheVariants.{Done, Refused}
+use Rattle.numbers.specs.Refusals.{decided}
 use Rattle.cells.specs.Memory.{memory}
 use Rattle.cells.specs.CellOf.{cell_of}
 use Rattle.cells.proofs.Sequences.Tests.{by_test}
 use Rattle.sets.specs.Members.{areas, area_of}
-use Rattle.sets.specs.MemberList.{no_memory, cells_of}
+use Rattle.sets.specs.MemberList.{no_memory, cells_of, unless}
 use Rattle.sets.specs.CellSet.{CellSet, cell_set, word, ynd_of, words_at, total, parts_of, parts_in, members_of}
 use Rattle.sets.specs.Leave.{closed, start_of, without, SetLeft, set_left, first_of_area, leave_causes, left_by, leave_area, removed, used}
 use Rattle.sets.specs.SetParts.{Holds}
@@ -24,6 +22,9 @@ use Rattle.sets.proofs.CellSetLaws.{members_many, member_at_law, members_same}
 use Rattle.sets.proofs.MemberLaws.{first_has}
 use Rattle.sets.proofs.RoomLaws.{lists_of, accepted}
 use Rattle.sets.proofs.LeaveLaws.{asked_of}
+use Rattle.std.specs.Prelude.{Ok, Err}
+use Rattle.numbers.specs.declared.refusal.Refusal.{Refusal}
+use Rattle.numbers.specs.Refusals.{Answer}
 
 -- ---- one list
 
@@ -170,20 +171,20 @@ module _ (y : CellSet) (h : Holds y) (j : ℕ) (lt : j < length y.members) where
 
 module _ (y : CellSet) (area : ℕ) where
   abbrev called : Answer → SetLeft
-  called a = unless a (λ cause place. set_left (Refused cause place) (length y.members) y) (left_by (first_of_area y area) y)
+  called a = unless a (λ cause. set_left (Err cause) (length y.members) y) (left_by (first_of_area y area) y)
 
   -- a refused call leaves all six lists, and the number of members
-  pub leave_refused : (x p : ℕ) → (leave_area y area).answer ≡ Refused x p → ((leave_area y area).lists ≡ y) × ((leave_area y area).count ≡ length y.members)
+  pub leave_refused : (x : Refusal) → (leave_area y area).answer ≡ Err x → ((leave_area y area).lists ≡ y) × ((leave_area y area).count ≡ length y.members)
   unfolding leave_area
-  leave_refused x p e = go (decided (leave_causes y area)) e
+  leave_refused x e = go (decided (leave_causes y area)) e
     where
-      done : (o : Option ℕ) → (left_by o y).answer ≡ Done
+      done : (o : Option ℕ) → (left_by o y).answer ≡ (Ok tt)
       done (some j) = refl
       done none = refl
 
-      go : (a : Answer) → (called a).answer ≡ Refused x p → ((called a).lists ≡ y) × ((called a).count ≡ length y.members)
-      go Done e = let d = sym (done (first_of_area y area)) ∙ e in let z : ◌≡◌ {A = ℕ} 0 1 = cc in absurd (omega arith)
-      go (Refused n q) e = (refl, refl)
+      go : (a : Answer) → (called a).answer ≡ Err x → ((called a).lists ≡ y) × ((called a).count ≡ length y.members)
+      go (Ok tt) e = let d = sym (done (first_of_area y area)) ∙ e in let z : ◌≡◌ {A = ℕ} 0 1 = cc in absurd (omega arith)
+      go (Err n) e = (refl, refl)
 
   -- an accepted one leaves the other members, each as it was
   module _ (j : ℕ) (f : first_of_area y area ≡ some j) where
@@ -192,13 +193,13 @@ module _ (y : CellSet) (area : ℕ) where
     there = omega (arith, (first_has (areas (cells_of (members_of y))) area j f).0, length-map (cells_of (members_of y)) area_of, length-map (members_of y) cell_of, members_many y)
 
     abbrev answered : Answer → SetLeft
-    answered a = unless a (λ cause place. set_left (Refused cause place) (length y.members) y) (left_by (some j) y)
+    answered a = unless a (λ cause. set_left (Err cause) (length y.members) y) (left_by (some j) y)
 
-    after : (a : Answer) → a ≡ lists_of y → (answered a).answer ≡ Done → members_of (used (answered a).count (answered a).lists) ≡ removed j (members_of y)
-    after Done t e = members_left y (accepted y t).whole j there
-    after (Refused x p) t e = let z : ◌≡◌ {A = ℕ} 0 1 = cc in absurd (omega arith)
+    after : (a : Answer) → a ≡ lists_of y → (answered a).answer ≡ (Ok tt) → members_of (used (answered a).count (answered a).lists) ≡ removed j (members_of y)
+    after (Ok tt) t e = members_left y (accepted y t).whole j there
+    after (Err x) t e = let z : ◌≡◌ {A = ℕ} 0 1 = cc in absurd (omega arith)
 
-    pub leave_done : (leave_area y area).answer ≡ Done → members_of (used (leave_area y area).count (leave_area y area).lists) ≡ removed j (members_of y)
+    pub leave_done : (leave_area y area).answer ≡ (Ok tt) → members_of (used (leave_area y area).count (leave_area y area).lists) ≡ removed j (members_of y)
     leave_done e =
         let s = asked_of y area j f in
         ap (λ (r : SetLeft). members_of (used r.count r.lists)) s ∙ after (lists_of y) refl (ap (λ (r : SetLeft). r.answer) (sym s) ∙ e)

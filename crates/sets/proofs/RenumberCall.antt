@@ -5,34 +5,33 @@ use mathlib.Core.Path.{◌≡◌, ap, sym, ◌∙◌}
 use mathlib.Core.Bool.{false}
 use mathlib.Core.List.{List, []}
 use lib.ListN.{length, get_or}
-use Rattle.numbers.specs.Refusals.{unless}
-use Rattle.numbers.specs.declared.answer.Answer.{Answer}
-use Rattle.numbers.specs.declared.answer.Answer.TheVariants.{Refused}
 use Rattle.numbers.proofs.Refusing.{passed}
 use Rattle.cells.specs.Memory.{Memory, over_limit}
 use Rattle.cells.specs.Renumber.{renumber}
+use Rattle.sets.specs.MemberList.{unless}
 use Rattle.sets.specs.CellSet.{CellSet, ynd_of, members_of, set_causes}
 use Rattle.sets.specs.Join.{set_lengths}
 use Rattle.sets.specs.SetStored.{member_in, ask_causes}
 use Rattle.sets.specs.MemberParts.{opened}
 use Rattle.sets.specs.RenumberMember.{MemberRenumbered, member_renumbered, renumbered_at, renumber_member}
 use Rattle.sets.specs.declared.member.MemberPart.{MemberPart}
-use Rattle.sets.specs.declared.member.Opened.TheVariants as opened
-use Rattle.sets.specs.declared.member.Opened.TheVariants.{At}
 use Rattle.sets.proofs.CellSetLaws.{members_many}
 use Rattle.sets.proofs.MemberPartLaws.{ask_held, open_refused, open_at, OpenAt}
 use Rattle.sets.proofs.SetKept.{member_within}
+use Rattle.std.specs.Prelude.{Ok, Err}
+use Rattle.numbers.specs.declared.refusal.Refusal.{Refusal}
+use Rattle.numbers.specs.Refusals.{Answer}
 
 module _ (y : CellSet) (j s : ℕ) (ps : List ℕ) where
   abbrev answered : Answer → MemberRenumbered
-  answered a = unless a (λ cause place. member_renumbered (Refused cause place) y ps)
+  answered a = unless a (λ cause. member_renumbered (Err cause) y ps)
       (renumbered_at y j (renumber (member_in y j) s ps))
 
-  pub call_refused : (x q : ℕ) → opened.Refused x q ≡ opened y.members (set_lengths y) j
-      → member_renumbered (Refused x q) y ps ≡ renumber_member y j s ps
+  pub call_refused : (x : Refusal) → Err x ≡ opened y.members (set_lengths y) j
+      → member_renumbered (Err x) y ps ≡ renumber_member y j s ps
   unfolding renumber_member
-  call_refused x q e =
-      ap answered (sym (open_refused y.members (set_lengths y) j x q e) ∙ ask_held y j)
+  call_refused x e =
+      ap answered (sym (open_refused y.members (set_lengths y) j x e) ∙ ask_held y j)
 
   pub call_accepted : (p : MemberPart) → OpenAt y j p
       → renumbered_at y j (renumber (member_in y j) s ps) ≡ renumber_member y j s ps
@@ -40,7 +39,7 @@ module _ (y : CellSet) (j s : ℕ) (ps : List ℕ) where
   call_accepted p k = ap answered (sym k.asked)
 
 -- an opened member's struct is its entry's, and keeps to the limits of a cell
-pub opened_within : (y : CellSet) (j : ℕ) (p : MemberPart) → At p ≡ opened y.members (set_lengths y) j → OpenAt y j p
+pub opened_within : (y : CellSet) (j : ℕ) (p : MemberPart) → Ok p ≡ opened y.members (set_lengths y) j → OpenAt y j p
     → (p.ynd ≡ ynd_of (get_or y.members j [])) × (over_limit p.ynd ≡ false)
 unfolding ask_causes set_causes
 opened_within y j p e k =

@@ -2,7 +2,6 @@
 use Prim.Native.Nat.{ℕ, ◌+◌, ◌*◌}
 use mathlib.Core.Path.{◌≡◌, refl}
 use mathlib.Core.List.{List, [], ◌∷◌}
-use Rattle.numbers.specs.declared.answer.Answer.TheVariants.{Done, Refused}
 use Rattle.records.specs.Put.{put}
 use Rattle.cells.specs.Lists.{every}
 use Rattle.cells.specs.Memory.{over_limit, short_of}
@@ -22,6 +21,9 @@ use Rattle.sets.specs.CellSet.{CellSet, cell_set, ynd_of, words_at, total, parts
 use Rattle.sets.specs.CellSet.{holds_list, lack_of, set_causes}
 use Rattle.sets.specs.SetStored.{ask_causes, with_member}
 use Rattle.sets.specs.RenumberMember.{member_renumbered, correct_parts, others_corrected, renumber_member}
+use Rattle.std.specs.Prelude.{Ok, Err}
+use Rattle.numbers.specs.declared.refusal.Refusal.TheVariants.{TooShort, NoSuchPlace}
+use Rattle.numbers.specs.declared.refusal.Lent.TheVariants as lent
 
 -- a member of n nodes and l links, of which so many are no ped nodes, with parts of so many entries
 abbrev entry : ℕ → ℕ → ℕ → ℕ → ℕ → List ℕ
@@ -46,7 +48,7 @@ three = cell_set
 
 -- The first of area 6 is renumbered: the link into it follows, once. The entry to spare, the later member's own link
 -- and what is behind all parts stay.
-pub first_renumbered : renumber_member three 1 65536 (50 ∷ 51 ∷ 52 ∷ []) ≡ member_renumbered Done (cell_set
+pub first_renumbered : renumber_member three 1 65536 (50 ∷ 51 ∷ 52 ∷ []) ≡ member_renumbered (Ok tt) (cell_set
     (entry 0 1 2 1 3 ∷ entry 2 2 1 2 1 ∷ entry 0 1 1 1 1 ∷ [])
     (node 5 7 0 ∷ node 6 0 0 ∷ node 6 1 0 ∷ node 6 1 0 ∷ node 9 9 9 ∷ [])
     (link 6 0 ∷ link 8 1 ∷ link 6 1 ∷ link 5 7 ∷ link 6 1 ∷ link 6 1 ∷ [])
@@ -59,7 +61,7 @@ unfolding renumber_member ask_causes set_causes members_of map_from parts_in par
 first_renumbered = refl
 
 -- the later member of area 6: its own node and link change, and nothing outside it
-pub later_renumbered : renumber_member three 2 65536 (50 ∷ []) ≡ member_renumbered Done (cell_set
+pub later_renumbered : renumber_member three 2 65536 (50 ∷ []) ≡ member_renumbered (Ok tt) (cell_set
     (entry 0 1 2 1 3 ∷ entry 0 2 1 2 1 ∷ entry 1 1 1 1 1 ∷ [])
     (node 5 7 0 ∷ node 6 1 0 ∷ node 6 0 0 ∷ node 6 0 0 ∷ node 9 9 9 ∷ [])
     (link 6 1 ∷ link 8 1 ∷ link 6 1 ∷ link 5 7 ∷ link 6 0 ∷ link 6 1 ∷ [])
@@ -73,16 +75,16 @@ later_renumbered = refl
 
 -- ---- refused: no such member, a scratch of 65,535 entries, one new place for two nodes
 
-pub no_such_member : renumber_member three 3 0 [] ≡ member_renumbered (Refused 13 0) three []
+pub no_such_member : renumber_member three 3 0 [] ≡ member_renumbered (Err NoSuchPlace) three []
 unfolding renumber_member ask_causes
 no_such_member = refl
 
-pub scratch_short : renumber_member three 1 65535 [] ≡ member_renumbered (Refused 7 6) three []
+pub scratch_short : renumber_member three 1 65535 [] ≡ member_renumbered (Err (TooShort lent.Scratch)) three []
 unfolding renumber_member ask_causes set_causes members_of map_from parts_in parts_of words_at total ynd_of over_set
     nodes_together any_over over_limit lack_of holds_list every renumber answer_of short_of
 scratch_short = refl
 
-pub places_short : renumber_member three 1 65536 (50 ∷ []) ≡ member_renumbered (Refused 7 7) three (50 ∷ [])
+pub places_short : renumber_member three 1 65536 (50 ∷ []) ≡ member_renumbered (Err (TooShort lent.NewPlaces)) three (50 ∷ [])
 unfolding renumber_member ask_causes set_causes members_of map_from parts_in parts_of words_at total ynd_of over_set
     nodes_together any_over over_limit lack_of holds_list every renumber answer_of short_of
 places_short = refl

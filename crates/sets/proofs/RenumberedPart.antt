@@ -10,20 +10,19 @@ use lib.ListN.{length, get_or, set, take, drop, length-drop, length-append, leng
 use lib.Seq.{length-take-le, drop_at, drop-drop}
 use Rattle.std.proofs.lemmas.List.{take-append-drop, take-take}
 use borrow.Author.Tests.{le-ltb, ltb-false, eq-eqb}
-use Rattle.numbers.specs.Refusals.{when, decided, unless}
-use Rattle.numbers.specs.declared.answer.Answer.{Answer}
-use Rattle.numbers.specs.declared.answer.Answer.TheVariants.{Done, Refused}
+use Rattle.numbers.specs.Refusals.{when, decided}
+use Rattle.numbers.specs.Refusals.{answered as answer_from}
+use Rattle.numbers.proofs.Refusing.{not_refused}
 use Rattle.records.specs.Put.{put}
 use Rattle.cells.specs.Order.{Old, keep, parted, new_number, new_places}
 use Rattle.cells.specs.NodeWords.{is_ped, is_vehicle, first_area, number_of, reordered, old_of, relinked}
-use Rattle.cells.specs.Memory.{Memory, memory, over_limit, short, short_of}
+use Rattle.cells.specs.Memory.{Memory, memory, ynd_after, over_limit, short, short_of}
 use Rattle.cells.specs.Cell.{Cell, old_nodes}
 use Rattle.cells.specs.CellOf.{link_of, nodes_of, cell_of}
-use Rattle.cells.specs.NewNumbers.{new_numbers, numbers_left, NumbersLeft, numbers_causes, numbers_call}
+use Rattle.cells.specs.NewNumbers.{new_numbers, numbers_left, NumbersLeft, numbers_causes, numbers_if, numbers_call}
 use Rattle.cells.specs.Renumber.{Renumbered, renumbered_by, over, vehicles, peds, renumber_lists, recounted}
-use Rattle.cells.specs.Renumber.{answer_of, new_lists, renumber_memory, left_by, renumber, scratch_left}
+use Rattle.cells.specs.Renumber.{answer_of, new_lists, renumber_memory, left_by, renumber}
 use Rattle.cells.specs.declared.ynd.Ynd.{Ynd}
-use Rattle.cells.specs.declared.ynd.Outcome.{Outcome}
 use Rattle.cells.proofs.Sequences.Tests.{by_test}
 use Rattle.cells.proofs.Forms.Limits.{within}
 use Rattle.cells.proofs.Renumbering.Parted.{places_length}
@@ -44,6 +43,11 @@ use Rattle.sets.proofs.SetMemory.{cell_at_law}
 use Rattle.sets.proofs.CorrectLaws.{part_inside, part_own, part_over}
 use Rattle.sets.proofs.SetCorrected.{links_long, links_parts}
 use Rattle.sets.proofs.MemberPartLaws.{put_back}
+use Rattle.std.specs.Prelude.{Result, Ok, Err}
+use Rattle.numbers.specs.Refusals.{Answer}
+use Rattle.numbers.specs.declared.refusal.Refusal.{Refusal}
+use Rattle.numbers.specs.declared.refusal.Refusal.TheVariants.{TooShort}
+use Rattle.numbers.specs.declared.refusal.Lent.TheVariants as lent
 
 -- ---- one list
 
@@ -73,8 +77,8 @@ old_cut n z nodes le =
     (sym (take-take n z nodes le))
 
 -- a cell over no limit, in lists that hold it
-asked_plain : (over : Bool) (n lack s p : ℕ) → over ≡ false → lack ≡ 5
-    → answer_of over n lack s p ≡ decided (when (ltb s 65536) 7 6 ∷ when (ltb p n) 7 7 ∷ [])
+asked_plain : (over : Bool) (n : ℕ) (lack : Answer) (s p : ℕ) → over ≡ false → lack ≡ (Ok tt)
+    → answer_of over n lack s p ≡ decided (when (ltb s 65536) (TooShort lent.Scratch) ∷ when (ltb p n) (TooShort lent.NewPlaces) ∷ [])
 unfolding answer_of
 asked_plain over n lack s p e w = rw (e, w)
 
@@ -130,7 +134,7 @@ module _ (y : CellSet) (j : ℕ) (lt : j < length y.members) (h : Holds y)
         length-take-le (room size) (drop (start size) l) (omega (arith, length-drop (start size) l)),
       )
 
-  m_whole : short m ≡ 5
+  m_whole : short m ≡ (Ok tt)
   unfolding short_of ynd_of
   m_whole =
       rw (
@@ -158,25 +162,25 @@ module _ (y : CellSet) (j : ℕ) (lt : j < length y.members) (h : Holds y)
   -- ---- what the call answers
 
   abbrev causes : ℕ → ℕ → Answer
-  causes s p = decided (when (ltb s 65536) 7 6 ∷ when (ltb p n) 7 7 ∷ [])
+  causes s p = decided (when (ltb s 65536) (TooShort lent.Scratch) ∷ when (ltb p n) (TooShort lent.NewPlaces) ∷ [])
 
   asked_table : (s p : ℕ) → decided (numbers_causes n (length N) s p) ≡ causes s p
   unfolding numbers_causes
   asked_table s p = rw (le-ltb 65536 n few_nodes, le-ltb (length N) n nodes_far)
 
-  asked_part : (m' : Memory) → m'.ynd ≡ v → short m' ≡ 5 → (s p : ℕ)
+  asked_part : (m' : Memory) → m'.ynd ≡ v → short m' ≡ (Ok tt) → (s p : ℕ)
       → answer_of (over_limit m'.ynd) m'.ynd.node_count (short m') s p ≡ causes s p
   asked_part m' e w s p =
       asked_plain (over_limit m'.ynd) m'.ynd.node_count (short m') s p (ap over_limit e ∙ few) w
-      ∙ ap (λ (u : Ynd). decided (when (ltb s 65536) 7 6 ∷ when (ltb p u.node_count) 7 7 ∷ [])) e
+      ∙ ap (λ (u : Ynd). decided (when (ltb s 65536) (TooShort lent.Scratch) ∷ when (ltb p u.node_count) (TooShort lent.NewPlaces) ∷ [])) e
 
   module _ (S P : List ℕ) where
     abbrev o : Old
     o = old_of n N
 
     abbrev called : Answer → NumbersLeft
-    called a = unless a (λ cause place. numbers_left (Refused cause place) S P)
-        (numbers_left Done (new_numbers o ++ drop 65536 S) (new_places (map is_ped (take n N)) ++ drop n P))
+    called a = numbers_if a S P
+        (numbers_left (Ok tt) (new_numbers o ++ drop 65536 S) (new_places (map is_ped (take n N)) ++ drop n P))
 
     by_causes : numbers_call n N S P ≡ called (causes (length S) (length P))
     unfolding numbers_call
@@ -186,8 +190,8 @@ module _ (y : CellSet) (j : ℕ) (lt : j < length y.members) (h : Holds y)
     answered = go (causes (length S) (length P))
       where
         go : (a : Answer) → (called a).answer ≡ a
-        go Done = refl
-        go (Refused x q) = refl
+        go (Ok tt) = refl
+        go (Err x) = refl
 
     own_call : renumber m (length S) P ≡ left_by (causes (length S) (length P)) m P
     unfolding renumber
@@ -197,24 +201,24 @@ module _ (y : CellSet) (j : ℕ) (lt : j < length y.members) (h : Holds y)
       is : a ≡ causes (length S) (length P)
       is = ap (λ (r : NumbersLeft). r.answer) (e ∙ by_causes) ∙ answered
 
-      pub refused_at : (x q : ℕ) → a ≡ Refused x q
-          → (member_renumbered a y p ≡ renumbered_at y j (renumber (member_in y j) (length S) P)) × scratch_left a S t
-      refused_at x q d =
-          let c : causes (length S) (length P) ≡ Refused x q = sym is ∙ d in
+      pub refused_at : (x : Refusal) → a ≡ Err x
+          → (member_renumbered (Err x) y p ≡ renumbered_at y j (renumber (member_in y j) (length S) P)) × (t ≡ S)
+      refused_at x d =
+          let c : causes (length S) (length P) ≡ Err x = sym is ∙ d in
           let left = e ∙ by_causes ∙ ap called c in
           let same : p ≡ P = ap (λ (r : NumbersLeft). r.places) left in
-          let whole : member_renumbered a y p ≡ renumbered_at y j (renumber (member_in y j) (length S) P) =
-          (λ i. member_renumbered (d i) y (same i))
+          let whole : member_renumbered (Err x) y p ≡ renumbered_at y j (renumber (member_in y j) (length S) P) =
+          (λ i. member_renumbered (Err x) y (same i))
           ∙ sym (ap (λ (k : Memory). renumbered_at y j (renumber k (length S) P)) m_is
           ∙ ap (renumbered_at y j) (own_call ∙ ap (λ (z : Answer). left_by z m P) c)) in
-          (whole, rw d (ap (λ (r : NumbersLeft). r.table) left))
+          (whole, ap (λ (r : NumbersLeft). r.table) left)
 
       -- an accepted call
-      module _ (d : a ≡ Done) where
-        fine : causes (length S) (length P) ≡ Done
+      module _ (d : a ≡ (Ok tt)) where
+        fine : causes (length S) (length P) ≡ (Ok tt)
         fine = sym is ∙ d
 
-        filled : numbers_left a t p ≡ called Done
+        filled : numbers_left a t p ≡ called (Ok tt)
         filled = e ∙ by_causes ∙ ap called fine
 
         table_is : t ≡ new_numbers o ++ drop 65536 S
@@ -240,13 +244,13 @@ module _ (y : CellSet) (j : ℕ) (lt : j < length y.members) (h : Holds y)
             (ltb-false (length S) 65536 f, ltb-false (length P) n g)))
           where
             first : Bool → Answer
-            first b = cond b (Refused 7 6) (cond (ltb (length P) n) (Refused 7 7) Done)
+            first b = cond b (Err (TooShort lent.Scratch)) (cond (ltb (length P) n) (Err (TooShort lent.NewPlaces)) (Ok tt))
 
-            second : ltb (length S) 65536 ≡ false → ltb (length P) n ≡ true → causes (length S) (length P) ≡ Refused 7 7
+            second : ltb (length S) 65536 ≡ false → ltb (length P) n ≡ true → causes (length S) (length P) ≡ Err (TooShort lent.NewPlaces)
             second f u = rw (f, u)
 
-            no : {Z : Type 0} {x q : ℕ} → Refused x q ≡ Done → Z
-            no r = let z : ◌≡◌ {A = ℕ} 0 1 = cc in absurd (omega arith)
+            no : {Z : Type 0} {x : Refusal} → ◌≡◌ {A = Answer} (Err x) (Ok tt) → Z
+            no r = not_refused r
 
         many : length (new_places (map is_ped (take n N))) ≡ n
         many = places_length (map is_ped (take n N)) ∙ length-map (take n N) is_ped ∙ length-take-le n N nodes_far
@@ -254,7 +258,7 @@ module _ (y : CellSet) (j : ℕ) (lt : j < length y.members) (h : Holds y)
         pub wide : 65536 ≤ length S
         wide = both.0
 
-        same_room : causes (length t) (length p) ≡ Done
+        same_room : causes (length t) (length p) ≡ (Ok tt)
         same_room =
             let b = both in
             let large : 65536 ≤ length t =
@@ -306,7 +310,7 @@ module _ (y : CellSet) (j : ℕ) (lt : j < length y.members) (h : Holds y)
               → count_of k ws j ≤ length (drop (start size) l)
           far k size l g = omega (arith, part_inside g j lt, g.held j lt, length-drop (start size) l)
 
-          m₁_whole : short m₁ ≡ 5
+          m₁_whole : short m₁ ≡ (Ok tt)
           unfolding short_of ynd_of
           m₁_whole =
               let links : count_of 11 ws j ≤ length (drop (start 16) Lc) =
@@ -329,34 +333,34 @@ module _ (y : CellSet) (j : ℕ) (lt : j < length y.members) (h : Holds y)
                 le-ltb _ _ (far 14 19 y.refs h.refs_hold),
               )
 
-          m₁_call : renumber m₁ (length t) p ≡ left_by Done m₁ p
+          m₁_call : renumber m₁ (length t) p ≡ left_by (Ok tt) m₁ p
           unfolding renumber
           m₁_call = ap (λ (z : Answer). left_by z m₁ p) (asked_part m₁ refl m₁_whole (length t) (length p) ∙ same_room)
 
           -- what the code's call says, where the member is and how it starts
           pub called_at : (ynd : Ynd) (at : PerList) → ynd ≡ v → at ≡ starts_of ws j
-              → (r : Outcome) (N' L' R' : List (List ℕ)) (P' : List ℕ)
-              → renumbered_by r (drop at.nodes N') (drop at.links L') y.junctions y.heights (drop at.refs R') P'
+              → (r : Result Ynd Refusal) (N' L' R' : List (List ℕ)) (P' : List ℕ)
+              → renumbered_by ynd r (drop at.nodes N') (drop at.links L') y.junctions y.heights (drop at.refs R') P'
               ≡ renumber (memory ynd (drop at.nodes y.nodes) (drop at.links Lc) y.junctions y.heights
               (drop at.refs y.refs)) (length t) p
-              → renumbered_by r (drop (start 15) N') (drop (start 16) L') y.junctions y.heights (drop (start 19) R') P'
+              → renumbered_by v r (drop (start 15) N') (drop (start 16) L') y.junctions y.heights (drop (start 19) R') P'
               ≡ renumber m₁ (length t) p
           called_at ynd at ey ea r N' L' R' P' er =
-              sym (λ i. renumbered_by r (drop (ea i).nodes N') (drop (ea i).links L') y.junctions y.heights
+              sym (λ i. renumbered_by (ey i) r (drop (ea i).nodes N') (drop (ea i).links L') y.junctions y.heights
               (drop (ea i).refs R') P')
               ∙ er
               ∙ (λ i. renumber (memory (ey i) (drop (ea i).nodes y.nodes) (drop (ea i).links Lc) y.junctions y.heights
               (drop (ea i).refs y.refs)) (length t) p)
 
-          module _ (r : Outcome) (N' L' R' : List (List ℕ)) (P' : List ℕ)
-              (er : renumbered_by r (drop (start 15) N') (drop (start 16) L') y.junctions y.heights
+          module _ (r : Result Ynd Refusal) (N' L' R' : List (List ℕ)) (P' : List ℕ)
+              (er : renumbered_by v r (drop (start 15) N') (drop (start 16) L') y.junctions y.heights
               (drop (start 19) R') P'
               ≡ renumber m₁ (length t) p)
               (eN : take (start 15) N' ≡ take (start 15) y.nodes) (eL : take (start 16) L' ≡ take (start 16) Lc)
               (eR : take (start 19) R' ≡ take (start 19) y.refs) where
-            done : renumbered_by r (drop (start 15) N') (drop (start 16) L') y.junctions y.heights
+            done : renumbered_by v r (drop (start 15) N') (drop (start 16) L') y.junctions y.heights
                 (drop (start 19) R') P'
-                ≡ left_by Done m₁ p
+                ≡ left_by (Ok tt) m₁ p
             done = er ∙ m₁_call
 
             le₁₅ : n ≤ room 15
@@ -369,7 +373,7 @@ module _ (y : CellSet) (j : ℕ) (lt : j < length y.members) (h : Holds y)
             old : o ≡ old_of n (take (room 15) N)
             old = old_cut n (room 15) N le₁₅
 
-            ynd_is : r.ynd ≡ recounted v (vehicles n (take (room 15) N)) (peds n (take (room 15) N))
+            ynd_is : ynd_after v r ≡ recounted v (vehicles n (take (room 15) N)) (peds n (take (room 15) N))
             unfolding renumber_memory vehicles peds
             ynd_is =
                 ap (λ (z : Renumbered). z.memory.ynd) done
@@ -415,11 +419,12 @@ module _ (y : CellSet) (j : ℕ) (lt : j < length y.members) (h : Holds y)
                 (ap (drop n) places_are ∙ drop_at (new_places (map is_ped (take n N))) (drop n P) n many)
                 ∙ ap (λ (l : List (List ℕ)). new_places (map is_ped l) ++ drop n P) cut
 
-            lists_are : cell_set (set ws j (entry_with r.ynd (get_or ws j []))) N' L' y.junctions y.heights R'
+            lists_are : (next : Ynd) → r ≡ Ok next
+                → cell_set (set ws j (entry_with next (get_or ws j []))) N' L' y.junctions y.heights R'
                 ≡ with_member (others_corrected y j) j (renumber_memory m P)
             unfolding with_member others_corrected renumber_memory new_lists renumber_lists
-            lists_are = λ i. record {
-              members = set ws j (entry_with (ynd_is i) (get_or ws j []));
+            lists_are next is = λ i. record {
+              members = set ws j (entry_with ((ap (ynd_after v) (sym is) ∙ ynd_is) i) (get_or ws j []));
               nodes = nodes_are i;
               links = links_are i;
               junctions = sym (put_back y.junctions (start 17) (room 17)) i;
@@ -427,10 +432,14 @@ module _ (y : CellSet) (j : ℕ) (lt : j < length y.members) (h : Holds y)
               refs = refs_are i;
             }
 
-            pub renumbered_at_law : member_renumbered Done
-                (cell_set (set ws j (entry_with r.ynd (get_or ws j []))) N' L' y.junctions y.heights R') P'
+            -- it is accepted
+            pub never_refused : {Z : Type 0} (x : Refusal) → r ≡ Err x → Z
+            never_refused x q = not_refused (sym (ap (λ (z : Result Ynd Refusal). answer_from z) q) ∙ ap (λ (z : Renumbered). z.answer) done)
+
+            pub renumbered_at_law : (next : Ynd) → r ≡ Ok next → member_renumbered (Ok tt)
+                (cell_set (set ws j (entry_with next (get_or ws j []))) N' L' y.junctions y.heights R') P'
                 ≡ renumbered_at y j (renumber (member_in y j) (length S) P)
-            renumbered_at_law =
-                (λ i. member_renumbered Done (lists_are i) (places_kept i))
+            renumbered_at_law next is =
+                (λ i. member_renumbered (Ok tt) (lists_are next is i) (places_kept i))
                 ∙ sym (ap (λ (k : Memory). renumbered_at y j (renumber k (length S) P)) m_is
                 ∙ ap (renumbered_at y j) (own_call ∙ ap (λ (z : Answer). left_by z m P) fine))

@@ -2,14 +2,14 @@
 use Prim.Native.Nat.{ℕ, zero, suc, ◌+◌, ◌≤◌, ◌<◌}
 use native.Mathlib.Omega.{arith}
 use mathlib.Core.Path.{◌≡◌, refl, ap, sym, ◌∙◌}
-use mathlib.Core.Bool.{Bool, true, false, ◌||◌}
+use mathlib.Core.Bool.{Bool, true, false, not, cond, ◌||◌}
 use mathlib.Core.List.{List, [], ◌∷◌}
+use Rattle.std.specs.List.{list_any}
 use lib.Dec.{ltb, leb}
 use lib.ListN.{length, get_or, length-map}
 use borrow.Author.Tests.{lt-ltb, le-ltb, leb-true, ltb-false}
-use Rattle.numbers.specs.Refusals.{decided}
-use Rattle.numbers.specs.declared.answer.Answer.{Answer}
-use Rattle.numbers.specs.declared.answer.Answer.TheVariants.{Done, Refused}
+use Rattle.numbers.specs.Refusals.{Cause, when, decided}
+use Rattle.numbers.proofs.Refusing.{not_refused, passed}
 use Rattle.cells.specs.Lists.{every}
 use Rattle.cells.specs.Memory.{memory, over_limit}
 use Rattle.cells.proofs.Sequences.Tests.{by_test, and_left, and_right, every_at, true_false}
@@ -18,6 +18,9 @@ use Rattle.sets.specs.MemberList.{nodes_together, any_over, over_set}
 use Rattle.sets.specs.CellSet.{CellSet, word, ynd_of, words_at, total, Parts, parts_in, member_with, members_of, room_for, holds_list, lack_of, lack, set_causes}
 use Rattle.sets.specs.SetParts.{Holding, Holds, bare, list_causes}
 use Rattle.sets.proofs.SetLists.{length_from}
+use Rattle.std.specs.Prelude.{Ok, Err}
+use Rattle.numbers.specs.Refusals.{Answer}
+use Rattle.numbers.specs.declared.refusal.Refusal.TheVariants.{AtLimit}
 
 -- ---- limits
 
@@ -31,10 +34,10 @@ any_found (w ∷ ws) (suc i) lt e = go (over_limit (ynd_of w)) (any_found ws i (
     go true h = refl
     go false h = h
 
-pub any_none : (ws : List (List ℕ)) → ((i : ℕ) → i < length ws → over_limit (ynd_of (get_or ws i [])) ≡ false) → false ≡ any_over (bare ws)
+pub any_bare : (ws : List (List ℕ)) → list_any (λ w. over_limit (ynd_of w)) ws ≡ any_over (bare ws)
 unfolding any_over bare
-any_none [] h = refl
-any_none (w ∷ ws) h = rw (h 0 (omega arith)) (any_none ws (λ i lt. h (suc i) (omega arith)))
+any_bare [] = refl
+any_bare (w ∷ ws) = ap (λ (b : Bool). over_limit (ynd_of w) || b) (any_bare ws)
 
 pub bare_many : (ws : List (List ℕ)) → length (bare ws) ≡ length ws
 unfolding bare
@@ -104,59 +107,27 @@ holding k size ws len t = record {
   held = λ i lt. leb-true _ _ (every_at (room_for k size) ws i [] (and_left (every (room_for k size) ws) (leb (total (words_at size ws)) len) t) lt);
 }
 
-pub holds : (y : CellSet) → 5 ≤ lack y → Holds y
+pub fit_true : (b : Bool) → not b ≡ false → b ≡ true
+fit_true true e = refl
+fit_true false e = true_false e
+
+-- of an accepted list the later causes are an accepted list
+pub tail_done : (c : Cause) (cs : List Cause) → decided (c ∷ cs) ≡ (Ok tt) → decided cs ≡ (Ok tt)
+tail_done c cs e = go c.fits (decided cs) e
+  where
+    go : (b : Bool) (a : Answer) → cond b (Err c.refusal) a ≡ (Ok tt) → a ≡ (Ok tt)
+    go true a e = not_refused e
+    go false a e = e
+
+pub holds : (y : CellSet) → decided (lack y) ≡ (Ok tt) → Holds y
 unfolding lack_of
-holds y h =
-    by_test (holds_list 10 15 y.members (length y.nodes)) (λ t₀.
-    by_test (holds_list 11 16 y.members (length y.links)) (λ t₁.
-    by_test (holds_list 12 17 y.members (length y.junctions)) (λ t₂.
-    by_test (holds_list 13 18 y.members (length y.heights)) (λ t₃.
-    by_test (holds_list 14 19 y.members (length y.refs)) (λ t₄.
-    record { nodes_hold = holding _ _ _ _ t₀; links_hold = holding _ _ _ _ t₁; junctions_hold = holding _ _ _ _ t₂; heights_hold = holding _ _ _ _ t₃; refs_hold = holding _ _ _ _ t₄ })
-    (λ f. absurd (let z : 5 ≤ 4 = rw (t₀, t₁, t₂, t₃, f) at h in omega arith)))
-    (λ f. absurd (let z : 5 ≤ 3 = rw (t₀, t₁, t₂, f) at h in omega arith)))
-    (λ f. absurd (let z : 5 ≤ 2 = rw (t₀, t₁, f) at h in omega arith)))
-    (λ f. absurd (let z : 5 ≤ 1 = rw (t₀, f) at h in omega arith)))
-    (λ f. absurd (let z : 5 ≤ 0 = rw f at h in omega arith))
-
-module _ (ws : List (List ℕ)) (n l j h r : ℕ) where
-  pub lacks_nodes : holds_list 10 15 ws n ≡ false → 0 ≡ lack_of ws n l j h r
-  unfolding lack_of
-  lacks_nodes a = rw a
-
-  pub lacks_links : holds_list 10 15 ws n ≡ true → holds_list 11 16 ws l ≡ false → 1 ≡ lack_of ws n l j h r
-  unfolding lack_of
-  lacks_links a b = rw (a, b)
-
-  pub lacks_junctions : holds_list 10 15 ws n ≡ true → holds_list 11 16 ws l ≡ true → holds_list 12 17 ws j ≡ false → 2 ≡ lack_of ws n l j h r
-  unfolding lack_of
-  lacks_junctions a b c = rw (a, b, c)
-
-  pub lacks_heights : holds_list 10 15 ws n ≡ true → holds_list 11 16 ws l ≡ true → holds_list 12 17 ws j ≡ true → holds_list 13 18 ws h ≡ false → 3 ≡ lack_of ws n l j h r
-  unfolding lack_of
-  lacks_heights a b c d = rw (a, b, c, d)
-
-  pub lacks_refs : holds_list 10 15 ws n ≡ true → holds_list 11 16 ws l ≡ true → holds_list 12 17 ws j ≡ true → holds_list 13 18 ws h ≡ true → holds_list 14 19 ws r ≡ false → 4 ≡ lack_of ws n l j h r
-  unfolding lack_of
-  lacks_refs a b c d e = rw (a, b, c, d, e)
-
-  pub lacks_none : holds_list 10 15 ws n ≡ true → holds_list 11 16 ws l ≡ true → holds_list 12 17 ws j ≡ true → holds_list 13 18 ws h ≡ true → holds_list 14 19 ws r ≡ true → 5 ≡ lack_of ws n l j h r
-  unfolding lack_of
-  lacks_none a b c d e = rw (a, b, c, d, e)
-
-  -- ---- the answer
-
-  pub answer_14 : over_set (bare ws) ≡ true → Refused 14 0 ≡ decided (list_causes ws n l j h r)
-  unfolding list_causes
-  answer_14 o = rw o
-
-  pub answer_7 : (k : ℕ) → over_set (bare ws) ≡ false → k ≡ lack_of ws n l j h r → k < 5 → Refused 7 k ≡ decided (list_causes ws n l j h r)
-  unfolding list_causes
-  answer_7 k o e lt = rw (o, ← e, lt-ltb k 5 lt)
-
-  pub answer_done : (k : ℕ) → over_set (bare ws) ≡ false → k ≡ lack_of ws n l j h r → 5 ≤ k → Done ≡ decided (list_causes ws n l j h r)
-  unfolding list_causes
-  answer_done k o e le = rw (o, ← e, le-ltb k 5 le)
+holds y e = record {
+  nodes_hold = holding _ _ _ _ (fit_true _ (passed (lack y) 0 e));
+  links_hold = holding _ _ _ _ (fit_true _ (passed (lack y) 1 e));
+  junctions_hold = holding _ _ _ _ (fit_true _ (passed (lack y) 2 e));
+  heights_hold = holding _ _ _ _ (fit_true _ (passed (lack y) 3 e));
+  refs_hold = holding _ _ _ _ (fit_true _ (passed (lack y) 4 e));
+}
 
 -- the set's causes, by its entries and the lists' lengths
 abbrev pub lists_of : CellSet → Answer
@@ -170,12 +141,11 @@ pub record Accepted (y : CellSet) : Type 0 where
   pub few : length y.members ≤ 9
   pub whole : Holds y
 
-pub accepted : (y : CellSet) → Done ≡ lists_of y → Accepted y
+pub accepted : (y : CellSet) → (Ok tt) ≡ lists_of y → Accepted y
 unfolding list_causes
 accepted y e =
-    by_test (over_set (bare y.members)) (λ t. refused (rw t at e)) (λ o.
-    by_test (ltb (lack y) 5) (λ t. refused (rw (o, t) at e)) (λ f.
-    record { few = few_members y.members o; whole = holds y (ltb-false (lack y) 5 f) }))
-  where
-    refused : {P : Type 0} {a b : ℕ} → Done ≡ Refused a b → P
-    refused d = let z : ◌≡◌ {A = ℕ} 0 1 = cc in absurd (omega arith)
+    let c = when (over_set (bare y.members)) AtLimit in
+    record {
+      few = few_members y.members (passed (c ∷ lack y) 0 (sym e));
+      whole = holds y (tail_done c (lack y) (sym e));
+    }

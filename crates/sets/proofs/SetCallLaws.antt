@@ -8,19 +8,15 @@ use mathlib.Core.List.{List, [], ◌∷◌}
 use mathlib.Core.Option.{some}
 use lib.Dec.{eqb}
 use lib.ListN.{length, get_or}
-use Rattle.numbers.specs.Refusals.{decided, unless}
-use Rattle.numbers.specs.declared.answer.Answer.{Answer}
-use Rattle.numbers.specs.declared.answer.Answer.TheVariants.{Done, Refused}
+use Rattle.numbers.specs.Refusals.{decided}
 use Rattle.cells.specs.Memory.{Memory}
 use Rattle.cells.specs.Cell.{Cell}
 use Rattle.cells.specs.CellOf.{cell_of}
 use Rattle.cells.specs.Lookup.{first_with}
 use Rattle.cells.specs.Renumber.{Renumbered, renumber}
 use Rattle.cells.specs.WriteRead.{Both, write_read_of}
-use Rattle.cells.specs.declared.write.Written.{Written}
-use Rattle.cells.specs.declared.write.Written.TheVariants as written
 use Rattle.sets.specs.Members.{areas, area_of}
-use Rattle.sets.specs.MemberList.{cells_of}
+use Rattle.sets.specs.MemberList.{cells_of, unless}
 use Rattle.sets.specs.SetRenumber.{is_member, change_of}
 use Rattle.sets.specs.CellSet.{CellSet, cell_set, members_of}
 use Rattle.sets.specs.Leave.{SetLeft, set_left, used, first_of_area}
@@ -41,6 +37,9 @@ use Rattle.sets.proofs.MemberLaws.{area_at}
 use Rattle.sets.proofs.CrossingHeld.{one_crossing}
 use Rattle.sets.proofs.SetKept.{usable, may_be_used}
 use Rattle.sets.proofs.SetCalled.{renumbered_as, written_as, run_as}
+use Rattle.std.specs.Prelude.{Result, Ok, Err}
+use Rattle.numbers.specs.Refusals.{Answer}
+use Rattle.numbers.specs.declared.refusal.Refusal.{Refusal}
 
 pub calls_follow : CallsFollowTheorem
 calls_follow y e =
@@ -59,59 +58,59 @@ calls_follow y e =
 
 -- ---- refusals
 
-renumbering_refused : (y : CellSet) (j s : ℕ) (ps : List ℕ) (x p : ℕ) → (renumber_member y j s ps).answer ≡ Refused x p
+renumbering_refused : (y : CellSet) (j s : ℕ) (ps : List ℕ) (x : Refusal) → (renumber_member y j s ps).answer ≡ Err x
     → ((renumber_member y j s ps).lists ≡ y) × ((renumber_member y j s ps).places ≡ ps)
 unfolding renumber_member
-renumbering_refused y j s ps x p e = go (decided (ask_causes y j)) e
+renumbering_refused y j s ps x e = go (decided (ask_causes y j)) e
   where
     r : Renumbered
     r = renumber (member_in y j) s ps
 
     left : Answer → MemberRenumbered
-    left a = unless a (λ cause place. member_renumbered (Refused cause place) y ps) (renumbered_at y j r)
+    left a = unless a (λ cause. member_renumbered (Err cause) y ps) (renumbered_at y j r)
 
-    called : (a : Answer) → r.answer ≡ a → a ≡ Refused x p → (lists_after a y j r.memory ≡ y) × (r.places ≡ ps)
-    called Done d q = let z : ◌≡◌ {A = ℕ} 0 1 = cc in absurd (omega arith)
-    called (Refused c k) d q = (refl, places_stay (member_in y j) ps s c k d)
+    called : (a : Answer) → r.answer ≡ a → a ≡ Err x → (lists_after a y j r.memory ≡ y) × (r.places ≡ ps)
+    called (Ok tt) d q = let z : ◌≡◌ {A = ℕ} 0 1 = cc in absurd (omega arith)
+    called (Err c) d q = (refl, places_stay (member_in y j) ps s c d)
 
-    go : (a : Answer) → (left a).answer ≡ Refused x p → ((left a).lists ≡ y) × ((left a).places ≡ ps)
-    go Done q = called r.answer refl q
-    go (Refused c k) q = (refl, refl)
+    go : (a : Answer) → (left a).answer ≡ Err x → ((left a).lists ≡ y) × ((left a).places ≡ ps)
+    go (Ok tt) q = called r.answer refl q
+    go (Err c) q = (refl, refl)
 
-writing_refused : (y : CellSet) (j : ℕ) (s : List ℕ) (x p : ℕ) → (write_read_member y j s).answer ≡ written.Refused x p
+writing_refused : (y : CellSet) (j : ℕ) (s : List ℕ) (x : Refusal) → (write_read_member y j s).answer ≡ Err x
     → ((write_read_member y j s).lists ≡ y) × ((write_read_member y j s).section ≡ s)
 unfolding write_read_member
-writing_refused y j s x p e = go (decided (ask_causes y j)) e
+writing_refused y j s x e = go (decided (ask_causes y j)) e
   where
     b : Both
     b = write_read_of (member_in y j) s
 
     left : Answer → SetWritten
-    left a = unless a (λ cause place. set_written (written.Refused cause place) y s) (wrote_in y j b)
+    left a = unless a (λ cause. set_written (Err cause) y s) (wrote_in y j b)
 
-    called : (a : Written) → b.answer ≡ a → a ≡ written.Refused x p
+    called : (a : Result ℕ Refusal) → b.answer ≡ a → a ≡ Err x
         → (write.lists_after a y j b.memory ≡ y) × (b.section ≡ s)
-    called (written.Wrote n) d q = let z : ◌≡◌ {A = ℕ} 0 1 = cc in absurd (omega arith)
-    called (written.Refused c k) d q = (refl, (written_refused (member_in y j) s c k d).1)
+    called (Ok n) d q = let z : ◌≡◌ {A = ℕ} 0 1 = cc in absurd (omega arith)
+    called (Err c) d q = (refl, (written_refused (member_in y j) s c d).1)
 
-    go : (a : Answer) → (left a).answer ≡ written.Refused x p → ((left a).lists ≡ y) × ((left a).section ≡ s)
-    go Done q = called b.answer refl q
-    go (Refused c k) q = (refl, refl)
+    go : (a : Answer) → (left a).answer ≡ Err x → ((left a).lists ≡ y) × ((left a).section ≡ s)
+    go (Ok tt) q = called b.answer refl q
+    go (Err c) q = (refl, refl)
 
-joining_refused : (count : ℕ) (y : CellSet) (m : Memory) (sizes : PerList) (x p : ℕ)
-    → (join_cell count y m sizes).answer ≡ Refused x p
+joining_refused : (count : ℕ) (y : CellSet) (m : Memory) (sizes : PerList) (x : Refusal)
+    → (join_cell count y m sizes).answer ≡ Err x
     → ((join_cell count y m sizes).lists ≡ y) × ((join_cell count y m sizes).count ≡ length (used count y).members)
 unfolding join_cell
-joining_refused count y m sizes x p e = go (decided (join_causes (used count y) (length y.members) m sizes)) e
+joining_refused count y m sizes x e = go (decided (join_causes (used count y) (length y.members) m sizes)) e
   where
     left : Answer → SetLeft
-    left a = unless a (λ cause place. set_left (Refused cause place) (length (used count y).members) y)
-        (set_left Done (length (used count y).members + 1) (with_cell y (used count y) m sizes))
+    left a = unless a (λ cause. set_left (Err cause) (length (used count y).members) y)
+        (set_left (Ok tt) (length (used count y).members + 1) (with_cell y (used count y) m sizes))
 
-    go : (a : Answer) → (left a).answer ≡ Refused x p
+    go : (a : Answer) → (left a).answer ≡ Err x
         → ((left a).lists ≡ y) × ((left a).count ≡ length (used count y).members)
-    go Done q = let z : ◌≡◌ {A = ℕ} 0 1 = cc in absurd (omega arith)
-    go (Refused c k) q = (refl, refl)
+    go (Ok tt) q = let z : ◌≡◌ {A = ℕ} 0 1 = cc in absurd (omega arith)
+    go (Err c) q = (refl, refl)
 
 pub refused_changes_none : RefusedChangesNone
 refused_changes_none =
@@ -143,15 +142,15 @@ later_corrects_none y j first s ps f other e = go (decided (ask_causes y j)) e
     r = renumber (member_in y j) s ps
 
     left : Answer → MemberRenumbered
-    left a = unless a (λ cause place. member_renumbered (Refused cause place) y ps) (renumbered_at y j r)
+    left a = unless a (λ cause. member_renumbered (Err cause) y ps) (renumbered_at y j r)
 
-    called : (a : Answer) → a ≡ Done → lists_after a y j r.memory ≡ with_member y j r.memory
-    called Done q = ap (λ (z : CellSet). with_member z j r.memory) (none_corrected y j first f other)
-    called (Refused c k) q = let z : ◌≡◌ {A = ℕ} 0 1 = cc in absurd (omega arith)
+    called : (a : Answer) → a ≡ (Ok tt) → lists_after a y j r.memory ≡ with_member y j r.memory
+    called (Ok tt) q = ap (λ (z : CellSet). with_member z j r.memory) (none_corrected y j first f other)
+    called (Err c) q = let z : ◌≡◌ {A = ℕ} 0 1 = cc in absurd (omega arith)
 
-    go : (a : Answer) → (left a).answer ≡ Done → (left a).lists ≡ with_member y j r.memory
-    go Done q = called r.answer q
-    go (Refused c k) q = let z : ◌≡◌ {A = ℕ} 0 1 = cc in absurd (omega arith)
+    go : (a : Answer) → (left a).answer ≡ (Ok tt) → (left a).lists ≡ with_member y j r.memory
+    go (Ok tt) q = called r.answer q
+    go (Err c) q = let z : ◌≡◌ {A = ℕ} 0 1 = cc in absurd (omega arith)
 
 -- ---- a set of one member
 

@@ -7,17 +7,13 @@ use mathlib.Core.Bool.{Bool, cond}
 use mathlib.Core.List.{List, [], ◌∷◌}
 use lib.ListN.{length, set}
 use lib.Seq.{set-get_or}
-use Rattle.numbers.specs.Refusals.{decided, unless}
-use Rattle.numbers.specs.declared.answer.Answer.{Answer}
-use Rattle.numbers.specs.declared.answer.Answer.TheVariants.{Done, Refused}
+use Rattle.numbers.specs.Refusals.{decided}
 use Rattle.cells.specs.Memory.{Memory}
 use Rattle.cells.specs.Renumber.{Renumbered, renumber}
 use Rattle.cells.specs.WriteRead.{Both, write_read_of}
-use Rattle.cells.specs.declared.write.Written.{Written}
-use Rattle.cells.specs.declared.write.Written.TheVariants as written
 use Rattle.walks.specs.Calls.{Call, renumbering, write_read, is_done}
 use Rattle.sets.specs.Crossing.{Location}
-use Rattle.sets.specs.MemberList.{no_memory, cells_of, member_causes}
+use Rattle.sets.specs.MemberList.{no_memory, cells_of, member_causes, unless}
 use Rattle.sets.specs.SetRenumber.{members_after, SetRenumbered, renumbered_in, not_renumbered, renumber_in, SetBoth}
 use Rattle.sets.specs.SetRenumber.{both_in, not_written, write_read_in}
 use Rattle.sets.specs.SetCalls.{SetCall, after_in, run_in, renumbers_in, moves_to, moved_in}
@@ -34,6 +30,9 @@ use Rattle.sets.proofs.CellSetLaws.{members_many}
 use Rattle.sets.proofs.MemberKept.{Stays, renumber_stays, write_read_stays}
 use Rattle.sets.proofs.SetKept.{Usable, Changed, asked_alike, member_ready, stored}
 use Rattle.sets.proofs.SetCorrected.{z, corrected_is, corrected_usable, own_as_was, all_corrected}
+use Rattle.std.specs.Prelude.{Result, Ok, Err}
+use Rattle.numbers.specs.Refusals.{Answer}
+use Rattle.numbers.specs.declared.refusal.Refusal.{Refusal}
 
 -- the six lists y before a call and z after it, whose members then are ms
 pub record As (y z : CellSet) (ms : List Memory) : Type 0 where
@@ -49,7 +48,7 @@ module _ (y : CellSet) (u : Usable y) (j : ℕ) where
   ms = members_of y
 
   -- a call that passed 13 is on a member
-  there : decided (member_causes ms j) ≡ Done → j < length y.members
+  there : decided (member_causes ms j) ≡ (Ok tt) → j < length y.members
   there e = let lt = member_there ms j e in omega (arith, members_many y)
 
   -- ---- renumbering
@@ -67,7 +66,7 @@ module _ (y : CellSet) (u : Usable y) (j : ℕ) where
     by_answer : j < length y.members → (a : Answer)
         → RenumberedAs (member_renumbered a (lists_after a y j r.memory) r.places)
         (record { answer = a; members = members_after a ms j r.memory; places = r.places })
-    by_answer lt Done =
+    by_answer lt (Ok tt) =
         let c : Changed (others_corrected y j) (with_member (others_corrected y j) j r.memory) j r.memory =
         subst (λ (o : CellSet). Changed o (with_member o j r.memory) j r.memory) (sym (corrected_is y j u))
         (stored (z y j u) (corrected_usable y j u) j lt r.memory
@@ -85,17 +84,17 @@ module _ (y : CellSet) (u : Usable y) (j : ℕ) where
           same_answer = refl;
           same_places = refl;
         }
-    by_answer lt (Refused x p) = record { lists = as_was y u; same_answer = refl; same_places = refl }
+    by_answer lt (Err x) = record { lists = as_was y u; same_answer = refl; same_places = refl }
 
     pub renumbered_as : RenumberedAs (renumber_member y j s ps) (renumber_in ms j s ps)
     unfolding renumber_member renumber_in
     renumbered_as = rw (asked_alike y j u.whole) (go (decided (member_causes ms j)) refl)
       where
         go : (a : Answer) → decided (member_causes ms j) ≡ a
-            → RenumberedAs (unless a (λ cause place. member_renumbered (Refused cause place) y ps)
+            → RenumberedAs (unless a (λ cause. member_renumbered (Err cause) y ps)
             (renumbered_at y j r)) (unless a (not_renumbered ms ps) (renumbered_in ms j r))
-        go Done e = by_answer (there e) r.answer
-        go (Refused x p) e = record { lists = as_was y u; same_answer = refl; same_places = refl }
+        go (Ok tt) e = by_answer (there e) r.answer
+        go (Err x) e = record { lists = as_was y u; same_answer = refl; same_places = refl }
 
   -- ---- write-then-read
 
@@ -108,21 +107,21 @@ module _ (y : CellSet) (u : Usable y) (j : ℕ) where
     abbrev b : Both
     b = write_read_of (member_in y j) section
 
-    by_written : j < length y.members → (a : Written) → b.answer ≡ a
+    by_written : j < length y.members → (a : Result ℕ Refusal) → b.answer ≡ a
         → WrittenAs (set_written a (write.lists_after a y j b.memory) b.section)
         (record { answer = a; members = set ms j b.memory; section = b.section })
-    by_written lt (written.Wrote n) e =
+    by_written lt (Ok n) e =
         let c = stored y u j lt b.memory (write_read_stays (member_in y j) section (member_ready y u j lt)) in
         record {
           lists = record { as_usable = c.as_usable; as_many = c.as_many; same_members = c.one_other };
           same_answer = refl;
           same_section = refl;
         }
-    by_written lt (written.Refused x p) e = record {
+    by_written lt (Err x) e = record {
       lists = record {
         as_usable = u;
         as_many = refl;
-        same_members = sym (ap (set ms j) (written_refused (member_in y j) section x p e).0 ∙ set-get_or ms j no_memory);
+        same_members = sym (ap (set ms j) (written_refused (member_in y j) section x e).0 ∙ set-get_or ms j no_memory);
       };
       same_answer = refl;
       same_section = refl;
@@ -133,10 +132,10 @@ module _ (y : CellSet) (u : Usable y) (j : ℕ) where
     written_as = rw (asked_alike y j u.whole) (go (decided (member_causes ms j)) refl)
       where
         go : (a : Answer) → decided (member_causes ms j) ≡ a
-            → WrittenAs (unless a (λ cause place. set_written (written.Refused cause place) y section) (wrote_in y j b))
+            → WrittenAs (unless a (λ cause. set_written (Err cause) y section) (wrote_in y j b))
             (unless a (not_written ms section) (both_in ms j b))
-        go Done e = by_written (there e) b.answer refl
-        go (Refused x p) e = record { lists = as_was y u; same_answer = refl; same_section = refl }
+        go (Ok tt) e = by_written (there e) b.answer refl
+        go (Err x) e = record { lists = as_was y u; same_answer = refl; same_section = refl }
 
 -- ---- lists of calls
 

@@ -8,8 +8,6 @@ use lib.Dec.{eqb, leb}
 use lib.ListN.{length, get_or, take, drop, length-map}
 use lib.Seq.{take_at}
 use Rattle.numbers.specs.Refusals.{decided}
-use Rattle.numbers.specs.declared.answer.Answer.{Answer}
-use Rattle.numbers.specs.declared.answer.Answer.TheVariants.{Done, Refused}
 use Rattle.cells.specs.Cell.{node_at}
 use Rattle.cells.specs.Memory.{Memory}
 use Rattle.cells.proofs.Sequences.Tests.{true_false}
@@ -17,7 +15,6 @@ use Rattle.walks.specs.Walk.{Trail}
 use Rattle.walks.specs.Calls.{Call, renumbering, write_read, is_done}
 use Rattle.walks.specs.Claim.{places, SameWalk}
 use Rattle.walks.specs.declared.walk.End.{End}
-use Rattle.walks.specs.declared.walk.Walked.TheVariants as walked
 use Rattle.walks.proofs.Routes.{same_walk}
 use Rattle.walks.proofs.CallLists.{move_id}
 use Rattle.sets.specs.Members.{cell_at}
@@ -32,7 +29,6 @@ use Rattle.sets.specs.SetStored.{member_in, ask_causes}
 use Rattle.sets.specs.CrossMember.{cross_causes, cross_member}
 use Rattle.sets.specs.RenumberMember.{MemberRenumbered, member_renumbered, renumber_member}
 use Rattle.sets.specs.WriteMember.{SetWritten, set_written, write_read_member}
-use Rattle.cells.specs.declared.write.Written.TheVariants as written
 use Rattle.sets.specs.SetRun.{after_on, run_set, renumbers_on, moved_on, any_renumbers_on}
 use Rattle.sets.specs.SetCallsClaim.{cells_in, CallsUnnoticed, CallsUnnoticedTheorem}
 use Rattle.sets.proofs.CellSetLaws.{members_many}
@@ -40,6 +36,11 @@ use Rattle.sets.proofs.CrossingHeld.{crossing_held}
 use Rattle.sets.proofs.SetDemand.{set_unnoticed}
 use Rattle.sets.proofs.SetKept.{Usable, usable, may_be_used}
 use Rattle.sets.proofs.SetCalled.{As, after_as, renumbers_as, run_as, moved_as}
+use Rattle.walks.specs.declared.walk.Walked.{Walked}
+use Rattle.std.specs.Prelude.{Result, Ok, Err}
+use Rattle.numbers.specs.Refusals.{Answer}
+use Rattle.numbers.specs.declared.refusal.Refusal.{Refusal}
+use Rattle.numbers.specs.declared.refusal.Refusal.TheVariants.{NoSuchPlace}
 
 -- ---- the call of a crossing walk
 
@@ -48,16 +49,20 @@ crossed_alike : (y : CellSet) → Usable y → (choices : List ℕ) (s : Locatio
     → cross_member y choices s visited ≡ crossing_call (members_of y) choices s visited
 crossed_alike y u = crossing_held y u.whole.nodes_hold u.whole.links_hold
 
+abbrev counted : Result Walked Refusal → ℕ
+counted (Ok w) = w.count
+counted (Err x) = 0
+
 -- what an accepted call stores
 record Stored (t : Trail Location) (left : CrossingLeft) (end : End) (n : ℕ) : Type 0 where
   pub many : n ≡ length (places t)
   pub stored : take n left.visited ≡ visit_words t
 
 ended : (a : Answer) (t : Trail Location) (visited : List (List ℕ)) (end : End) (n : ℕ)
-    → (crossed_by a t visited).answer ≡ walked.Ended end n → Stored t (crossed_by a t visited) end n
-ended (Refused x p) t visited end n e = let z : ◌≡◌ {A = ℕ} 0 1 = cc in absurd (omega arith)
-ended Done t visited end n e =
-    let m : n ≡ length (places t) = cc in
+    → (crossed_by a t visited).answer ≡ Ok (record { end = end; count = n }) → Stored t (crossed_by a t visited) end n
+ended (Err x) t visited end n e = let z : ◌≡◌ {A = ℕ} 0 1 = cc in absurd (omega arith)
+ended (Ok tt) t visited end n e =
+    let m : n ≡ length (places t) = sym (ap counted e) in
     record {
       many = m;
       stored =
@@ -69,7 +74,7 @@ visits : (y z : CellSet) (f : Location → Location) (choices : List ℕ) (s r :
     (end : End) (n : ℕ)
     → SameWalk f (crossing (cells_in y) choices s) (crossing (cells_in z) choices r)
     → (cross_member z choices r later).answer ≡ (cross_member y choices s visited).answer
-    → (cross_member y choices s visited).answer ≡ walked.Ended end n
+    → (cross_member y choices s visited).answer ≡ Ok (record { end = end; count = n })
     → take n (cross_member z choices r later).visited
     ≡ map (λ w. location_words (f (location (get_or w 0 0) (get_or w 1 0))))
     (take n (cross_member y choices s visited).visited)
@@ -160,29 +165,28 @@ module _ (y : CellSet) (u : Usable y) (read : (i : ℕ) → i < length y.members
 
 -- ---- a set that every call refuses
 
-module _ (y : CellSet) (cause place : ℕ) (no : decided (set_causes y) ≡ Refused cause place) where
-  record Refusal (j : ℕ) : Type 0 where
-    pub number : ℕ
-    pub at_place : ℕ
-    pub is : decided (ask_causes y j) ≡ Refused number at_place
+module _ (y : CellSet) (cause : Refusal) (no : decided (set_causes y) ≡ Err cause) where
+  record Refused (j : ℕ) : Type 0 where
+    pub why : Refusal
+    pub is : decided (ask_causes y j) ≡ Err why
 
-  refusal : (j : ℕ) → Refusal j
+  refusal : (j : ℕ) → Refused j
   unfolding ask_causes
   refusal j = go (leb (length y.members) j) refl
     where
-      go : (b : Bool) → leb (length y.members) j ≡ b → Refusal j
-      go true e = record { number = 13; at_place = 0; is = rw e refl }
-      go false e = record { number = cause; at_place = place; is = rw e no }
+      go : (b : Bool) → leb (length y.members) j ≡ b → Refused j
+      go true e = record { why = NoSuchPlace; is = rw e refl }
+      go false e = record { why = cause; is = rw e no }
 
-  not_renumbered_law : (j scratch : ℕ) (ps : List ℕ) (x p : ℕ) → decided (ask_causes y j) ≡ Refused x p
-      → renumber_member y j scratch ps ≡ member_renumbered (Refused x p) y ps
+  not_renumbered_law : (j scratch : ℕ) (ps : List ℕ) (x : Refusal) → decided (ask_causes y j) ≡ Err x
+      → renumber_member y j scratch ps ≡ member_renumbered (Err x) y ps
   unfolding renumber_member
-  not_renumbered_law j scratch ps x p e = rw e refl
+  not_renumbered_law j scratch ps x e = rw e refl
 
-  not_written_law : (j : ℕ) (section : List ℕ) (x p : ℕ) → decided (ask_causes y j) ≡ Refused x p
-      → write_read_member y j section ≡ set_written (written.Refused x p) y section
+  not_written_law : (j : ℕ) (section : List ℕ) (x : Refusal) → decided (ask_causes y j) ≡ Err x
+      → write_read_member y j section ≡ set_written (Err x) y section
   unfolding write_read_member
-  not_written_law j section x p e = rw e refl
+  not_written_law j section x e = rw e refl
 
   idle : (k : SetCall) → (after_on y k ≡ y) × (renumbers_on y k ≡ false)
   unfolding after_on renumbers_on
@@ -192,11 +196,11 @@ module _ (y : CellSet) (cause place : ℕ) (no : decided (set_causes y) ≡ Refu
           (renumbers_on y (record { member = k.member; call = c }) ≡ false)
       go (renumbering scratch ps) =
           let r = refusal k.member in
-          let e = not_renumbered_law k.member (length scratch) ps r.number r.at_place r.is in
+          let e = not_renumbered_law k.member (length scratch) ps r.why r.is in
           (ap (λ (m : MemberRenumbered). m.lists) e, ap (λ (m : MemberRenumbered). is_done m.answer) e)
       go (write_read section) =
           let r = refusal k.member in
-          (ap (λ (m : SetWritten). m.lists) (not_written_law k.member section r.number r.at_place r.is), refl)
+          (ap (λ (m : SetWritten). m.lists) (not_written_law k.member section r.why r.is), refl)
 
   idle_run : (ks : List SetCall) → run_set y ks ≡ y
   unfolding run_set
@@ -222,8 +226,8 @@ module _ (y : CellSet) (cause place : ℕ) (no : decided (set_causes y) ≡ Refu
   -- where nothing has changed
   answer_by_law : (a : Answer) (t : Trail Location) (visited later : List (List ℕ))
       → (crossed_by a t later).answer ≡ (crossed_by a t visited).answer
-  answer_by_law Done t visited later = refl
-  answer_by_law (Refused x p) t visited later = refl
+  answer_by_law (Ok tt) t visited later = refl
+  answer_by_law (Err x) t visited later = refl
 
   answers_idle : (choices : List ℕ) (q : Location) (visited later : List (List ℕ)) → length later ≡ length visited
       → (cross_member y choices q later).answer ≡ (cross_member y choices q visited).answer
@@ -278,5 +282,5 @@ pub calls_unnoticed : CallsUnnoticedTheorem
 calls_unnoticed y read s ks = go (decided (set_causes y)) refl
   where
     go : (a : Answer) → decided (set_causes y) ≡ a → CallsUnnoticed y ks
-    go Done e = used_unnoticed y (usable y e) read s ks
-    go (Refused cause place) e = idle_unnoticed y cause place e ks
+    go (Ok tt) e = used_unnoticed y (usable y e) read s ks
+    go (Err cause) e = idle_unnoticed y cause e ks

@@ -3,7 +3,6 @@ use Prim.Native.Nat.{ℕ}
 use mathlib.Core.Path.{◌≡◌, ap, sym, ◌∙◌}
 use mathlib.Core.List.{List}
 use lib.ListN.{length, length-map}
-use Rattle.numbers.specs.declared.answer.Answer.TheVariants.{Done}
 use Rattle.cells.specs.Memory.{Memory}
 use Rattle.cells.specs.Read.{read_of}
 use Rattle.cells.specs.CellOf.{cell_of}
@@ -21,6 +20,7 @@ use Rattle.sets.proofs.SetLists.{every_all}
 use Rattle.sets.proofs.SetMemory.{cell_at_law}
 use Rattle.sets.proofs.SetRuns.{Alike, Fit, run_alike, run_numbers}
 use Rattle.sets.proofs.CrossingAlike.{Held, same_over, answers_alike, run_held}
+use Rattle.std.specs.Prelude.{Ok}
 
 -- of a sound set that storing keeps, in lists that hold it, and of every list of calls
 unnoticed : (ms : List Memory) → Fit (cells_of ms) → Held ms → (calls : List SetCall) → SetUnnoticed ms calls
@@ -57,7 +57,7 @@ set_unnoticed ms r s calls =
     calls
 
 -- the memory that an accepted reading leaves is a member as read
-pub as_read : (system graphics : List ℕ) (lent : Memory) → (read_of system graphics lent).answer ≡ Done → CellAsRead (read_of system graphics lent).memory
+pub as_read : (system graphics : List ℕ) (lent : Memory) → (read_of system graphics lent).answer ≡ (Ok tt) → CellAsRead (read_of system graphics lent).memory
 as_read system graphics lent e =
     let l = read_lies system graphics lent e in
     record {

@@ -9,10 +9,8 @@ use lib.Dec.{eqb, ltb, leb}
 use lib.ListN.{length, take, drop, length-append, length-drop, length-map, get_or-append}
 use lib.Seq.{length-take-le, get_or-append_seam}
 use borrow.Author.Tests.{ltb-true, ltb-false, leb-true, leb-false, eq-eqb}
-use Rattle.numbers.specs.Refusals.{Cause, decided, unless, when}
-use Rattle.numbers.specs.declared.answer.Answer.{Answer}
-use Rattle.numbers.specs.declared.answer.Answer.TheVariants.{Done, Refused}
-use Rattle.numbers.proofs.Refusing.{passed, decided_append}
+use Rattle.numbers.specs.Refusals.{Cause, decided, when}
+use Rattle.numbers.proofs.Refusing.{passed}
 use Rattle.cells.specs.Lists.{every}
 use Rattle.cells.specs.Memory.{Memory, over_limit}
 use Rattle.cells.specs.Checks.{root_read}
@@ -27,11 +25,11 @@ use Rattle.records.specs.Root.{root_of, unknowns_of}
 use Rattle.cells.proofs.Reading.FileRead.{read_all}
 use Rattle.cells.proofs.Sequences.Tests.{by_test, and_left, and_right, true_false, every_at, map_append}
 use Rattle.sets.specs.Members.{areas, area_of}
-use Rattle.sets.specs.MemberList.{no_memory, member_at, cells_of, nodes_together, any_over, over_set}
+use Rattle.sets.specs.MemberList.{no_memory, member_at, cells_of, nodes_together, any_over, over_set, unless}
 use Rattle.sets.specs.SetClaim.{CellAsRead}
 use Rattle.sets.specs.CellSet.{CellSet, cell_set, word, words_at, total, members_of, room_for, holds_list}
 use Rattle.sets.specs.Leave.{SetLeft, set_left, used, without, first_of_area, leave_causes, leave_area, removed}
-use Rattle.sets.specs.Join.{entry_of, stored, part_fits, lack_later, lack_for, set_lengths, cell_lengths, join_causes}
+use Rattle.sets.specs.Join.{entry_of, stored, part_fits, lack_for, set_lengths, cell_lengths, join_causes}
 use Rattle.sets.specs.Join.{joined_member, with_cell, join_cell}
 use Rattle.sets.specs.SetParts.{Holding, Holds}
 use Rattle.sets.specs.HandBack.{copied, leaver, lack_of_back, hand_causes, hand_back}
@@ -39,12 +37,18 @@ use Rattle.sets.specs.SetStored.{member_in}
 use Rattle.sets.specs.SetCallLaws.{joined_set, JoinStores, JoinStoresTheorem, ReadThenJoin, JoinThenLeave, JoinThenLeaveTheorem}
 use Rattle.sets.specs.declared.parts.PerList.{PerList}
 use Rattle.sets.proofs.CellSetLaws.{members_many}
-use Rattle.sets.proofs.JoinLaws.{Fitting, AllFit, all_fit, together_more, over_more}
+use Rattle.sets.proofs.JoinLaws.{Fitting, AllFit, all_fit, both_done, together_more, over_more}
+use Rattle.sets.proofs.RoomLaws.{fit_true, tail_done}
+use Rattle.numbers.specs.Refusals.{unless as handed_on}
+use Rattle.numbers.specs.declared.refusal.Lent.TheVariants as lent
 use Rattle.sets.proofs.MembersJoined.{entries_more, words_more, members_joined, cell_joined, part_long}
 use Rattle.sets.proofs.MembersLeft.{leave_done}
 use Rattle.sets.proofs.HandBackLaws.{handed_cell}
 use Rattle.sets.proofs.SetDemand.{as_read}
 use Rattle.sets.proofs.SetKept.{Usable, may_be_used}
+use Rattle.std.specs.Prelude.{Ok, Err}
+use Rattle.numbers.specs.Refusals.{Answer}
+use Rattle.numbers.specs.declared.refusal.Refusal.TheVariants.{TooShort, AtLimit, AreaTaken}
 
 -- ---- what an accepted joining says
 
@@ -58,32 +62,42 @@ module _ (count : ℕ) (y : CellSet) (m : Memory) (sizes : PerList) where
   abbrev causes : List Cause
   causes = join_causes before (length y.members) m sizes
 
-  abbrev lacking : ℕ
+  abbrev lacking : List Cause
   lacking = lack_for ws (set_lengths before) (cell_lengths m) m.ynd sizes
 
   record Joins : Type 0 where
     pub not_there : is_some (first_of_area before (area_of (cell_of m))) ≡ false
     pub within : over_set (members_of before ++ (m ∷ [])) ≡ false
-    pub all : 5 ≤ lacking
+    pub all : decided lacking ≡ (Ok tt)
     pub entry : length ws < length y.members
     pub lists : (join_cell count y m sizes).lists ≡ with_cell y before m sizes
     pub counted : (join_cell count y m sizes).count ≡ length ws + 1
 
-  joins : (join_cell count y m sizes).answer ≡ Done → Joins
+  joins : (join_cell count y m sizes).answer ≡ (Ok tt) → Joins
   unfolding join_cell join_causes
   joins e = go (decided causes) refl e
     where
       left : Answer → SetLeft
-      left a = unless a (λ cause place. set_left (Refused cause place) (length ws) y)
-          (set_left Done (length ws + 1) (with_cell y before m sizes))
+      left a = unless a (λ cause. set_left (Err cause) (length ws) y)
+          (set_left (Ok tt) (length ws + 1) (with_cell y before m sizes))
 
-      go : (a : Answer) → decided causes ≡ a → (left a).answer ≡ Done → Joins
-      go (Refused x p) d q = let z : ◌≡◌ {A = ℕ} 0 1 = cc in absurd (omega arith)
-      go Done d q = record {
+      full : Cause
+      full = when (leb (length y.members) (length ws)) (TooShort lent.Members)
+
+      later : decided causes ≡ (Ok tt) → (decided lacking ≡ (Ok tt)) × (decided (full ∷ []) ≡ (Ok tt))
+      later d =
+          let rest = lacking ++ (full ∷ []) in
+          let taken = when (is_some (first_of_area before (area_of (cell_of m)))) AreaTaken in
+          let limit = when (over_set (members_of before ++ (m ∷ []))) AtLimit in
+          both_done lacking (full ∷ []) (tail_done limit rest (tail_done taken (limit ∷ rest) d))
+
+      go : (a : Answer) → decided causes ≡ a → (left a).answer ≡ (Ok tt) → Joins
+      go (Err x) d q = let z : ◌≡◌ {A = ℕ} 0 1 = cc in absurd (omega arith)
+      go (Ok tt) d q = record {
         not_there = passed causes 0 d;
         within = passed causes 1 d;
-        all = ltb-false lacking 5 (passed causes 2 d);
-        entry = leb-false (length y.members) (length ws) (passed causes 3 d);
+        all = (later d).0;
+        entry = leb-false (length y.members) (length ws) (passed (full ∷ []) 0 (later d).1);
         lists = ap (λ (a : Answer). (left a).lists) d;
         counted = ap (λ (a : Answer). (left a).count) d;
       }
@@ -145,7 +159,7 @@ over_words ms m d e =
 -- ---- the set after it
 
 module _ (count : ℕ) (y : CellSet) (m : Memory) (sizes : PerList) (seven : length m.ynd.unknowns ≡ 7)
-    (e : (join_cell count y m sizes).answer ≡ Done) where
+    (e : (join_cell count y m sizes).answer ≡ (Ok tt)) where
   abbrev es : List (List ℕ)
   es = take count y.members
 
@@ -177,28 +191,16 @@ module _ (count : ℕ) (y : CellSet) (m : Memory) (sizes : PerList) (seven : len
       (entries_more y.members count w j.entry)
 
   old_held : Holds (used count y)
-  unfolding lack_for lack_later
+  unfolding lack_for
   old_held =
-      let a = set_lengths y in
-      let b = cell_lengths m in
-      let h : 5 ≤ lack_for es a b m.ynd sizes = j.all in
-      by_test (part_fits 10 15 es a.nodes b.nodes m.ynd.node_count sizes.nodes) (λ t₀.
-      by_test (part_fits 11 16 es a.links b.links m.ynd.link_count sizes.links) (λ t₁.
-      by_test (part_fits 12 17 es a.junctions b.junctions m.ynd.junction_count sizes.junctions) (λ t₂.
-      by_test (part_fits 13 18 es a.heights b.heights m.ynd.heightmap_count sizes.heights) (λ t₃.
-      by_test (part_fits 14 19 es a.refs b.refs m.ynd.ref_count sizes.refs) (λ t₄.
+      let a = lack_for es (set_lengths y) (cell_lengths m) m.ynd sizes in
       record {
-        nodes_hold = list_held 10 15 es _ _ _ _ t₀;
-        links_hold = list_held 11 16 es _ _ _ _ t₁;
-        junctions_hold = list_held 12 17 es _ _ _ _ t₂;
-        heights_hold = list_held 13 18 es _ _ _ _ t₃;
-        refs_hold = list_held 14 19 es _ _ _ _ t₄;
-      })
-      (λ f. absurd (let q : 5 ≤ 4 = rw (t₀, t₁, t₂, t₃, f) at h in omega arith)))
-      (λ f. absurd (let q : 5 ≤ 3 = rw (t₀, t₁, t₂, f) at h in omega arith)))
-      (λ f. absurd (let q : 5 ≤ 2 = rw (t₀, t₁, f) at h in omega arith)))
-      (λ f. absurd (let q : 5 ≤ 1 = rw (t₀, f) at h in omega arith)))
-      (λ f. absurd (let q : 5 ≤ 0 = rw f at h in omega arith))
+        nodes_hold = list_held 10 15 es _ _ _ _ (fit_true _ (passed a 0 j.all));
+        links_hold = list_held 11 16 es _ _ _ _ (fit_true _ (passed a 1 j.all));
+        junctions_hold = list_held 12 17 es _ _ _ _ (fit_true _ (passed a 2 j.all));
+        heights_hold = list_held 13 18 es _ _ _ _ (fit_true _ (passed a 3 j.all));
+        refs_hold = list_held 14 19 es _ _ _ _ (fit_true _ (passed a 4 j.all));
+      }
 
   long : {A : Type 0} (size n room have : ℕ) (new l : List A) → have ≡ length new
       → Fitting size es (length l) have n room → length (stored (total (words_at size es)) (take n new) l) ≡ length l
@@ -328,13 +330,13 @@ module _ (count : ℕ) (y : CellSet) (m : Memory) (sizes : PerList) (seven : len
   removed_last [] d = refl
   removed_last (x ∷ xs) d = ap {B = List Memory} (λ l. x ∷ l) (removed_last xs d)
 
-  leaves : leave_area z area ≡ set_left Done (length z.members - 1) (without z (length es))
+  leaves : leave_area z area ≡ set_left (Ok tt) (length z.members - 1) (without z (length es))
   unfolding leave_area leave_causes
   leaves = rw (found, may_be_used z z_usable) refl
 
   -- ---- handed back before it leaves
 
-  may_leave : decided (leave_causes z area) ≡ Done
+  may_leave : decided (leave_causes z area) ≡ (Ok tt)
   unfolding leave_causes
   may_leave = rw (found, may_be_used z z_usable) refl
 
@@ -342,16 +344,12 @@ module _ (count : ℕ) (y : CellSet) (m : Memory) (sizes : PerList) (seven : len
   unfolding leaver
   leaver_is = rw found it
 
-  hands : (lent : Memory) → lack_of_back m lent ≡ 5 → (hand_back z area lent).answer ≡ Done
+  hands : (lent : Memory) → lack_of_back m lent ≡ (Ok tt) → (hand_back z area lent).answer ≡ (Ok tt)
   unfolding hand_back hand_causes
   hands lent room =
-      let lack = lack_of_back (leaver z area) lent in
-      let last = when (ltb lack 5) 7 lack ∷ [] in
-      let enough : lack ≡ 5 = ap (λ (d : Memory). lack_of_back d lent) leaver_is ∙ room in
-      let asked : decided (leave_causes z area ++ last) ≡ Done =
-      decided_append (leave_causes z area) last ∙ ap (λ (a : Answer). unless a Refused (decided last)) may_leave
-      ∙ ap (λ (k : ℕ). decided (when (ltb k 5) 7 k ∷ [])) enough in
-      ap (λ (a : Answer). (unless-left a lent (done (copied (leaver z area) lent))).answer) asked
+      ap (λ (a : Answer). (unless-left a lent (done (copied (leaver z area) lent))).answer)
+      (ap (λ (a : Answer). handed_on a (lack_of_back (leaver z area) lent)) may_leave
+      ∙ ap (λ (d : Memory). lack_of_back d lent) leaver_is ∙ room)
 
   then_leave : JoinThenLeave count y m sizes
   then_leave = record {
@@ -382,7 +380,7 @@ unfolding new_root new_ynd root_of unknowns_of
 seven_words [] = refl
 seven_words (b ∷ bs) = refl
 
-pub seven_read : (s g : List ℕ) (m : Memory) → (read_of s g m).answer ≡ Done
+pub seven_read : (s g : List ℕ) (m : Memory) → (read_of s g m).answer ≡ (Ok tt)
     → length (read_of s g m).memory.ynd.unknowns ≡ 7
 unfolding filled cell_read
 seven_read s g m e = read_all (λ d. length d.ynd.unknowns ≡ 7) s g m (λ n l j h r held. seven_words s) e

@@ -8,9 +8,8 @@ use mathlib.Core.List.{List, [], ◌∷◌}
 use lib.Dec.{eqb, ltb}
 use lib.ListN.{length, get_or, set, length-set}
 use lib.Seq.{map-set_same, get_or-set_same, get_or-set_other}
-use borrow.Author.Tests.{eqb-true, eqb-false, ltb-false}
+use borrow.Author.Tests.{eqb-true, eqb-false}
 use Rattle.numbers.specs.Refusals.{decided}
-use Rattle.numbers.specs.declared.answer.Answer.TheVariants.{Done}
 use Rattle.numbers.proofs.Refusing.{passed}
 use Rattle.records.specs.Put.{put}
 use Rattle.records.proofs.Puts.{length_put}
@@ -23,12 +22,13 @@ use Rattle.sets.specs.Leave.{start_of}
 use Rattle.sets.specs.SetParts.{Holding, Holds, count_of}
 use Rattle.sets.specs.SetStored.{member_in, ask_causes, entry_with, with_member}
 use Rattle.sets.proofs.CellSetLaws.{members_many}
-use Rattle.sets.proofs.RoomLaws.{holds}
+use Rattle.sets.proofs.RoomLaws.{holds, tail_done}
 use Rattle.sets.proofs.CorrectLaws.{part_inside}
 use Rattle.sets.proofs.CrossingHeld.{holds_test}
 use Rattle.sets.proofs.MemberPartLaws.{member_fits, member_whole}
 use Rattle.sets.proofs.MemberStored.{FitsMember, member_stored}
 use Rattle.sets.proofs.MemberKept.{Stays, Ready}
+use Rattle.std.specs.Prelude.{Ok}
 
 -- ---- the causes of a set, and what their absence says
 
@@ -37,15 +37,11 @@ pub record Usable (y : CellSet) : Type 0 where
   pub within : over_set (members_of y) ≡ false
   pub whole : Holds y
 
-pub usable : (y : CellSet) → decided (set_causes y) ≡ Done → Usable y
+pub usable : (y : CellSet) → decided (set_causes y) ≡ (Ok tt) → Usable y
 unfolding set_causes
-usable y e = record {
-  within = passed (set_causes y) 0 e;
-  whole =
-      holds y (ltb-false (lack y) 5 (passed (set_causes y) 1 e));
-}
+usable y e = record { within = passed (set_causes y) 0 e; whole = holds y (tail_done _ (lack y) e) }
 
-pub lacks_nothing : (y : CellSet) → Holds y → lack y ≡ 5
+pub lacks_nothing : (y : CellSet) → Holds y → decided (lack y) ≡ (Ok tt)
 unfolding lack_of
 lacks_nothing y h =
     rw (
@@ -57,7 +53,7 @@ lacks_nothing y h =
     )
     refl
 
-pub may_be_used : (y : CellSet) → Usable y → decided (set_causes y) ≡ Done
+pub may_be_used : (y : CellSet) → Usable y → decided (set_causes y) ≡ (Ok tt)
 unfolding set_causes
 may_be_used y u = rw (u.within, lacks_nothing y u.whole) refl
 

@@ -9,9 +9,7 @@ use lib.Dec.{eqb}
 use lib.ListN.{length, get_or, set, take}
 use lib.Seq.{set-get_or}
 use borrow.Author.Tests.{eqb-true, eqb-false, eq-eqb, ne_eqb}
-use Rattle.numbers.specs.Refusals.{decided, unless}
-use Rattle.numbers.specs.declared.answer.Answer.{Answer}
-use Rattle.numbers.specs.declared.answer.Answer.TheVariants.{Done, Refused}
+use Rattle.numbers.specs.Refusals.{decided}
 use Rattle.cells.specs.Area.{belongs}
 use Rattle.cells.specs.Cell.{Cell}
 use Rattle.cells.specs.Memory.{Memory, memory, over_limit, short}
@@ -20,67 +18,68 @@ use Rattle.cells.specs.Read.{read_of}
 use Rattle.cells.specs.Renumber.{answer_of, left_by, renumber}
 use Rattle.cells.specs.Write.{write_call}
 use Rattle.cells.specs.WriteRead.{if_read, if_written, write_read_of}
-use Rattle.cells.specs.declared.write.Written.{Written}
-use Rattle.cells.specs.declared.write.Written.TheVariants as written
 use Rattle.cells.proofs.Sequences.Tests.{by_test, true_false}
 use Rattle.sets.specs.Members.{cell_at, area_of, areas, member_for}
-use Rattle.sets.specs.MemberList.{member_at, member_causes}
+use Rattle.sets.specs.MemberList.{member_at, member_causes, unless}
 use Rattle.sets.specs.SetRenumber.{Change, is_member, meant, change_of, correct_words, correct_memory, members_after, SetRenumbered, renumbered_in, not_renumbered, renumber_in, SetBoth, both_in, not_written, write_read_in}
 use Rattle.sets.proofs.SetLists.{over_same}
 use Rattle.sets.proofs.MemberLaws.{first_has, area_at}
+use Rattle.std.specs.Prelude.{Result, Ok, Err}
+use Rattle.numbers.specs.Refusals.{Answer}
+use Rattle.numbers.specs.declared.refusal.Refusal.{Refusal}
 
 -- ---- "A write refused in one member changes none", and so a renumbering
 
-pub written_refused : (m : Memory) (s : List ℕ) (x p : ℕ) → (write_read_of m s).answer ≡ written.Refused x p → ((write_read_of m s).memory ≡ m) × ((write_read_of m s).section ≡ s)
+pub written_refused : (m : Memory) (s : List ℕ) (x : Refusal) → (write_read_of m s).answer ≡ Err x → ((write_read_of m s).memory ≡ m) × ((write_read_of m s).section ≡ s)
 unfolding write_read_of
-written_refused m s x p e = go (write_call m s).answer e
+written_refused m s x e = go (write_call m s).answer e
   where
     t : List ℕ
     t = (write_call m s).section
 
-    reading : (n : ℕ) (c : Answer) → (if_read n t c (read_of (take n t) [] m).memory m s).answer ≡ written.Refused x p
+    reading : (n : ℕ) (c : Answer) → (if_read n t c (read_of (take n t) [] m).memory m s).answer ≡ Err x
         → ((if_read n t c (read_of (take n t) [] m).memory m s).memory ≡ m) × ((if_read n t c (read_of (take n t) [] m).memory m s).section ≡ s)
-    reading n (Refused y q) e = (refl, refl)
-    reading n Done e = let z : ◌≡◌ {A = ℕ} 0 1 = cc in absurd (omega arith)
+    reading n (Err y) e = (refl, refl)
+    reading n (Ok tt) e = let z : ◌≡◌ {A = ℕ} 0 1 = cc in absurd (omega arith)
 
-    go : (a : Written) → (if_written a t m s).answer ≡ written.Refused x p → ((if_written a t m s).memory ≡ m) × ((if_written a t m s).section ≡ s)
-    go (written.Refused y q) e = (refl, refl)
-    go (written.Wrote n) e = reading n (read_of (take n t) [] m).answer e
+    go : (a : Result ℕ Refusal) → (if_written a t m s).answer ≡ Err x → ((if_written a t m s).memory ≡ m) × ((if_written a t m s).section ≡ s)
+    go (Err y) e = (refl, refl)
+    go (Ok n) e = reading n (read_of (take n t) [] m).answer e
 
-pub write_refused : (ms : List Memory) (j : ℕ) (s : List ℕ) (x p : ℕ) → (write_read_in ms j s).answer ≡ written.Refused x p → ((write_read_in ms j s).members ≡ ms) × ((write_read_in ms j s).section ≡ s)
+pub write_refused : (ms : List Memory) (j : ℕ) (s : List ℕ) (x : Refusal) → (write_read_in ms j s).answer ≡ Err x → ((write_read_in ms j s).members ≡ ms) × ((write_read_in ms j s).section ≡ s)
 unfolding write_read_in
-write_refused ms j s x p e = go (decided (member_causes ms j)) e
+write_refused ms j s x e = go (decided (member_causes ms j)) e
   where
     left : Answer → SetBoth
     left a = unless a (not_written ms s) (both_in ms j (write_read_of (member_at ms j) s))
 
-    go : (a : Answer) → (left a).answer ≡ written.Refused x p → ((left a).members ≡ ms) × ((left a).section ≡ s)
-    go Done e = let r = written_refused (member_at ms j) s x p e in (ap (λ (m : Memory). set ms j m) r.0 ∙ set-get_or ms j _, r.1)
-    go (Refused y q) e = (refl, refl)
+    go : (a : Answer) → (left a).answer ≡ Err x → ((left a).members ≡ ms) × ((left a).section ≡ s)
+    go (Ok tt) e = let r = written_refused (member_at ms j) s x e in (ap (λ (m : Memory). set ms j m) r.0 ∙ set-get_or ms j _, r.1)
+    go (Err y) e = (refl, refl)
 
-pub places_stay : (m : Memory) (ps : List ℕ) (s x p : ℕ) → (renumber m s ps).answer ≡ Refused x p → (renumber m s ps).places ≡ ps
+pub places_stay : (m : Memory) (ps : List ℕ) (s : ℕ) (x : Refusal) → (renumber m s ps).answer ≡ Err x → (renumber m s ps).places ≡ ps
 unfolding renumber
-places_stay m ps s x p e = go (answer_of (over_limit m.ynd) m.ynd.node_count (short m) s (length ps)) e
+places_stay m ps s x e = go (answer_of (over_limit m.ynd) m.ynd.node_count (short m) s (length ps)) e
   where
-    go : (a : Answer) → (left_by a m ps).answer ≡ Refused x p → (left_by a m ps).places ≡ ps
-    go Done e = let z : ◌≡◌ {A = ℕ} 0 1 = cc in absurd (omega arith)
-    go (Refused y q) e = refl
+    go : (a : Answer) → (left_by a m ps).answer ≡ Err x → (left_by a m ps).places ≡ ps
+    go (Ok tt) e = let z : ◌≡◌ {A = ℕ} 0 1 = cc in absurd (omega arith)
+    go (Err y) e = refl
 
-pub renumbering_refused : (ms : List Memory) (j s : ℕ) (ps : List ℕ) (x p : ℕ) → (renumber_in ms j s ps).answer ≡ Refused x p
+pub renumbering_refused : (ms : List Memory) (j s : ℕ) (ps : List ℕ) (x : Refusal) → (renumber_in ms j s ps).answer ≡ Err x
     → ((renumber_in ms j s ps).members ≡ ms) × ((renumber_in ms j s ps).places ≡ ps)
 unfolding renumber_in
-renumbering_refused ms j s ps x p e = go (decided (member_causes ms j)) e
+renumbering_refused ms j s ps x e = go (decided (member_causes ms j)) e
   where
     left : Answer → SetRenumbered
     left a = unless a (not_renumbered ms ps) (renumbered_in ms j (renumber (member_at ms j) s ps))
 
-    called : (a : Answer) (m : Memory) → a ≡ Refused x p → members_after a ms j m ≡ ms
-    called Done m e = let z : ◌≡◌ {A = ℕ} 0 1 = cc in absurd (omega arith)
-    called (Refused y q) m e = refl
+    called : (a : Answer) (m : Memory) → a ≡ Err x → members_after a ms j m ≡ ms
+    called (Ok tt) m e = let z : ◌≡◌ {A = ℕ} 0 1 = cc in absurd (omega arith)
+    called (Err y) m e = refl
 
-    go : (a : Answer) → (left a).answer ≡ Refused x p → ((left a).members ≡ ms) × ((left a).places ≡ ps)
-    go Done e = (called (renumber (member_at ms j) s ps).answer (renumber (member_at ms j) s ps).memory e, places_stay (member_at ms j) ps s x p e)
-    go (Refused y q) e = (refl, refl)
+    go : (a : Answer) → (left a).answer ≡ Err x → ((left a).members ≡ ms) × ((left a).places ≡ ps)
+    go (Ok tt) e = (called (renumber (member_at ms j) s ps).answer (renumber (member_at ms j) s ps).memory e, places_stay (member_at ms j) ps s x e)
+    go (Err y) e = (refl, refl)
 
 -- ---- "Where edits gave two members one area, the one that joined first is meant by links .., and renumbering the other
 -- corrects no links outside it"

@@ -9,12 +9,9 @@ use lib.Dec.{ltb}
 use lib.ListN.{length, take, drop, length-append, length-drop}
 use lib.Seq.{length-take-le}
 use borrow.Author.Tests.{ltb-true, ltb-false, le-ltb}
-use Rattle.numbers.specs.Refusals.{unless}
-use Rattle.numbers.specs.declared.answer.Answer.{Answer}
-use Rattle.numbers.specs.declared.answer.Answer.TheVariants.{Done, Refused}
 use Rattle.cells.specs.Memory.{Memory, over_limit}
 use Rattle.cells.proofs.Sequences.Tests.{by_test, true_false}
-use Rattle.sets.specs.MemberList.{nodes_together, any_over, over_set}
+use Rattle.sets.specs.MemberList.{nodes_together, any_over, over_set, unless}
 use Rattle.sets.specs.CellSet.{CellSet, cell_set, words_at, total, members_of}
 use Rattle.sets.specs.Leave.{SetLeft, set_left, closed, start_of, removed, without, used, first_of_area, left_by}
 use Rattle.sets.specs.Leave.{leave_area}
@@ -27,6 +24,8 @@ use Rattle.sets.proofs.LeaveLaws.{asked_of}
 use Rattle.sets.proofs.MembersLeft.{removed_below, removed_above, removed_length, entries_left, words_removed}
 use Rattle.sets.proofs.MembersLeft.{leave_done, there}
 use Rattle.sets.proofs.SetKept.{Usable, usable, may_be_used}
+use Rattle.std.specs.Prelude.{Ok, Err}
+use Rattle.numbers.specs.Refusals.{Answer}
 
 -- ---- limits
 
@@ -115,18 +114,18 @@ module _ (ws : List (List ℕ)) (j : ℕ) (lt : j < length ws) where
 
 -- ---- the call
 
-module _ (y : CellSet) (area j : ℕ) (f : first_of_area y area ≡ some j) (e : (leave_area y area).answer ≡ Done) where
+module _ (y : CellSet) (area j : ℕ) (f : first_of_area y area ≡ some j) (e : (leave_area y area).answer ≡ (Ok tt)) where
   abbrev after : Answer → SetLeft
-  after a = unless a (λ cause place. set_left (Refused cause place) (length y.members) y) (left_by (some j) y)
+  after a = unless a (λ cause. set_left (Err cause) (length y.members) y) (left_by (some j) y)
 
-  accepted : lists_of y ≡ Done
+  accepted : lists_of y ≡ (Ok tt)
   accepted = go (lists_of y) (ap (λ (r : SetLeft). r.answer) (sym (asked_of y area j f)) ∙ e)
     where
-      go : (a : Answer) → (after a).answer ≡ Done → a ≡ Done
-      go Done t = refl
-      go (Refused x p) t = t
+      go : (a : Answer) → (after a).answer ≡ (Ok tt) → a ≡ (Ok tt)
+      go (Ok tt) t = refl
+      go (Err x) t = t
 
-  leaves : leave_area y area ≡ set_left Done (length y.members - 1) (without y j)
+  leaves : leave_area y area ≡ set_left (Ok tt) (length y.members - 1) (without y j)
   leaves = asked_of y area j f ∙ ap after accepted
 
   u : Usable y

@@ -3,7 +3,8 @@ use Prim.Native.Nat.{ℕ, zero, suc, ◌+◌, ◌<◌}
 use native.Mathlib.Omega.{arith}
 use native.Mathlib.Nat.{add-zero, suc-add, add-suc}
 use mathlib.Core.Path.{◌≡◌, refl, ap, ◌∙◌}
-use mathlib.Core.Bool.{Bool, true}
+use mathlib.Core.Bool.{Bool, true, ◌&&◌}
+use Rattle.std.specs.List.{list_all}
 use mathlib.Core.List.{List, [], ◌∷◌, map}
 use lib.ListN.{length, get_or, set, take}
 use Rattle.cells.specs.Lists.{every}
@@ -17,6 +18,11 @@ module _ {A : Type 0} where
   unfolding every
   every_all f [] d h = refl
   every_all f (x ∷ xs) d h = cc (h 0 (omega arith), every_all f xs d (λ i lt. h (suc i) (omega arith)))
+
+  pub all_every : (f : A → Bool) (l : List A) → list_all f l ≡ every f l
+  unfolding every
+  all_every f [] = refl
+  all_every f (x ∷ xs) = ap (λ (b : Bool). f x && b) (all_every f xs)
 
   pub from_at : (f : ℕ → A → Bool) (k : ℕ) (l : List A) (i : ℕ) (d : A) → every_from f k l ≡ true → i < length l → f (k + i) (get_or l i d) ≡ true
   unfolding every_from

@@ -7,7 +7,6 @@ use lib.Seq.{map-set_same}
 use borrow.Author.Tests.{leb-false}
 use Rattle.numbers.specs.Refusals.{decided}
 use Rattle.numbers.proofs.Refusing.{passed}
-use Rattle.numbers.specs.declared.answer.Answer.TheVariants.{Done}
 use Rattle.cells.specs.NodeWords.{link_start, link_count}
 use Rattle.cells.specs.Memory.{Memory}
 use Rattle.cells.specs.Cell.{Link, Cell, renumber_cell}
@@ -19,6 +18,7 @@ use Rattle.sets.specs.Members.{no_cell, cell_at, map_from}
 use Rattle.sets.specs.MemberList.{no_memory, member_at, cells_of, member_causes}
 use Rattle.sets.specs.SetRenumber.{Change, meant, corrected, correct_link, correct_node, correct_cell, change_of, renumber_cells, correct_words, correct_memory, members_after}
 use Rattle.sets.proofs.SetLists.{front_over, map_set, map_from_law}
+use Rattle.std.specs.Prelude.{Ok}
 
 module _ (x : Change) (i : ℕ) where
   link_new : (w : List ℕ) → link_of (correct_words x i w) ≡ correct_link x i (link_of w)
@@ -56,7 +56,7 @@ module _ (x : Change) (i : ℕ) where
       }
 
 -- a call that passed 13 is on a member
-pub member_there : (ms : List Memory) (j : ℕ) → decided (member_causes ms j) ≡ Done → j < length ms
+pub member_there : (ms : List Memory) (j : ℕ) → decided (member_causes ms j) ≡ (Ok tt) → j < length ms
 unfolding member_causes
 member_there ms j e = leb-false (length ms) j (passed (member_causes ms j) 0 e)
 
@@ -72,8 +72,8 @@ pub cells_stay : (ms : List Memory) (j : ℕ) (m : Memory) → cell_of m ≡ cel
 cells_stay ms j m e = map-set_same cell_of ms j m no_memory e
 
 -- an accepted renumbering
-pub cells_renumbered : (ms : List Memory) (j s : ℕ) (ps : List ℕ) → (renumber (member_at ms j) s ps).answer ≡ Done
-    → cells_of (members_after Done ms j (renumber (member_at ms j) s ps).memory) ≡ renumber_cells (cells_of ms) j
+pub cells_renumbered : (ms : List Memory) (j s : ℕ) (ps : List ℕ) → (renumber (member_at ms j) s ps).answer ≡ (Ok tt)
+    → cells_of (members_after (Ok tt) ms j (renumber (member_at ms j) s ps).memory) ≡ renumber_cells (cells_of ms) j
 unfolding renumber_cells
 cells_renumbered ms j s ps e =
     let x = change_of (cells_of ms) j in

@@ -6,7 +6,6 @@ use mathlib.Core.Bool.{true}
 use mathlib.Core.List.{List, [], ◌∷◌, ◌++◌}
 use lib.IntN.{pos}
 use lib.ListN.{length}
-use Rattle.numbers.specs.declared.answer.Answer.TheVariants.{Done}
 use Rattle.records.specs.Bytes.{number_at, number_bytes, bits16}
 use Rattle.records.specs.Sections.{located, extent, bytes_of}
 use Rattle.records.specs.Root.{unknowns_of, root_of, root_bytes}
@@ -27,6 +26,7 @@ use Rattle.sets.specs.MemberList.{member_at, cells_of}
 use Rattle.sets.specs.SetCalls.{SetCall}
 use Rattle.sets.specs.SetClaim.{CellAsRead, SetUnnoticed}
 use Rattle.sets.proofs.SetDemand.{set_unnoticed, as_read}
+use Rattle.std.specs.Prelude.{Ok}
 
 -- a root with two nodes and two links behind it, and no other array
 abbrev root : List ℕ
@@ -82,11 +82,11 @@ room =
     (record { vft = 0; vehicle_node_count = 0; ped_node_count = 0; unknowns = []; node_count = 0; link_count = 0; junction_count = 0; heightmap_count = 0; ref_count = 0 })
     ([] ∷ [] ∷ []) ([] ∷ [] ∷ []) [] [] []
 
-pub reads_5 : (read_of (file_of 5 6) [] room).answer ≡ Done
+pub reads_5 : (read_of (file_of 5 6) [] room).answer ≡ (Ok tt)
 unfolding file_of room root_bytes node_bytes link_bytes number_bytes bits16 read_of sizes_check arrays_found located root_of unknowns_of number_at bytes_of extent read_arrays arrays_check scan node_at junction_at sum_to room_check
 reads_5 = refl
 
-pub reads_6 : (read_of (file_of 6 5) [] room).answer ≡ Done
+pub reads_6 : (read_of (file_of 6 5) [] room).answer ≡ (Ok tt)
 unfolding file_of room root_bytes node_bytes link_bytes number_bytes bits16 read_of sizes_check arrays_found located root_of unknowns_of number_at bytes_of extent read_arrays arrays_check scan node_at junction_at sum_to room_check
 reads_6 = refl
 

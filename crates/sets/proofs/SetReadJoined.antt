@@ -4,7 +4,6 @@ use native.Mathlib.Omega.{arith}
 use mathlib.Core.Path.{◌≡◌, refl, ap, sym, ◌∙◌, subst}
 use mathlib.Core.List.{List, [], ◌∷◌, ◌++◌}
 use lib.ListN.{length}
-use Rattle.numbers.specs.declared.answer.Answer.TheVariants.{Done}
 use Rattle.records.specs.Bytes.{number_at, number_bytes, bits16}
 use Rattle.records.specs.Sections.{located, extent, bytes_of}
 use Rattle.records.specs.Root.{unknowns_of, root_of, root_bytes}
@@ -24,7 +23,7 @@ use Rattle.sets.specs.MemberList.{cells_of, nodes_together, any_over, over_set}
 use Rattle.sets.specs.SetCalls.{SetCall}
 use Rattle.sets.specs.CellSet.{CellSet, cell_set, ynd_of, words_at, total, parts_of, parts_in, members_of, holds_list}
 use Rattle.sets.specs.Leave.{used, first_of_area}
-use Rattle.sets.specs.Join.{per_list, stored, part_fits, lack_later, lack_for, join_causes, with_cell, join_cell}
+use Rattle.sets.specs.Join.{per_list, stored, part_fits, lack_for, join_causes, with_cell, join_cell}
 use Rattle.sets.specs.SetStored.{member_in}
 use Rattle.sets.specs.SetClaim.{CellAsRead}
 use Rattle.sets.specs.SetCallsClaim.{cells_in, CallsUnnoticed}
@@ -34,6 +33,7 @@ use Rattle.sets.proofs.SetDemand.{as_read}
 use Rattle.sets.proofs.SetRead.{file_of, room, reads_5, reads_6, members, members_sound}
 use Rattle.sets.proofs.SetJoined.{join_stores, seven_read}
 use Rattle.sets.proofs.SetCallsUnnoticed.{calls_unnoticed}
+use Rattle.std.specs.Prelude.{Ok}
 
 -- six lists with room for two members of two nodes and two links
 abbrev empty : CellSet
@@ -48,11 +48,11 @@ five = (read_of (file_of 5 6) [] room).memory
 abbrev six : Memory
 six = (read_of (file_of 6 5) [] room).memory
 
-first_joins : (join_cell 0 empty five two).answer ≡ Done
+first_joins : (join_cell 0 empty five two).answer ≡ (Ok tt)
 unfolding file_of room root_bytes node_bytes link_bytes number_bytes bits16 read_of sizes_check arrays_found located root_of
     unknowns_of number_at bytes_of extent read_arrays arrays_check scan node_at link_at junction_at sum_to up_to join_to
     room_check filled cell_read node_in links_in links_from link_words path_link path_node node_words join_cell join_causes
-    lack_for lack_later part_fits first_of_area members_of map_from parts_in parts_of words_at total ynd_of over_set
+    lack_for part_fits first_of_area members_of map_from parts_in parts_of words_at total ynd_of over_set
     nodes_together any_over over_limit holds_list every cell_of nodes_of junctions_of refs_of first_with area_of number_of
     body_of
 first_joins = refl
@@ -60,11 +60,11 @@ first_joins = refl
 abbrev one_set : CellSet
 one_set = (join_cell 0 empty five two).lists
 
-second_joins : (join_cell 1 one_set six two).answer ≡ Done
+second_joins : (join_cell 1 one_set six two).answer ≡ (Ok tt)
 unfolding file_of room root_bytes node_bytes link_bytes number_bytes bits16 read_of sizes_check arrays_found located root_of
     unknowns_of number_at bytes_of extent read_arrays arrays_check scan node_at link_at junction_at sum_to up_to join_to
     room_check filled cell_read node_in links_in links_from link_words path_link path_node node_words join_cell join_causes
-    with_cell stored lack_for lack_later part_fits first_of_area members_of map_from parts_in parts_of words_at total ynd_of
+    with_cell stored lack_for part_fits first_of_area members_of map_from parts_in parts_of words_at total ynd_of
     over_set nodes_together any_over over_limit holds_list every cell_of nodes_of junctions_of refs_of first_with area_of
     number_of body_of
 second_joins = refl

@@ -6,9 +6,7 @@ use mathlib.Core.List.{List, [], ◌∷◌}
 use lib.Dec.{eqb}
 use lib.ListN.{length, length-map}
 use borrow.Author.Tests.{eqb-true}
-use Rattle.numbers.specs.Refusals.{decided, unless}
-use Rattle.numbers.specs.declared.answer.Answer.{Answer}
-use Rattle.numbers.specs.declared.answer.Answer.TheVariants.{Done, Refused}
+use Rattle.numbers.specs.Refusals.{decided}
 use Rattle.cells.specs.Lists.{every}
 use Rattle.cells.specs.Cell.{Cell}
 use Rattle.cells.specs.Memory.{Memory}
@@ -25,13 +23,15 @@ use Rattle.walks.proofs.CallLists.{move_id, move_move}
 use Rattle.sets.specs.Members.{no_cell, cell_at}
 use Rattle.sets.specs.Crossing.{Location, crossing}
 use Rattle.sets.specs.SetSound.{set_sound}
-use Rattle.sets.specs.MemberList.{member_at, cells_of, member_causes}
+use Rattle.sets.specs.MemberList.{member_at, cells_of, member_causes, unless}
 use Rattle.sets.specs.SetRenumber.{renumber_cells, members_after, SetRenumbered, renumbered_in, not_renumbered, renumber_in, both_in, not_written, write_read_in}
 use Rattle.sets.specs.SetCalls.{SetCall, after_in, run_in, renumbers_in, moves_to, moved_in, any_renumbers_in}
 use Rattle.sets.specs.SetClaim.{Stands}
 use Rattle.sets.proofs.RenumberedSet.{Numbered, same_length, same_nodes, crossing_same, stands_on, set_sound_law, numbered_own, numbered_all}
 use Rattle.sets.proofs.KeptSet.{set_kept}
 use Rattle.sets.proofs.SetMemory.{member_there, cell_at_law, cells_stay, cells_renumbered}
+use Rattle.std.specs.Prelude.{Ok, Err}
+use Rattle.numbers.specs.Refusals.{Answer}
 
 -- ---- sets that are alike
 
@@ -104,23 +104,23 @@ step ms k h = go k.call
       where
         asked : (a : Answer) → decided (member_causes ms j) ≡ a
             → At ms (unless a (not_written ms b) (both_in ms j (write_read_of (member_at ms j) b))).members j false
-        asked Done e = stays (cells_of ms) _ j h (cells_stay ms j (write_read_of (member_at ms j) b).memory (write_read_same (member_at ms j) b (member_kept ms j h (member_there ms j e))))
-        asked (Refused x p) e = stays (cells_of ms) _ j h refl
+        asked (Ok tt) e = stays (cells_of ms) _ j h (cells_stay ms j (write_read_of (member_at ms j) b).memory (write_read_same (member_at ms j) b (member_kept ms j h (member_there ms j e))))
+        asked (Err x) e = stays (cells_of ms) _ j h refl
     go (renumbering s ps) = asked (decided (member_causes ms j)) refl
       where
         called : j < length ms → (a : Answer) → (renumber (member_at ms j) (length s) ps).answer ≡ a
             → At ms (members_after a ms j (renumber (member_at ms j) (length s) ps).memory) j (is_done a)
-        called lj Done e =
+        called lj (Ok tt) e =
             rw (cells_renumbered ms j (length s) ps e)
             (renumbered (cells_of ms) j (rw length-map lj) (rw (cell_at_law ms j) (done_few (member_at ms j) ps (length s) e)) h)
-        called lj (Refused x p) e = stays (cells_of ms) _ j h refl
+        called lj (Err x) e = stays (cells_of ms) _ j h refl
 
         after : (a : Answer) → SetRenumbered
         after a = unless a (not_renumbered ms ps) (renumbered_in ms j (renumber (member_at ms j) (length s) ps))
 
         asked : (a : Answer) → decided (member_causes ms j) ≡ a → At ms (after a).members j (is_done (after a).answer)
-        asked Done e = called (member_there ms j e) (renumber (member_at ms j) (length s) ps).answer refl
-        asked (Refused x p) e = stays (cells_of ms) _ j h refl
+        asked (Ok tt) e = called (member_there ms j e) (renumber (member_at ms j) (length s) ps).answer refl
+        asked (Err x) e = stays (cells_of ms) _ j h refl
 
 -- ---- lists of calls
 

@@ -5,48 +5,47 @@ use mathlib.Core.Path.{◌≡◌, refl}
 use mathlib.Core.Bool.{Bool, true, false}
 use mathlib.Core.List.{List, [], ◌∷◌}
 use lib.ListN.{length}
-use Rattle.numbers.specs.Refusals.{decided, unless}
-use Rattle.numbers.specs.declared.answer.Answer.{Answer}
-use Rattle.numbers.specs.declared.answer.Answer.TheVariants as answer
+use Rattle.numbers.specs.Refusals.{decided}
 use Rattle.cells.specs.Lists.{every}
 use Rattle.cells.specs.Area.{belongs}
 use Rattle.cells.specs.Cell.{Link, Node, Cell}
 use Rattle.cells.proofs.Sequences.Tests.{by_test, and_right, every_imp}
 use Rattle.walks.specs.Sound.{link_named, node_sound, sound}
 use Rattle.walks.specs.SoundCall.{verdict, sound_left}
-use Rattle.walks.specs.declared.sound.Soundness.TheVariants.{Sound, Unsound, Refused}
 use Rattle.walks.proofs.NewSound.{sound_parts}
 use Rattle.sets.specs.Members.{area_of, member_for, every_from}
-use Rattle.sets.specs.MemberList.{cells_of}
+use Rattle.sets.specs.MemberList.{cells_of, unless}
 use Rattle.sets.specs.SetSound.{link_arrives, node_arrives, member_arrives, set_sound}
 use Rattle.sets.specs.CellSet.{CellSet, members_of}
 use Rattle.sets.specs.SetSoundCall.{indexed_set, sound_causes, set_sound_call}
 use Rattle.sets.proofs.OneMember.{none_named}
+use Rattle.std.specs.Prelude.{Ok, Err}
+use Rattle.numbers.specs.Refusals.{Answer}
 
 module _ (y : CellSet) (scratch : List ℕ) where
   abbrev holds : Bool
   holds = set_sound (cells_of (members_of y))
 
   said_yes : (b : Bool) (a : Answer)
-      → (unless a (λ cause place. sound_left (Refused cause place) scratch)
-      (sound_left (verdict b) (indexed_set (cells_of (members_of y)) scratch))).answer ≡ Sound → b ≡ true
+      → (unless a (λ cause. sound_left (Err cause) scratch)
+      (sound_left (verdict b) (indexed_set (cells_of (members_of y)) scratch))).answer ≡ (Ok true) → b ≡ true
   said_yes true a e = refl
-  said_yes false answer.Done e = let z : ◌≡◌ {A = ℕ} 0 1 = cc in absurd (omega arith)
-  said_yes false (answer.Refused x p) e = let z : ◌≡◌ {A = ℕ} 0 1 = cc in absurd (omega arith)
+  said_yes false (Ok tt) e = let z : ◌≡◌ {A = ℕ} 0 1 = cc in absurd (omega arith)
+  said_yes false (Err x) e = let z : ◌≡◌ {A = ℕ} 0 1 = cc in absurd (omega arith)
 
   said_no : (b : Bool) (a : Answer)
-      → (unless a (λ cause place. sound_left (Refused cause place) scratch)
-      (sound_left (verdict b) (indexed_set (cells_of (members_of y)) scratch))).answer ≡ Unsound → b ≡ false
+      → (unless a (λ cause. sound_left (Err cause) scratch)
+      (sound_left (verdict b) (indexed_set (cells_of (members_of y)) scratch))).answer ≡ (Ok false) → b ≡ false
   said_no false a e = refl
-  said_no true answer.Done e = let z : ◌≡◌ {A = ℕ} 0 1 = cc in absurd (omega arith)
-  said_no true (answer.Refused x p) e = let z : ◌≡◌ {A = ℕ} 0 1 = cc in absurd (omega arith)
+  said_no true (Ok tt) e = let z : ◌≡◌ {A = ℕ} 0 1 = cc in absurd (omega arith)
+  said_no true (Err x) e = let z : ◌≡◌ {A = ℕ} 0 1 = cc in absurd (omega arith)
 
   -- a yes means that the set is sound, and a no that it is not
-  pub set_says_yes : (set_sound_call y scratch).answer ≡ Sound → holds ≡ true
+  pub set_says_yes : (set_sound_call y scratch).answer ≡ (Ok true) → holds ≡ true
   unfolding set_sound_call
   set_says_yes = said_yes holds (decided (sound_causes y (length scratch)))
 
-  pub set_says_no : (set_sound_call y scratch).answer ≡ Unsound → holds ≡ false
+  pub set_says_no : (set_sound_call y scratch).answer ≡ (Ok false) → holds ≡ false
   unfolding set_sound_call
   set_says_no = said_no holds (decided (sound_causes y (length scratch)))
 

@@ -7,10 +7,8 @@ use mathlib.Core.Bool.{Bool, true, false, not, ◌&&◌, ◌||◌}
 use mathlib.Core.List.{List, [], map}
 use lib.ListN.{length, get_or, take, drop, length-map, length-drop}
 use borrow.Author.Tests.{ltb-false}
-use Rattle.numbers.specs.Refusals.{Cause, decided, unless}
-use Rattle.numbers.proofs.Refusing.{passed}
-use Rattle.numbers.specs.declared.answer.Answer.{Answer}
-use Rattle.numbers.specs.declared.answer.Answer.TheVariants as answer
+use Rattle.numbers.specs.Refusals.{Cause, decided}
+use Rattle.numbers.proofs.Refusing.{not_refused, passed}
 use Rattle.cells.specs.Lists.{every}
 use Rattle.cells.specs.Memory.{Memory, memory}
 use Rattle.cells.specs.Cell.{Cell, numbers}
@@ -24,19 +22,17 @@ use Rattle.cells.proofs.Sequences.Tests.{true_false, map_take, map_drop}
 use Rattle.walks.specs.Sound.{differing, node_sound, ref_named, is_empty, sound}
 use Rattle.walks.specs.SoundCall.{verdict, indexed, SoundLeft, sound_left, sound_call}
 use Rattle.walks.specs.SoundParts.{Ready}
-use Rattle.walks.specs.declared.sound.Soundness.{Soundness}
-use Rattle.walks.specs.declared.sound.Soundness.TheVariants.{Sound, Unsound, Refused}
 use Rattle.walks.proofs.Ranges.{every_mapped}
 use Rattle.walks.proofs.SoundWords.{numbers_same}
 use Rattle.walks.proofs.SoundCases.{says}
 use Rattle.sets.specs.Members.{cell_at, areas, member_for}
-use Rattle.sets.specs.MemberList.{over_set}
+use Rattle.sets.specs.MemberList.{over_set, unless}
 use Rattle.sets.specs.SetRenumber.{is_member}
 use Rattle.sets.specs.SetSound.{set_sound}
 use Rattle.sets.specs.CellSet.{CellSet, ynd_of, members_of, holds_list}
 use Rattle.sets.specs.Leave.{start_of}
 use Rattle.sets.specs.SetSoundCall.{indexed_set, sound_causes, set_sound_call}
-use Rattle.sets.specs.SetParts.{count_of, bare, areas_of}
+use Rattle.sets.specs.SetParts.{Holding, count_of, bare, areas_of}
 use Rattle.sets.specs.CrossParts.{Lent}
 use Rattle.sets.specs.SetSoundParts.{all_below, link_meets, node_meets, member_meets, judged_at, word_meets, words_meet}
 use Rattle.sets.specs.SetSoundParts.{numbers_of, part_meets, SetHeld, indexed_to, entries_causes, cells_in}
@@ -48,6 +44,9 @@ use Rattle.sets.proofs.MemberCells.{numbers_at, nodes_at, refs_at}
 use Rattle.sets.proofs.CrossCases.{each_within}
 use Rattle.sets.proofs.SetJudged.{set_judged}
 use Rattle.sets.proofs.SetScratch.{indexed_leads, indexed_long, indexed_set_law}
+use Rattle.std.specs.Prelude.{Result, Ok, Err}
+use Rattle.numbers.specs.Refusals.{Answer}
+use Rattle.numbers.specs.declared.refusal.Refusal.{Refusal}
 
 -- ---- one member's soundness
 
@@ -57,29 +56,16 @@ unfolding sound
 sound_same c d en er = λ i. is_empty (en i) ||
     (every (node_sound (en i)) (en i) && differing (numbers (en i)) && every (ref_named (en i)) (er i))
 
--- answers differ
-sound_unsound : {P : Type 0} → Sound ≡ Unsound → P
-sound_unsound e = let z : ◌≡◌ {A = ℕ} 0 1 = cc in absurd (omega arith)
+abbrev value : Result Bool Refusal → Bool
+value (Ok v) = v
+value (Err x) = false
 
-refused_said : {P : Type 0} (b : Bool) (x p : ℕ) → Refused x p ≡ verdict b → P
-refused_said true x p e = let z : ◌≡◌ {A = ℕ} 0 1 = cc in absurd (omega arith)
-refused_said false x p e = let z : ◌≡◌ {A = ℕ} 0 1 = cc in absurd (omega arith)
+pub said : (a b : Bool) (s t : List ℕ) → sound_left (Ok a) s ≡ sound_left (verdict b) t → (a ≡ b) × (s ≡ t)
+said a b s t e = (ap (λ (l : SoundLeft). value l.answer) e, ap (λ (l : SoundLeft). l.scratch) e)
 
-answer_of_law : (a b : Soundness) (s t : List ℕ) → sound_left a s ≡ sound_left b t → a ≡ b
-answer_of_law a b s t e = ap (λ (l : SoundLeft). l.answer) e
-
-pub said_sound : (b : Bool) (s t : List ℕ) → sound_left Sound s ≡ sound_left (verdict b) t → (true ≡ b) × (s ≡ t)
-said_sound true s t e = (refl, ap (λ (l : SoundLeft). l.scratch) e)
-said_sound false s t e = sound_unsound (answer_of_law Sound Unsound s t e)
-
-pub said_unsound : (b : Bool) (s t : List ℕ) → sound_left Unsound s ≡ sound_left (verdict b) t
-    → (false ≡ b) × (s ≡ t)
-said_unsound true s t e = sound_unsound (sym (answer_of_law Unsound Sound s t e))
-said_unsound false s t e = (refl, ap (λ (l : SoundLeft). l.scratch) e)
-
-pub never_refused : {P : Type 0} (b : Bool) (s t : List ℕ) (x p : ℕ)
-    → sound_left (Refused x p) s ≡ sound_left (verdict b) t → P
-never_refused b s t x p e = refused_said b x p (answer_of_law (Refused x p) (verdict b) s t e)
+pub never_refused : {P : Type 0} (b : Bool) (s t : List ℕ) (x : Refusal)
+    → sound_left (Err x) s ≡ sound_left (verdict b) t → P
+never_refused b s t x e = not_refused (ap (λ (l : SoundLeft). l.answer) e)
 
 module _ (y : CellSet) (h : SetHeld y.members y.nodes y.links y.refs) (k : ℕ) (lt : k < length y.members) where
   abbrev ws : List (List ℕ)
@@ -200,9 +186,6 @@ module _ (y : CellSet) (h : SetHeld y.members y.nodes y.links y.refs) where
   cells_many : length (cells_in y) ≡ length y.members
   cells_many = length-map (members_of y) cell_of ∙ members_many y
 
-  pub lent_of : (all : List ℕ) → all ≡ areas_of y.members y.nodes → Lent all y.members y.nodes
-  lent_of all e = record { few = h.few; within = h.within; nodes_hold = h.nodes_hold; areas_are = e }
-
   parts_same : (all : List ℕ) → all ≡ areas_of y.members y.nodes → (k : ℕ) → k < length y.members → (n : ℕ)
       → n ≤ length y.members
       → all_below (part_meets all y.members y.nodes y.links k) n ≡ all_below (member_meets (cells_in y) k) n
@@ -243,9 +226,20 @@ pub next_judged : (f : ℕ → Bool) (k : ℕ) (good b c : Bool) → c ≡ (good
 unfolding all_below
 next_judged f k good b c e eg eb = e ∙ (λ i. eg i && eb i) ∙ ap (all_below f) (sym (add-one k))
 
+-- lists that hold the members, as a set that links lead through has them
+pub held_in : (all : List ℕ) (ws nodes links refs : List (List ℕ)) → Lent all ws nodes
+    → Holding 11 16 ws (length links) → Holding 14 19 ws (length refs) → SetHeld ws nodes links refs
+held_in _ _ _ _ _ h hl hr = record {
+  few = h.few;
+  within = h.within;
+  nodes_hold = h.nodes_hold;
+  links_hold = hl;
+  refs_hold = hr;
+}
+
 -- ---- the call
 
-module _ (ws nodes links refs : List (List ℕ)) (room : ℕ) (done : answer.Done
+module _ (ws nodes links refs : List (List ℕ)) (room : ℕ) (done : (Ok tt)
     ≡ decided (entries_causes ws (length nodes) (length links) (length refs) room)) where
   abbrev causes : List Cause
   causes = entries_causes ws (length nodes) (length links) (length refs) room
@@ -283,21 +277,20 @@ module _ (y : CellSet) (s : List ℕ) where
   unfolding sound_causes entries_causes
   causes_are = rw (members_over y) refl
 
-  by_start : set_sound_call y s ≡ unless start (λ cause place. sound_left (Refused cause place) s)
+  by_start : set_sound_call y s ≡ unless start (λ cause. sound_left (Err cause) s)
       (sound_left (verdict (set_sound (cells_in y))) (indexed_set (cells_in y) s))
   unfolding set_sound_call
-  by_start = ap (λ (a : Answer). unless a (λ cause place. sound_left (Refused cause place) s)
+  by_start = ap (λ (a : Answer). unless a (λ cause. sound_left (Err cause) s)
       (sound_left (verdict (set_sound (cells_in y))) (indexed_set (cells_in y) s))) causes_are
 
-  pub call_refused : (x p : ℕ) → answer.Refused x p ≡ start → sound_left (Refused x p) s ≡ set_sound_call y s
-  call_refused x p e = sym (by_start ∙ ap
-      (λ (a : Answer). unless a (λ cause place. sound_left (Refused cause place) s)
+  pub call_refused : (x : Refusal) → Err x ≡ start → sound_left (Err x) s ≡ set_sound_call y s
+  call_refused x e = sym (by_start ∙ ap
+      (λ (a : Answer). unless a (λ cause. sound_left (Err cause) s)
       (sound_left (verdict (set_sound (cells_in y))) (indexed_set (cells_in y) s))) (sym e))
 
-  pub call_judged : answer.Done ≡ start → (a : Soundness) (v : Bool) (now : List ℕ) → a ≡ verdict v
-      → v ≡ set_sound (cells_in y) → now ≡ indexed_set (cells_in y) s
-      → sound_left a now ≡ set_sound_call y s
-  call_judged e a v now ea ev en =
-      (λ i. sound_left ((ea ∙ ap verdict ev) i) (en i))
-      ∙ sym (by_start ∙ ap (λ (a : Answer). unless a (λ cause place. sound_left (Refused cause place) s)
+  pub call_judged : (Ok tt) ≡ start → (v : Bool) (now : List ℕ) → v ≡ set_sound (cells_in y) → now ≡ indexed_set (cells_in y) s
+      → sound_left (Ok v) now ≡ set_sound_call y s
+  call_judged e v now ev en =
+      (λ i. sound_left (Ok (ev i)) (en i))
+      ∙ sym (by_start ∙ ap (λ (a : Answer). unless a (λ cause. sound_left (Err cause) s)
       (sound_left (verdict (set_sound (cells_in y))) (indexed_set (cells_in y) s))) (sym e))

@@ -3,17 +3,14 @@ use Prim.Native.Nat.{ℕ}
 use mathlib.Core.Path.{◌≡◌, ap, sym, ◌∙◌}
 use mathlib.Core.List.{List, []}
 use lib.ListN.{get_or, set}
-use Rattle.numbers.specs.Refusals.{decided, unless}
-use Rattle.numbers.specs.declared.answer.Answer.{Answer}
-use Rattle.numbers.specs.declared.answer.Answer.TheVariants.{Refused}
+use Rattle.numbers.specs.Refusals.{decided}
 use Rattle.records.specs.Put.{put}
 use Rattle.cells.specs.Memory.{Memory}
 use Rattle.cells.specs.Write.{WriteLeft, left, write_call}
-use Rattle.cells.specs.WriteRead.{Both, write_read_of}
+use Rattle.cells.specs.WriteRead.{Both, written_of, ynd_after, write_read_of}
 use Rattle.cells.specs.declared.ynd.Ynd.{Ynd}
-use Rattle.cells.specs.declared.write.Written.{Written}
-use Rattle.cells.specs.declared.write.Written.TheVariants as written
 use Rattle.cells.specs.declared.write_read.WroteRead.{WroteRead}
+use Rattle.sets.specs.MemberList.{unless}
 use Rattle.sets.specs.CellSet.{CellSet, cell_set}
 use Rattle.sets.specs.SetStored.{member_in, ask_causes, entry_with, with_member}
 use Rattle.sets.specs.MemberParts.{part_memory}
@@ -22,23 +19,26 @@ use Rattle.sets.specs.declared.parts.PerList.{PerList}
 use Rattle.sets.specs.declared.member.MemberPart.{MemberPart}
 use Rattle.sets.proofs.SetLaws.{written_refused}
 use Rattle.sets.proofs.MemberPartLaws.{OpenAt, put_back}
+use Rattle.std.specs.Prelude.{Result, Ok, Err}
+use Rattle.numbers.specs.Refusals.{Answer}
+use Rattle.numbers.specs.declared.refusal.Refusal.{Refusal}
 
 module _ (y : CellSet) (j : ℕ) where
   abbrev ws : List (List ℕ)
   ws = y.members
 
-  pub write_read_not : (section : List ℕ) (x q : ℕ) → decided (ask_causes y j) ≡ Refused x q
-      → set_written (written.Refused x q) y section ≡ write_read_member y j section
+  pub write_read_not : (section : List ℕ) (x : Refusal) → decided (ask_causes y j) ≡ Err x
+      → set_written (Err x) y section ≡ write_read_member y j section
   unfolding write_read_member
-  write_read_not section x q e =
-      ap (λ (a : Answer). unless a (λ cause place. set_written (written.Refused cause place) y section)
+  write_read_not section x e =
+      ap (λ (a : Answer). unless a (λ cause. set_written (Err cause) y section)
       (wrote_in y j (write_read_of (member_in y j) section))) (sym e)
 
-  pub write_not : (section : List ℕ) (x q : ℕ) → decided (ask_causes y j) ≡ Refused x q
-      → left (written.Refused x q) section ≡ write_member y j section
+  pub write_not : (section : List ℕ) (x : Refusal) → decided (ask_causes y j) ≡ Err x
+      → left (Err x) section ≡ write_member y j section
   unfolding write_member
-  write_not section x q e =
-      ap (λ (a : Answer). unless a (λ cause place. left (written.Refused cause place) section)
+  write_not section x e =
+      ap (λ (a : Answer). unless a (λ cause. left (Err cause) section)
       (write_call (member_in y j) section)) (sym e)
 
   module _ (section : List ℕ) where
@@ -53,30 +53,33 @@ module _ (y : CellSet) (j : ℕ) where
       unfolding write_member
       write_in w e =
           e ∙ ap (λ (m : Memory). write_call m section) k.part
-          ∙ ap (λ (a : Answer). unless a (λ cause place. left (written.Refused cause place) section)
+          ∙ ap (λ (a : Answer). unless a (λ cause. left (Err cause) section)
           (write_call (member_in y j) section)) (sym k.asked)
 
       wrote : wrote_in y j b ≡ write_read_member y j section
       unfolding write_read_member
       wrote =
           ap (λ (m : Memory). wrote_in y j (write_read_of m section)) k.part
-          ∙ ap (λ (a : Answer). unless a (λ cause place. set_written (written.Refused cause place) y section)
+          ∙ ap (λ (a : Answer). unless a (λ cause. set_written (Err cause) y section)
           (wrote_in y j (write_read_of (member_in y j) section))) (sym k.asked)
 
-      module _ (r : WroteRead) (N L J R : List (List ℕ)) (H S : List ℕ) (ea : r.answer ≡ b.answer)
+      module _ (r : Result WroteRead Refusal) (N L J R : List (List ℕ)) (H S : List ℕ) (ea : written_of r ≡ b.answer)
+          (ev : ynd_after p.ynd r ≡ b.memory.ynd)
           (eN : N ≡ put y.nodes p.a.nodes b.memory.nodes) (eL : L ≡ put y.links p.a.links b.memory.links)
           (eJ : J ≡ put y.junctions p.a.junctions b.memory.junctions)
           (eH : H ≡ put y.heights p.a.heights b.memory.heights)
           (eR : R ≡ put y.refs p.a.refs b.memory.refs) (eS : S ≡ b.section) where
-        pub write_read_done : (n : ℕ) → r.answer ≡ written.Wrote n → r.ynd ≡ b.memory.ynd → (W : List (List ℕ))
-            → W ≡ set ws j (entry_with r.ynd (get_or ws j []))
-            → set_written r.answer (cell_set W N L J H R) S ≡ write_read_member y j section
+        pub write_read_done : (w : WroteRead) → r ≡ Ok w → (W : List (List ℕ))
+            → W ≡ set ws j (entry_with w.ynd (get_or ws j []))
+            → set_written (Ok w.written) (cell_set W N L J H R) S ≡ write_read_member y j section
         unfolding with_member
-        write_read_done n e ev W eW =
+        write_read_done w is W eW =
             let s = k.starts in
+            let says : Ok w.written ≡ b.answer = ap written_of (sym is) ∙ ea in
+            let own : w.ynd ≡ b.memory.ynd = ap (ynd_after p.ynd) (sym is) ∙ ev in
             let lists : cell_set W N L J H R ≡ with_member y j b.memory =
             λ i. record {
-              members = (eW ∙ ap (λ (v : Ynd). set ws j (entry_with v (get_or ws j []))) ev) i;
+              members = (eW ∙ ap (λ (v : Ynd). set ws j (entry_with v (get_or ws j []))) own) i;
               nodes = (eN ∙ ap (λ (q : PerList). put y.nodes q.nodes b.memory.nodes) s) i;
               links = (eL ∙ ap (λ (q : PerList). put y.links q.links b.memory.links) s) i;
               junctions = (eJ ∙ ap (λ (q : PerList). put y.junctions q.junctions b.memory.junctions) s) i;
@@ -84,13 +87,14 @@ module _ (y : CellSet) (j : ℕ) where
               refs = (eR ∙ ap (λ (q : PerList). put y.refs q.refs b.memory.refs) s) i;
             } in
             let after : with_member y j b.memory ≡ lists_after b.answer y j b.memory
-            = ap (λ (a : Written). lists_after a y j b.memory) (sym e ∙ ea) in
-            (λ i. set_written (ea i) ((lists ∙ after) i) (eS i)) ∙ wrote
+            = ap (λ (a : Result ℕ Refusal). lists_after a y j b.memory) says in
+            (λ i. set_written (says i) ((lists ∙ after) i) (eS i)) ∙ wrote
 
-        pub write_read_out : (x q : ℕ) → r.answer ≡ written.Refused x q
-            → set_written r.answer (cell_set ws N L J H R) S ≡ write_read_member y j section
-        write_read_out x q e =
-            let same = (written_refused part section x q (sym ea ∙ e)).0 in
+        pub write_read_out : (x : Refusal) → r ≡ Err x
+            → set_written (Err x) (cell_set ws N L J H R) S ≡ write_read_member y j section
+        write_read_out x is =
+            let says : Err x ≡ b.answer = ap written_of (sym is) ∙ ea in
+            let same = (written_refused part section x (sym says)).0 in
             let lists : cell_set ws N L J H R ≡ y =
             λ i. record {
               members = ws;
@@ -103,5 +107,5 @@ module _ (y : CellSet) (j : ℕ) where
               refs = (eR ∙ ap (λ (m : Memory). put y.refs p.a.refs m.refs) same ∙ put_back y.refs p.a.refs _) i;
             } in
             let after : y ≡ lists_after b.answer y j b.memory
-            = ap (λ (a : Written). lists_after a y j b.memory) (sym e ∙ ea) in
-            (λ i. set_written (ea i) ((lists ∙ after) i) (eS i)) ∙ wrote
+            = ap (λ (a : Result ℕ Refusal). lists_after a y j b.memory) says in
+            (λ i. set_written (says i) ((lists ∙ after) i) (eS i)) ∙ wrote

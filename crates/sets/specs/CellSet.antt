@@ -2,13 +2,15 @@
 -- and the sizes of its five parts (words 15 to 19). The other five hold all members' nodes, links, junctions,
 -- heightmap values and refs, one member's part after the other's. A part may have more entries than the member's
 -- count.
-use Rattle.std.specs.Prelude.{ℕ, ◌+◌, Bool, not, ◌&&◌, cond, List, [], ◌∷◌, map, ltb, leb, length, get_or, take, drop}
+use Rattle.std.specs.Prelude.{ℕ, ◌+◌, Bool, not, ◌&&◌, List, [], ◌∷◌, map, leb, length, get_or, take, drop}
 use Rattle.numbers.specs.Refusals.{Cause, when}
 use Rattle.cells.specs.Lists.{every}
 use Rattle.cells.specs.Memory.{Memory, memory}
 use Rattle.cells.specs.declared.ynd.Ynd.{Ynd}
 use Rattle.sets.specs.Members.{map_from}
 use Rattle.sets.specs.MemberList.{over_set}
+use Rattle.numbers.specs.declared.refusal.Refusal.TheVariants.{TooShort, AtLimit}
+use Rattle.numbers.specs.declared.refusal.Lent.TheVariants as lent
 
 pub record CellSet : Type 0 where
   pub members : List (List ℕ)
@@ -93,20 +95,21 @@ room_for k size w = leb (word k w) (word size w)
 unfoldable pub holds_list : ℕ → ℕ → List (List ℕ) → ℕ → Bool
 holds_list k size ws len = every (room_for k size) ws && leb (total (words_at size ws)) len
 
--- the first of the five lists that doesn't hold the members, 5 if all do
-unfoldable pub lack_of : List (List ℕ) → ℕ → ℕ → ℕ → ℕ → ℕ → ℕ
+-- 7 each of the five lists that doesn't hold the members
+unfoldable pub lack_of : List (List ℕ) → ℕ → ℕ → ℕ → ℕ → ℕ → List Cause
 lack_of ws nodes links junctions heights refs =
-    cond (not (holds_list 10 15 ws nodes)) 0
-    (cond (not (holds_list 11 16 ws links)) 1
-    (cond (not (holds_list 12 17 ws junctions)) 2
-    (cond (not (holds_list 13 18 ws heights)) 3
-    (cond (not (holds_list 14 19 ws refs)) 4 5))))
+    when (not (holds_list 10 15 ws nodes)) (TooShort lent.Nodes)
+    ∷ when (not (holds_list 11 16 ws links)) (TooShort lent.Links)
+    ∷ when (not (holds_list 12 17 ws junctions)) (TooShort lent.Junctions)
+    ∷ when (not (holds_list 13 18 ws heights)) (TooShort lent.Heightmap)
+    ∷ when (not (holds_list 14 19 ws refs)) (TooShort lent.Refs)
+    ∷ []
 
-abbrev pub lack : CellSet → ℕ
+abbrev pub lack : CellSet → List Cause
 lack y =
     lack_of y.members (length y.nodes) (length y.links) (length y.junctions) (length y.heights)
     (length y.refs)
 
 -- 14 a set over a limit; 7 a list that doesn't hold its members
 unfoldable pub set_causes : CellSet → List Cause
-set_causes y = when (over_set (members_of y)) 14 0 ∷ when (ltb (lack y) 5) 7 (lack y) ∷ []
+set_causes y = when (over_set (members_of y)) AtLimit ∷ lack y

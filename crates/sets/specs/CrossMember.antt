@@ -9,17 +9,19 @@ use Rattle.sets.specs.CrossingCall.{CrossingLeft, crossed_by}
 use Rattle.sets.specs.MemberList.{cells_of, node_count, over_set}
 use Rattle.sets.specs.CellSet.{CellSet, members_of, holds_list}
 use Rattle.sets.specs.SetStored.{member_in}
+use Rattle.numbers.specs.declared.refusal.Refusal.TheVariants.{TooShort, NoSuchPlace, AtLimit}
+use Rattle.numbers.specs.declared.refusal.Lent.TheVariants as lent
 
 -- In their order: 13 no such member, or no such place by its count; 14 a set over a limit; 7 at 0 and 1 a list of
 -- nodes or links that doesn't hold the members; 7 at 8 a visited list of `room` entries, too short for `count`.
 unfoldable pub cross_causes : CellSet → Location → ℕ → ℕ → List Cause
 cross_causes y s count room =
-    when (leb (length y.members) s.member) 13 0
-    ∷ when (leb (node_count (member_in y s.member)) s.place) 13 0
-    ∷ when (over_set (members_of y)) 14 0
-    ∷ when (not (holds_list 10 15 y.members (length y.nodes))) 7 0
-    ∷ when (not (holds_list 11 16 y.members (length y.links))) 7 1
-    ∷ when (ltb room count) 7 8
+    when (leb (length y.members) s.member) NoSuchPlace
+    ∷ when (leb (node_count (member_in y s.member)) s.place) NoSuchPlace
+    ∷ when (over_set (members_of y)) AtLimit
+    ∷ when (not (holds_list 10 15 y.members (length y.nodes))) (TooShort lent.Nodes)
+    ∷ when (not (holds_list 11 16 y.members (length y.links))) (TooShort lent.Links)
+    ∷ when (ltb room count) (TooShort lent.List)
     ∷ []
 
 -- The walk over the members' cells. A refusal leaves the visited list as it was; else entries behind those visited

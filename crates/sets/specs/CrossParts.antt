@@ -10,9 +10,12 @@ use Rattle.sets.specs.CrossingCall.{visit_words}
 use Rattle.sets.specs.MemberList.{cells_of, over_set}
 use Rattle.sets.specs.CellSet.{CellSet, cell_set, ynd_of, members_of, holds_list}
 use Rattle.sets.specs.SetParts.{count_of, Holding, bare, areas_of}
-use Rattle.sets.specs.declared.cross.Cross.{Cross}
-use Rattle.sets.specs.declared.cross.Cross.TheVariants as cross
-use Rattle.sets.specs.declared.crossing.Crossed.{Crossed}
+use Rattle.walks.specs.declared.walk.End.{End}
+use Rattle.walks.specs.declared.walk.Walked.{Walked}
+use Rattle.sets.specs.declared.cross.Location.{Location as At}
+use Rattle.std.specs.Prelude.{Result, Ok, Err}
+use Rattle.numbers.specs.declared.refusal.Refusal.TheVariants.{TooShort, NoSuchPlace, AtLimit}
+use Rattle.numbers.specs.declared.refusal.Lent.TheVariants as lent
 
 -- a crossing walk looks at no other list
 abbrev pub walked_set : List (List ℕ) → List (List ℕ) → List (List ℕ) → CellSet
@@ -25,9 +28,9 @@ unfoldable pub trail_in : List (List ℕ) → List (List ℕ) → List (List ℕ
 trail_in ws nodes links choices s = crossing (cells_in ws nodes links) choices s
 
 -- where a choice leads
-abbrev pub cross_of : Next Location → Cross
-cross_of (to s) = cross.To s.member s.place
-cross_of (stop e) = cross.Stop e
+abbrev pub cross_of : Next Location → Result At End
+cross_of (to s) = Ok (record { member = s.member; place = s.place })
+cross_of (stop e) = Err e
 
 -- what the walk is lent: the members, within the limits, their nodes, and their areas
 pub record Lent (areas : List ℕ) (ws nodes : List (List ℕ)) : Type 0 where
@@ -44,7 +47,7 @@ pub record Walking (areas : List ℕ) (ws nodes links : List (List ℕ)) (s : Lo
   pub place : s.place < count_of 10 ws s.member
 
 -- what the code answers of a walk, and the visited list after it
-abbrev pub crossed_of : Trail Location → Crossed
+abbrev pub crossed_of : Trail Location → Walked
 crossed_of t = record { end = t.ending; count = length (places t) }
 
 abbrev pub visits_over : Trail Location → List (List ℕ) → List (List ℕ)
@@ -53,9 +56,9 @@ visits_over t visited = visit_words t ++ drop (length (places t)) visited
 -- what a walk is refused for before its first step, by the entries and the lists' lengths
 unfoldable pub start_causes : List (List ℕ) → ℕ → ℕ → Location → List Cause
 start_causes ws nodes links s =
-    when (leb (length ws) s.member) 13 0
-    ∷ when (leb (count_of 10 ws s.member) s.place) 13 0
-    ∷ when (over_set (bare ws)) 14 0
-    ∷ when (not (holds_list 10 15 ws nodes)) 7 0
-    ∷ when (not (holds_list 11 16 ws links)) 7 1
+    when (leb (length ws) s.member) NoSuchPlace
+    ∷ when (leb (count_of 10 ws s.member) s.place) NoSuchPlace
+    ∷ when (over_set (bare ws)) AtLimit
+    ∷ when (not (holds_list 10 15 ws nodes)) (TooShort lent.Nodes)
+    ∷ when (not (holds_list 11 16 ws links)) (TooShort lent.Links)
     ∷ []

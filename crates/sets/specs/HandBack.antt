@@ -1,9 +1,10 @@
 -- T-09: a cell handed back before it leaves the set: its nodes, links, junctions, heightmap values and refs copied
 -- into lists that the caller lends.
-use Rattle.std.specs.Prelude.{ℕ, List, [], ◌∷◌, ◌++◌, ltb, length, take}
+use Rattle.std.specs.Prelude.{ℕ, length, take}
 use Rattle.std.proofs.Math.Option.{Option, none, some}
-use Rattle.numbers.specs.Refusals.{Cause, when, decided}
-use Rattle.cells.specs.Memory.{Memory, memory, Left, unless, short_of}
+use Rattle.numbers.specs.Refusals.{Answer, decided, unless}
+use Rattle.cells.specs.Memory.{Memory, memory, Left, short_of}
+use Rattle.cells.specs.Memory.{unless as kept_unless}
 use Rattle.cells.specs.Add.{done}
 use Rattle.sets.specs.MemberList.{no_memory}
 use Rattle.sets.specs.CellSet.{CellSet}
@@ -28,16 +29,15 @@ leaver_of none y = no_memory
 unfoldable pub leaver : CellSet → ℕ → Memory
 leaver y area = leaver_of (first_of_area y area) y
 
--- the first of m's lists that is shorter than the count of `from`, 5 if none is
-abbrev pub lack_of_back : Memory → Memory → ℕ
+-- 7 the first of m's lists that is shorter than the count of `from`
+abbrev pub lack_of_back : Memory → Memory → Answer
 lack_of_back from m = short_of from.ynd (length m.nodes) (length m.links) (length m.junctions) (length m.heights)
     (length m.refs)
 
 -- as leaving; then 7 the first of the lists lent that is too short for the cell
-unfoldable pub hand_causes : CellSet → ℕ → Memory → List Cause
-hand_causes y area m =
-    leave_causes y area ++ (when (ltb (lack_of_back (leaver y area) m) 5) 7 (lack_of_back (leaver y area) m) ∷ [])
+unfoldable pub hand_causes : CellSet → ℕ → Memory → Answer
+hand_causes y area m = unless (decided (leave_causes y area)) (lack_of_back (leaver y area) m)
 
 -- A refusal leaves the memory lent as it was. The set stays as it is.
 unfoldable pub hand_back : CellSet → ℕ → Memory → Left
-hand_back y area m = unless (decided (hand_causes y area m)) m (done (copied (leaver y area) m))
+hand_back y area m = kept_unless (hand_causes y area m) m (done (copied (leaver y area) m))

@@ -1,18 +1,20 @@
 -- T-09: "a cell joins .. the set by a call". "A tenth member, or nodes beyond the total, is 14"; "It refuses with 18,
 -- checked before 14, when the area is already in the set."
-use Rattle.std.specs.Prelude.{ℕ, ◌+◌, ◌-◌, Bool, not, ◌&&◌, cond, List, [], ◌∷◌, ◌++◌, ltb, leb, length, get_or, set}
+use Rattle.std.specs.Prelude.{ℕ, ◌+◌, ◌-◌, Bool, not, ◌&&◌, List, [], ◌∷◌, ◌++◌, ltb, leb, length, get_or, set}
 use Rattle.std.specs.Prelude.{take, drop}
-use Rattle.numbers.specs.Refusals.{Cause, when, decided, unless}
-use Rattle.numbers.specs.declared.answer.Answer.TheVariants.{Done, Refused}
+use Rattle.numbers.specs.Refusals.{Cause, when, decided}
 use Rattle.cells.specs.Memory.{Memory, memory}
 use Rattle.cells.specs.CellOf.{cell_of}
 use Rattle.cells.specs.Lookup.{is_some}
 use Rattle.cells.specs.declared.ynd.Ynd.{Ynd}
 use Rattle.sets.specs.Members.{area_of}
-use Rattle.sets.specs.MemberList.{over_set}
+use Rattle.sets.specs.MemberList.{over_set, unless}
 use Rattle.sets.specs.CellSet.{CellSet, words_at, total, members_of, holds_list}
 use Rattle.sets.specs.Leave.{SetLeft, set_left, used, first_of_area}
 use Rattle.sets.specs.declared.parts.PerList.{PerList}
+use Rattle.std.specs.Prelude.{Ok, Err}
+use Rattle.numbers.specs.declared.refusal.Refusal.TheVariants.{TooShort, AtLimit, AreaTaken}
+use Rattle.numbers.specs.declared.refusal.Lent.TheVariants as lent
 
 -- the entry of a cell whose parts have these sizes
 abbrev pub entry_of : Ynd → PerList → List ℕ
@@ -33,19 +35,17 @@ part_fits k size ws len have count room =
     holds_list k size ws len
     && (leb count have && (leb count room && (ltb room 4294967296 && leb (total (words_at size ws) + room) len)))
 
--- the first of the later three lists that doesn't, 5 if all do; the lists have these lengths, and the cell's those
-unfoldable pub lack_later : List (List ℕ) → PerList → PerList → Ynd → PerList → ℕ
-lack_later ws lens haves y sizes =
-    cond (not (part_fits 12 17 ws lens.junctions haves.junctions y.junction_count sizes.junctions)) 2
-    (cond (not (part_fits 13 18 ws lens.heights haves.heights y.heightmap_count sizes.heights)) 3
-    (cond (not (part_fits 14 19 ws lens.refs haves.refs y.ref_count sizes.refs)) 4 5))
-
--- the first of all five
-unfoldable pub lack_for : List (List ℕ) → PerList → PerList → Ynd → PerList → ℕ
+-- 7 each of the five lists that doesn't; the lists have these lengths, and the cell's those
+unfoldable pub lack_for : List (List ℕ) → PerList → PerList → Ynd → PerList → List Cause
 lack_for ws lens haves y sizes =
-    cond (not (part_fits 10 15 ws lens.nodes haves.nodes y.node_count sizes.nodes)) 0
-    (cond (not (part_fits 11 16 ws lens.links haves.links y.link_count sizes.links)) 1
-    (lack_later ws lens haves y sizes))
+    when (not (part_fits 10 15 ws lens.nodes haves.nodes y.node_count sizes.nodes)) (TooShort lent.Nodes)
+    ∷ when (not (part_fits 11 16 ws lens.links haves.links y.link_count sizes.links)) (TooShort lent.Links)
+    ∷ when (not (part_fits 12 17 ws lens.junctions haves.junctions y.junction_count sizes.junctions))
+    (TooShort lent.Junctions)
+    ∷ when (not (part_fits 13 18 ws lens.heights haves.heights y.heightmap_count sizes.heights))
+    (TooShort lent.Heightmap)
+    ∷ when (not (part_fits 14 19 ws lens.refs haves.refs y.ref_count sizes.refs)) (TooShort lent.Refs)
+    ∷ []
 
 abbrev pub per_list : ℕ → ℕ → ℕ → ℕ → ℕ → PerList
 per_list nodes links junctions heights refs = record {
@@ -66,12 +66,10 @@ cell_lengths m = per_list (length m.nodes) (length m.links) (length m.junctions)
 -- short for it; 7 at 10 a list of `room` entries for the members that is full
 unfoldable pub join_causes : CellSet → ℕ → Memory → PerList → List Cause
 join_causes y room m sizes =
-    let lack = lack_for y.members (set_lengths y) (cell_lengths m) m.ynd sizes in
-    when (is_some (first_of_area y (area_of (cell_of m)))) 18 0
-    ∷ when (over_set (members_of y ++ (m ∷ []))) 14 0
-    ∷ when (ltb lack 5) 7 lack
-    ∷ when (leb room (length y.members)) 7 10
-    ∷ []
+    when (is_some (first_of_area y (area_of (cell_of m)))) AreaTaken
+    ∷ when (over_set (members_of y ++ (m ∷ []))) AtLimit
+    ∷ (lack_for y.members (set_lengths y) (cell_lengths m) m.ynd sizes
+    ++ (when (leb room (length y.members)) (TooShort lent.Members) ∷ []))
 
 -- the six lists y, whose set is z, after the cell joined: what its counts say is copied behind the others' parts
 unfoldable pub with_cell : CellSet → CellSet → Memory → PerList → CellSet
@@ -88,8 +86,8 @@ with_cell y z m sizes = record {
 unfoldable pub join_cell : ℕ → CellSet → Memory → PerList → SetLeft
 join_cell count y m sizes =
     unless (decided (join_causes (used count y) (length y.members) m sizes))
-    (λ cause place. set_left (Refused cause place) (length (used count y).members) y)
-    (set_left Done (length (used count y).members + 1) (with_cell y (used count y) m sizes))
+    (λ cause. set_left (Err cause) (length (used count y).members) y)
+    (set_left (Ok tt) (length (used count y).members + 1) (with_cell y (used count y) m sizes))
 
 -- ---- for the laws
 

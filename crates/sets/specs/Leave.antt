@@ -2,13 +2,14 @@
 -- "taking out an area that the set lacks is 13".
 use Rattle.std.specs.Prelude.{ℕ, zero, suc, ◌+◌, ◌-◌, not, List, [], ◌∷◌, ◌++◌, length, take, drop}
 use Rattle.std.proofs.Math.Option.{Option, none, some}
-use Rattle.numbers.specs.Refusals.{Cause, when, decided, unless}
-use Rattle.numbers.specs.declared.answer.Answer.{Answer}
-use Rattle.numbers.specs.declared.answer.Answer.TheVariants.{Done, Refused}
+use Rattle.numbers.specs.Refusals.{Cause, when, Answer, decided, answered}
 use Rattle.cells.specs.Lookup.{first_with, is_some}
 use Rattle.sets.specs.Members.{areas}
-use Rattle.sets.specs.MemberList.{cells_of}
+use Rattle.sets.specs.MemberList.{cells_of, unless}
 use Rattle.sets.specs.CellSet.{CellSet, cell_set, words_at, total, members_of, set_causes}
+use Rattle.std.specs.Prelude.{Result, Ok, Err}
+use Rattle.numbers.specs.declared.refusal.Refusal.{Refusal}
+use Rattle.numbers.specs.declared.refusal.Refusal.TheVariants.{NoSuchPlace}
 
 -- what a call answers, how many members the set has after it, and the six lists; the set's entries are the first
 -- `count`
@@ -19,6 +20,14 @@ pub record SetLeft : Type 0 where
 
 abbrev pub set_left : Answer → ℕ → CellSet → SetLeft
 set_left a count y = record { answer = a; count = count; lists = y }
+
+-- a call gives how many members there are after it; a refused one leaves as many as before
+abbrev pub count_after : ℕ → Result ℕ Refusal → ℕ
+count_after before (Ok count) = count
+count_after before (Err cause) = before
+
+abbrev pub left_after : ℕ → Result ℕ Refusal → CellSet → SetLeft
+left_after before r y = set_left (answered r) (count_after before r) y
 
 -- the set whose entries are the first `count` of a longer list
 abbrev pub used : ℕ → CellSet → CellSet
@@ -60,14 +69,14 @@ first_of_area y area = first_with (areas (cells_of (members_of y))) area
 
 -- 13 no member has the area; 14 and 7 a set made by hand
 unfoldable pub leave_causes : CellSet → ℕ → List Cause
-leave_causes y area = when (not (is_some (first_of_area y area))) 13 0 ∷ set_causes y
+leave_causes y area = when (not (is_some (first_of_area y area))) NoSuchPlace ∷ set_causes y
 
 abbrev pub left_by : Option ℕ → CellSet → SetLeft
-left_by (some j) y = set_left Done (length y.members - 1) (without y j)
-left_by none y = set_left Done (length y.members) y
+left_by (some j) y = set_left (Ok tt) (length y.members - 1) (without y j)
+left_by none y = set_left (Ok tt) (length y.members) y
 
 -- a refusal leaves all six lists as they were
 unfoldable pub leave_area : CellSet → ℕ → SetLeft
 leave_area y area =
-    unless (decided (leave_causes y area)) (λ cause place. set_left (Refused cause place) (length y.members) y)
+    unless (decided (leave_causes y area)) (λ cause. set_left (Err cause) (length y.members) y)
     (left_by (first_of_area y area) y)

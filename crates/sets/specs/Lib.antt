@@ -26,3 +26,4 @@ pub mod Lent
 pub mod HandBack
 pub mod MemberEdit
 pub mod MemberLookup
+pub mod WorldParts

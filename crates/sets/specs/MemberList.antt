@@ -1,9 +1,12 @@
 -- T-09: the members in memory, each with lists of its own, and the limits of a set.
 use Rattle.std.specs.Prelude.{ℕ, ◌+◌, Bool, false, ◌||◌, List, [], ◌∷◌, map, leb, ltb, length, get_or}
-use Rattle.numbers.specs.Refusals.{Cause, when}
+use Rattle.numbers.specs.Refusals.{Cause, when, Answer}
 use Rattle.cells.specs.Memory.{Memory, memory, over_limit}
 use Rattle.cells.specs.Cell.{Cell}
 use Rattle.cells.specs.CellOf.{cell_of}
+use Rattle.numbers.specs.declared.refusal.Refusal.{Refusal}
+use Rattle.numbers.specs.declared.refusal.Refusal.TheVariants.{NoSuchPlace, AtLimit}
+use Rattle.std.specs.Prelude.{Ok, Err}
 
 -- what stands at a number that no member has
 unfoldable pub no_memory : Memory
@@ -44,4 +47,9 @@ over_set ms = ltb 9 (length ms) || (ltb 65536 (nodes_together ms) || any_over ms
 
 -- The causes that a call on the member j has before the cell's own: 13 no such member, 14 a set over a limit.
 unfoldable pub member_causes : List Memory → ℕ → List Cause
-member_causes ms j = when (leb (length ms) j) 13 0 ∷ when (over_set ms) 14 0 ∷ []
+member_causes ms j = when (leb (length ms) j) NoSuchPlace ∷ when (over_set ms) AtLimit ∷ []
+
+-- what a refusal leaves, or else what follows
+abbrev pub unless : {A : Type 0} → Answer → (Refusal → A) → A → A
+unless (Ok _) refused next = next
+unless (Err cause) refused next = refused cause

@@ -8,19 +8,20 @@ use Rattle.sets.specs.Join.{per_list}
 use Rattle.sets.specs.SetParts.{starts_of, list_causes}
 use Rattle.sets.specs.declared.parts.PerList.{PerList}
 use Rattle.sets.specs.declared.member.MemberPart.{MemberPart}
-use Rattle.sets.specs.declared.member.Opened.{Opened}
-use Rattle.sets.specs.declared.member.Opened.TheVariants.{At, Refused}
+use Rattle.std.specs.Prelude.{Result, Ok}
+use Rattle.numbers.specs.declared.refusal.Refusal.{Refusal}
+use Rattle.numbers.specs.declared.refusal.Refusal.TheVariants.{NoSuchPlace}
 
 -- what a call on the member j is refused for, by the entries and the lists' lengths
 unfoldable pub entry_ask : List (List ℕ) → PerList → ℕ → List Cause
 entry_ask ws lens j =
-    when (leb (length ws) j) 13 0 ∷ list_causes ws lens.nodes lens.links lens.junctions lens.heights lens.refs
+    when (leb (length ws) j) NoSuchPlace ∷ list_causes ws lens.nodes lens.links lens.junctions lens.heights lens.refs
 
 -- the member's `Ynd`, and where its parts start and end
-unfoldable pub opened : List (List ℕ) → PerList → ℕ → Opened
+unfoldable pub opened : List (List ℕ) → PerList → ℕ → Result MemberPart Refusal
 opened ws lens j =
-    unless (decided (entry_ask ws lens j)) (λ cause place. Refused cause place)
-    (At (record { ynd = ynd_of (get_or ws j []); a = starts_of ws j; e = starts_of ws (j + 1) }))
+    unless (decided (entry_ask ws lens j))
+    (Ok (record { ynd = ynd_of (get_or ws j []); a = starts_of ws j; e = starts_of ws (j + 1) }))
 
 -- how many entries the parts in each list have together; no more than nine members are counted
 unfoldable pub held_by : List (List ℕ) → PerList

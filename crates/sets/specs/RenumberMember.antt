@@ -1,15 +1,14 @@
 -- T-09: renumbering one member of a set in six lent lists. "Renumbering one member also corrects the links in the
 -- others that name its area and that their own cell's rule doesn't claim."
 use Rattle.std.specs.Prelude.{ℕ, suc, cond, List, [], ◌∷◌, ◌++◌, map, eqb, take, drop}
-use Rattle.numbers.specs.Refusals.{decided, unless}
-use Rattle.numbers.specs.declared.answer.Answer.{Answer}
-use Rattle.numbers.specs.declared.answer.Answer.TheVariants.{Done, Refused}
+use Rattle.numbers.specs.Refusals.{Answer, decided}
 use Rattle.cells.specs.Memory.{Memory}
 use Rattle.cells.specs.Renumber.{Renumbered, over, renumber}
-use Rattle.sets.specs.MemberList.{cells_of}
+use Rattle.sets.specs.MemberList.{cells_of, unless}
 use Rattle.sets.specs.SetRenumber.{Change, change_of, correct_words}
 use Rattle.sets.specs.CellSet.{CellSet, cell_set, word, members_of}
 use Rattle.sets.specs.SetStored.{member_in, ask_causes, with_member}
+use Rattle.std.specs.Prelude.{Ok, Err}
 
 -- what the call answers, and the six lists and the list of new places after it
 pub record MemberRenumbered : Type 0 where
@@ -43,8 +42,8 @@ others_corrected y j =
 
 -- a refusal leaves all six lists as they were
 abbrev pub lists_after : Answer → CellSet → ℕ → Memory → CellSet
-lists_after Done y j m = with_member (others_corrected y j) j m
-lists_after (Refused cause place) y j m = y
+lists_after (Ok _) y j m = with_member (others_corrected y j) j m
+lists_after (Err cause) y j m = y
 
 abbrev pub renumbered_at : CellSet → ℕ → Renumbered → MemberRenumbered
 renumbered_at y j r = member_renumbered r.answer (lists_after r.answer y j r.memory) r.places
@@ -52,5 +51,5 @@ renumbered_at y j r = member_renumbered r.answer (lists_after r.answer y j r.mem
 -- 13, 14 and 7 as every call on a member; else as the member's own renumbering answers
 unfoldable pub renumber_member : CellSet → ℕ → ℕ → List ℕ → MemberRenumbered
 renumber_member y j scratch places =
-    unless (decided (ask_causes y j)) (λ cause place. member_renumbered (Refused cause place) y places)
+    unless (decided (ask_causes y j)) (λ cause. member_renumbered (Err cause) y places)
     (renumbered_at y j (renumber (member_in y j) scratch places))

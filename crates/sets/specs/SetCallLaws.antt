@@ -2,12 +2,10 @@
 use Rattle.std.specs.Prelude.{ℕ, ◌+◌, ◌<◌, ◌≡◌, false, List, [], ◌∷◌, ◌++◌, map, eqb, length}
 use Rattle.std.proofs.Math.Option.{some}
 use Rattle.numbers.specs.Refusals.{decided}
-use Rattle.numbers.specs.declared.answer.Answer.TheVariants.{Done, Refused}
 use Rattle.cells.specs.Memory.{Memory}
 use Rattle.cells.specs.Read.{read_of}
 use Rattle.cells.specs.CellOf.{cell_of}
 use Rattle.cells.specs.Renumber.{renumber}
-use Rattle.cells.specs.declared.write.Written.TheVariants as written
 use Rattle.walks.specs.WalkCall.{walk_call}
 use Rattle.sets.specs.Members.{area_of}
 use Rattle.sets.specs.Crossing.{location}
@@ -26,6 +24,8 @@ use Rattle.sets.specs.CrossMember.{cross_member}
 use Rattle.sets.specs.SetRun.{run_set}
 use Rattle.sets.specs.SetCallsClaim.{cells_in}
 use Rattle.sets.specs.declared.parts.PerList.{PerList}
+use Rattle.std.specs.Prelude.{Ok, Err}
+use Rattle.numbers.specs.declared.refusal.Refusal.{Refusal}
 
 -- ---- the calls on the six lists do to the members what the calls on a list of members do
 
@@ -44,25 +44,25 @@ pub record CallsFollow (y : CellSet) : Type 0 where
       → (write_read_member y j section).section ≡ (write_read_in (members_of y) j section).section
   -- a list of calls, and what the next call needs
   pub run_members : (calls : List SetCall) → members_of (run_set y calls) ≡ run_in (members_of y) calls
-  pub still_usable : (calls : List SetCall) → decided (set_causes (run_set y calls)) ≡ Done
+  pub still_usable : (calls : List SetCall) → decided (set_causes (run_set y calls)) ≡ (Ok tt)
   pub as_many : (calls : List SetCall) → length (run_set y calls).members ≡ length y.members
 
 abbrev pub CallsFollowTheorem : Type 0
-CallsFollowTheorem = (y : CellSet) → decided (set_causes y) ≡ Done → CallsFollow y
+CallsFollowTheorem = (y : CellSet) → decided (set_causes y) ≡ (Ok tt) → CallsFollow y
 
 -- ---- "A write refused in one member changes none", and so every other call that is refused
 
 pub record RefusedChangesNone : Type 0 where
-  pub renumber_refused : (y : CellSet) (j scratch : ℕ) (places : List ℕ) (cause place : ℕ)
-      → (renumber_member y j scratch places).answer ≡ Refused cause place
+  pub renumber_refused : (y : CellSet) (j scratch : ℕ) (places : List ℕ) (cause : Refusal)
+      → (renumber_member y j scratch places).answer ≡ Err cause
       → ((renumber_member y j scratch places).lists ≡ y) × ((renumber_member y j scratch places).places ≡ places)
-  pub write_refused : (y : CellSet) (j : ℕ) (section : List ℕ) (cause place : ℕ)
-      → (write_read_member y j section).answer ≡ written.Refused cause place
+  pub write_refused : (y : CellSet) (j : ℕ) (section : List ℕ) (cause : Refusal)
+      → (write_read_member y j section).answer ≡ Err cause
       → ((write_read_member y j section).lists ≡ y) × ((write_read_member y j section).section ≡ section)
-  pub join_refused : (count : ℕ) (y : CellSet) (m : Memory) (sizes : PerList) (cause place : ℕ)
-      → (join_cell count y m sizes).answer ≡ Refused cause place
+  pub join_refused : (count : ℕ) (y : CellSet) (m : Memory) (sizes : PerList) (cause : Refusal)
+      → (join_cell count y m sizes).answer ≡ Err cause
       → ((join_cell count y m sizes).lists ≡ y) × ((join_cell count y m sizes).count ≡ length (used count y).members)
-  pub leave_refused : (y : CellSet) (area cause place : ℕ) → (leave_area y area).answer ≡ Refused cause place
+  pub leave_refused : (y : CellSet) (area : ℕ) (cause : Refusal) → (leave_area y area).answer ≡ Err cause
       → ((leave_area y area).lists ≡ y) × ((leave_area y area).count ≡ length y.members)
 
 -- ---- "Where edits gave two members one area, the one that joined first is meant by links .., and renumbering the
@@ -73,7 +73,7 @@ abbrev pub LaterCorrectsNone : Type 0
 LaterCorrectsNone =
     (y : CellSet) (j first scratch : ℕ) (places : List ℕ)
     → first_of_area y (area_of (cell_of (member_in y j))) ≡ some first → eqb first j ≡ false
-    → (renumber_member y j scratch places).answer ≡ Done
+    → (renumber_member y j scratch places).answer ≡ (Ok tt)
     → (renumber_member y j scratch places).lists ≡ with_member y j (renumber (member_in y j) scratch places).memory
 
 -- ---- joining. A struct in memory has seven words of its own.
@@ -96,19 +96,19 @@ pub record JoinStores (count : ℕ) (y : CellSet) (m : Memory) (sizes : PerList)
       → (i : ℕ) → i < length (joined_set count y m sizes).members
       → CellAsRead (member_in (joined_set count y m sizes) i)
   -- the set may be used
-  pub usable : decided (set_causes (joined_set count y m sizes)) ≡ Done
+  pub usable : decided (set_causes (joined_set count y m sizes)) ≡ (Ok tt)
 
 abbrev pub JoinStoresTheorem : Type 0
 JoinStoresTheorem =
     (count : ℕ) (y : CellSet) (m : Memory) (sizes : PerList) → length m.ynd.unknowns ≡ 7
-    → (join_cell count y m sizes).answer ≡ Done → JoinStores count y m sizes
+    → (join_cell count y m sizes).answer ≡ (Ok tt) → JoinStores count y m sizes
 
 -- A cell read from two sections, then joined, is a member as read.
 abbrev pub ReadThenJoin : Type 0
 ReadThenJoin =
     (system graphics : List ℕ) (lent : Memory) (count : ℕ) (y : CellSet) (sizes : PerList)
-    → (read_of system graphics lent).answer ≡ Done
-    → (join_cell count y (read_of system graphics lent).memory sizes).answer ≡ Done
+    → (read_of system graphics lent).answer ≡ (Ok tt)
+    → (join_cell count y (read_of system graphics lent).memory sizes).answer ≡ (Ok tt)
     → CellAsRead (member_in (joined_set count y (read_of system graphics lent).memory sizes)
     (length (used count y).members))
 
@@ -123,11 +123,11 @@ pub record LeaveKeeps (y : CellSet) (area j : ℕ) : Type 0 where
   pub one_less : length (left_set y area).members + 1 ≡ length y.members
   pub counted : (leave_area y area).count ≡ length (left_set y area).members
   -- the set may be used
-  pub usable : decided (set_causes (left_set y area)) ≡ Done
+  pub usable : decided (set_causes (left_set y area)) ≡ (Ok tt)
 
 abbrev pub LeaveKeepsTheorem : Type 0
 LeaveKeepsTheorem =
-    (y : CellSet) (area j : ℕ) → first_of_area y area ≡ some j → (leave_area y area).answer ≡ Done
+    (y : CellSet) (area j : ℕ) → first_of_area y area ≡ some j → (leave_area y area).answer ≡ (Ok tt)
     → LeaveKeeps y area j
 
 -- ---- joining, then leaving
@@ -135,21 +135,21 @@ LeaveKeepsTheorem =
 -- Joining, then leaving, gives the set and the cell back: it is accepted, the cell that leaves is the one that joined,
 -- and the members are those before.
 pub record JoinThenLeave (count : ℕ) (y : CellSet) (m : Memory) (sizes : PerList) : Type 0 where
-  pub left_again : (leave_area (joined_set count y m sizes) (area_of (cell_of m))).answer ≡ Done
+  pub left_again : (leave_area (joined_set count y m sizes) (area_of (cell_of m))).answer ≡ (Ok tt)
   pub it_leaves : first_of_area (joined_set count y m sizes) (area_of (cell_of m))
       ≡ some (length (used count y).members)
   pub as_many : (leave_area (joined_set count y m sizes) (area_of (cell_of m))).count ≡ length (used count y).members
   pub set_back : members_of (left_set (joined_set count y m sizes) (area_of (cell_of m))) ≡ members_of (used count y)
   -- handed back before it leaves, it is the cell that joined; lists that have room for that cell have room for it
-  pub cell_back : (lent : Memory) → (hand_back (joined_set count y m sizes) (area_of (cell_of m)) lent).answer ≡ Done
+  pub cell_back : (lent : Memory) → (hand_back (joined_set count y m sizes) (area_of (cell_of m)) lent).answer ≡ (Ok tt)
       → cell_of (hand_back (joined_set count y m sizes) (area_of (cell_of m)) lent).memory ≡ cell_of m
-  pub has_room : (lent : Memory) → lack_of_back m lent ≡ 5
-      → (hand_back (joined_set count y m sizes) (area_of (cell_of m)) lent).answer ≡ Done
+  pub has_room : (lent : Memory) → lack_of_back m lent ≡ (Ok tt)
+      → (hand_back (joined_set count y m sizes) (area_of (cell_of m)) lent).answer ≡ (Ok tt)
 
 abbrev pub JoinThenLeaveTheorem : Type 0
 JoinThenLeaveTheorem =
     (count : ℕ) (y : CellSet) (m : Memory) (sizes : PerList) → length m.ynd.unknowns ≡ 7
-    → (join_cell count y m sizes).answer ≡ Done → JoinThenLeave count y m sizes
+    → (join_cell count y m sizes).answer ≡ (Ok tt) → JoinThenLeave count y m sizes
 
 -- ---- a set of one member is its cell
 
@@ -160,7 +160,7 @@ in_first places = map (λ q. location_words (location 0 q)) places
 -- The call of a crossing walk is refused like the walk's in the cell, ends like it, and stores the same places.
 abbrev pub OneMemberWalks : Type 0
 OneMemberWalks =
-    (y : CellSet) → decided (set_causes y) ≡ Done → length y.members ≡ 1
+    (y : CellSet) → decided (set_causes y) ≡ (Ok tt) → length y.members ≡ 1
     → (choices : List ℕ) (p : ℕ) (visited : List ℕ)
     → cross_member y choices (location 0 p) (in_first visited)
     ≡ crossing_left (walk_call (member_in y 0) choices p visited).answer

@@ -6,7 +6,6 @@ use Rattle.numbers.specs.Refusals.{decided}
 use Rattle.cells.specs.Cell.{Cell, node_at}
 use Rattle.walks.specs.Claim.{SameWalk}
 use Rattle.walks.specs.declared.walk.End.{End}
-use Rattle.walks.specs.declared.walk.Walked.TheVariants.{Ended}
 use Rattle.sets.specs.Members.{cell_at}
 use Rattle.sets.specs.Crossing.{Location, location, crossing}
 use Rattle.sets.specs.SetSound.{set_sound}
@@ -18,6 +17,7 @@ use Rattle.sets.specs.CellSet.{CellSet, members_of, set_causes}
 use Rattle.sets.specs.SetStored.{member_in}
 use Rattle.sets.specs.CrossMember.{cross_member}
 use Rattle.sets.specs.SetRun.{run_set, moved_on, any_renumbers_on}
+use Rattle.std.specs.Prelude.{Ok}
 
 -- The words of the claim:
 --   run_set y calls                    the six lists after the calls, each as its contract says
@@ -54,7 +54,7 @@ pub record CallsUnnoticed (y : CellSet) (calls : List SetCall) : Type 0 where
   -- and where it is accepted, it stores the same locations, each moved
   pub same_visits : (choices : List ℕ) (s : Location) → Stands (cells_in y) s
       → (visited later : List (List ℕ)) → length later ≡ length visited
-      → (end : End) (n : ℕ) → (cross_member y choices s visited).answer ≡ Ended end n
+      → (end : End) (n : ℕ) → (cross_member y choices s visited).answer ≡ Ok (record { end = end; count = n })
       → take n (cross_member (run_set y calls) choices (moved_on y calls s) later).visited
       ≡ map (entry_moved y calls) (take n (cross_member y choices s visited).visited)
   -- once a renumbering of a member has been accepted, every number in it is its place

@@ -1,6 +1,5 @@
 -- T-09: nobody who sees only what crossing walks of a sound set show can find out what its members have been through.
 use Rattle.std.specs.Prelude.{ℕ, ◌≤◌, ◌<◌, ◌≡◌, true, false, List, length}
-use Rattle.numbers.specs.declared.answer.Answer.TheVariants.{Done}
 use Rattle.cells.specs.Memory.{Memory, over_limit}
 use Rattle.cells.specs.Read.{read_of}
 use Rattle.cells.specs.Cell.{Cell, node_at}
@@ -13,6 +12,7 @@ use Rattle.sets.specs.SetSound.{set_sound}
 use Rattle.sets.specs.MemberList.{member_at, cells_of}
 use Rattle.sets.specs.SetCalls.{SetCall, run_in, moved_in, any_renumbers_in}
 use Rattle.sets.specs.CrossingCall.{crossing_call}
+use Rattle.std.specs.Prelude.{Ok}
 
 -- The words of the claim:
 --   cells_of ms                          the cells of the members, in the order of joining
@@ -32,7 +32,7 @@ pub record CellAsRead (m : Memory) : Type 0 where
   pub system : List ℕ
   pub graphics : List ℕ
   pub lent : Memory
-  pub accepted : (read_of system graphics lent).answer ≡ Done
+  pub accepted : (read_of system graphics lent).answer ≡ (Ok tt)
   pub same_cell : cell_of m ≡ file_cell system graphics
   pub within : over_limit m.ynd ≡ false
   pub nodes_lie : m.ynd.node_count ≤ length m.nodes

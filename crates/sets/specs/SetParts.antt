@@ -1,6 +1,7 @@
 -- What the parts of the set's calls go by. No public function's contract cites them.
-use Rattle.std.specs.Prelude.{ℕ, ◌+◌, ◌-◌, ◌≤◌, ◌<◌, cond, List, [], ◌∷◌, ◌++◌, map, ltb, leb, length, get_or, take}
-use Rattle.std.proofs.Math.Option.{Option, none, some}
+use Rattle.std.specs.Prelude.{ℕ, ◌+◌, ◌-◌, ◌≤◌, ◌<◌, cond, List, [], ◌∷◌, ◌++◌, map, eqb, ltb, leb}
+use Rattle.std.specs.Prelude.{length, get_or, take}
+use Rattle.std.proofs.Math.Option.{Option as Found, none, some}
 use Rattle.numbers.specs.Refusals.{Cause, when}
 use Rattle.cells.specs.Memory.{Memory, memory}
 use Rattle.cells.specs.NodeWords.{first_area}
@@ -12,12 +13,13 @@ use Rattle.sets.specs.CellSet.{CellSet, word, ynd_of, words_at, total, parts_of,
 use Rattle.sets.specs.Leave.{start_of}
 use Rattle.sets.specs.Join.{per_list, lack_for}
 use Rattle.sets.specs.declared.parts.PerList.{PerList}
-use Rattle.sets.specs.declared.named.Named.{Named}
-use Rattle.sets.specs.declared.named.Named.TheVariants.{Member, Nobody}
+use Rattle.std.specs.Prelude.{Option, Some, None}
+use Rattle.numbers.specs.declared.refusal.Refusal.TheVariants.{TooShort, AtLimit, AreaTaken}
+use Rattle.numbers.specs.declared.refusal.Lent.TheVariants as lent
 
-abbrev pub named_of : Option ℕ → Named
-named_of (some i) = Member i
-named_of none = Nobody
+abbrev pub named_of : Found ℕ → Option ℕ
+named_of (some i) = Some i
+named_of none = None
 
 -- where the parts of the member j start: behind those of the members before it
 abbrev pub starts_of : List (List ℕ) → ℕ → PerList
@@ -28,6 +30,11 @@ starts_of ws j = record {
   heights = start_of 18 ws j;
   refs = start_of 19 ws j;
 }
+
+-- the number for the list i, in their order
+abbrev pub of_list : ℕ → PerList → ℕ
+of_list i p =
+    cond (eqb i 0) p.nodes (cond (eqb i 1) p.links (cond (eqb i 2) p.junctions (cond (eqb i 3) p.heights p.refs)))
 
 -- word k of the member j
 abbrev pub count_of : ℕ → List (List ℕ) → ℕ → ℕ
@@ -62,25 +69,17 @@ bare_cell y = memory y [] [] [] [] []
 abbrev pub counts_in : Ynd → PerList
 counts_in y = per_list y.node_count y.link_count y.junction_count y.heightmap_count y.ref_count
 
--- the smaller of two numbers
-abbrev pub least : ℕ → ℕ → ℕ
-least a b = cond (ltb a b) a b
-
 -- what joining is refused for, by the entries and the lists' lengths
 unfoldable pub entry_causes : List (List ℕ) → List (List ℕ) → PerList → PerList → Ynd → PerList → ℕ → ℕ → List Cause
 entry_causes ws nodes lens haves y sizes area room =
-    when (is_some (first_with (areas_of ws nodes) area)) 18 0
-    ∷ when (over_set (bare ws ++ (bare_cell y ∷ []))) 14 0
-    ∷ when (ltb (lack_for ws lens haves y sizes) 5) 7 (lack_for ws lens haves y sizes)
-    ∷ when (leb room (length ws)) 7 10
-    ∷ []
+    when (is_some (first_with (areas_of ws nodes) area)) AreaTaken
+    ∷ when (over_set (bare ws ++ (bare_cell y ∷ []))) AtLimit
+    ∷ (lack_for ws lens haves y sizes ++ (when (leb room (length ws)) (TooShort lent.Members) ∷ []))
 
 -- the causes of a set made by hand, by its entries and the lists' lengths
 unfoldable pub list_causes : List (List ℕ) → ℕ → ℕ → ℕ → ℕ → ℕ → List Cause
 list_causes ws nodes links junctions heights refs =
-    when (over_set (bare ws)) 14 0
-    ∷ when (ltb (lack_of ws nodes links junctions heights refs) 5) 7 (lack_of ws nodes links junctions heights refs)
-    ∷ []
+    when (over_set (bare ws)) AtLimit ∷ lack_of ws nodes links junctions heights refs
 
 -- where a part of `room` entries from `start` on ends in a list of `len`
 unfoldable pub part_end : ℕ → ℕ → ℕ → ℕ

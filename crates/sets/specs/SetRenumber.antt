@@ -1,18 +1,16 @@
 -- T-09: renumbering one member, with the correction of the others' links, and write-then-read of one member.
 use Rattle.std.specs.Prelude.{ℕ, Bool, false, cond, List, [], ◌∷◌, map, eqb, get_or, set}
 use Rattle.std.proofs.Math.Option.{Option, none, some}
-use Rattle.numbers.specs.Refusals.{decided, unless}
-use Rattle.numbers.specs.declared.answer.Answer.{Answer}
-use Rattle.numbers.specs.declared.answer.Answer.TheVariants.{Done, Refused}
+use Rattle.numbers.specs.Refusals.{Answer, decided}
 use Rattle.cells.specs.Order.{Old, new_number}
 use Rattle.cells.specs.Memory.{Memory, memory}
 use Rattle.cells.specs.Cell.{Link, Node, Cell, old_nodes, renumber_cell}
 use Rattle.cells.specs.Renumber.{Renumbered, over, renumber}
 use Rattle.cells.specs.WriteRead.{Both, write_read_of}
-use Rattle.cells.specs.declared.write.Written.{Written}
-use Rattle.cells.specs.declared.write.Written.TheVariants as written
 use Rattle.sets.specs.Members.{cell_at, areas, member_for, map_from}
-use Rattle.sets.specs.MemberList.{member_at, cells_of, member_causes}
+use Rattle.sets.specs.MemberList.{member_at, cells_of, member_causes, unless}
+use Rattle.std.specs.Prelude.{Result, Ok, Err}
+use Rattle.numbers.specs.declared.refusal.Refusal.{Refusal}
 
 -- ---- which links are corrected
 
@@ -85,14 +83,14 @@ pub record SetRenumbered : Type 0 where
 
 -- a refused renumbering changes no member
 abbrev pub members_after : Answer → List Memory → ℕ → Memory → List Memory
-members_after Done ms j m = set (map_from (correct_memory (change_of (cells_of ms) j)) 0 ms) j m
-members_after (Refused cause place) ms j m = ms
+members_after (Ok _) ms j m = set (map_from (correct_memory (change_of (cells_of ms) j)) 0 ms) j m
+members_after (Err cause) ms j m = ms
 
 abbrev pub renumbered_in : List Memory → ℕ → Renumbered → SetRenumbered
 renumbered_in ms j r = record { answer = r.answer; members = members_after r.answer ms j r.memory; places = r.places }
 
-abbrev pub not_renumbered : List Memory → List ℕ → ℕ → ℕ → SetRenumbered
-not_renumbered ms places cause place = record { answer = Refused cause place; members = ms; places = places }
+abbrev pub not_renumbered : List Memory → List ℕ → Refusal → SetRenumbered
+not_renumbered ms places cause = record { answer = Err cause; members = ms; places = places }
 
 -- 13, 14; else as the cell's own renumbering answers
 unfoldable pub renumber_in : List Memory → ℕ → ℕ → List ℕ → SetRenumbered
@@ -102,15 +100,15 @@ renumber_in ms j scratch places =
 
 -- what a write-then-read answers, and the members and the section after it
 pub record SetBoth : Type 0 where
-  pub answer : Written
+  pub answer : Result ℕ Refusal
   pub members : List Memory
   pub section : List ℕ
 
 abbrev pub both_in : List Memory → ℕ → Both → SetBoth
 both_in ms j b = record { answer = b.answer; members = set ms j b.memory; section = b.section }
 
-abbrev pub not_written : List Memory → List ℕ → ℕ → ℕ → SetBoth
-not_written ms section cause place = record { answer = written.Refused cause place; members = ms; section = section }
+abbrev pub not_written : List Memory → List ℕ → Refusal → SetBoth
+not_written ms section cause = record { answer = Err cause; members = ms; section = section }
 
 -- 13, 14; else as the cell's own write-then-read answers
 unfoldable pub write_read_in : List Memory → ℕ → List ℕ → SetBoth

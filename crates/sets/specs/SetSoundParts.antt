@@ -16,6 +16,8 @@ use Rattle.sets.specs.SetRenumber.{is_member}
 use Rattle.sets.specs.CellSet.{CellSet, ynd_of, members_of, holds_list}
 use Rattle.sets.specs.Leave.{start_of}
 use Rattle.sets.specs.SetParts.{count_of, Holding, bare}
+use Rattle.numbers.specs.declared.refusal.Refusal.TheVariants.{TooShort, AtLimit}
+use Rattle.numbers.specs.declared.refusal.Lent.TheVariants as lent
 
 -- all of the first n
 unfoldable pub all_below : (ℕ → Bool) → ℕ → Bool
@@ -73,11 +75,11 @@ indexed_to numbers (suc k) s = indexed (numbers k) 0 (indexed_to numbers k s)
 
 unfoldable pub entries_causes : List (List ℕ) → ℕ → ℕ → ℕ → ℕ → List Cause
 entries_causes ws nodes links refs room =
-    when (over_set (bare ws)) 14 0
-    ∷ when (not (holds_list 10 15 ws nodes)) 7 0
-    ∷ when (not (holds_list 11 16 ws links)) 7 1
-    ∷ when (not (holds_list 14 19 ws refs)) 7 4
-    ∷ when (ltb room 65536) 7 6
+    when (over_set (bare ws)) AtLimit
+    ∷ when (not (holds_list 10 15 ws nodes)) (TooShort lent.Nodes)
+    ∷ when (not (holds_list 11 16 ws links)) (TooShort lent.Links)
+    ∷ when (not (holds_list 14 19 ws refs)) (TooShort lent.Refs)
+    ∷ when (ltb room 65536) (TooShort lent.Scratch)
     ∷ []
 
 abbrev pub cells_in : CellSet → List Cell

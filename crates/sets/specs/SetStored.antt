@@ -9,13 +9,14 @@ use Rattle.sets.specs.MemberList.{member_at}
 use Rattle.sets.specs.CellSet.{CellSet, word, members_of, set_causes}
 use Rattle.sets.specs.Leave.{start_of}
 use Rattle.sets.specs.Join.{entry_of, per_list}
+use Rattle.numbers.specs.declared.refusal.Refusal.TheVariants.{NoSuchPlace}
 
 abbrev pub member_in : CellSet → ℕ → Memory
 member_in y j = member_at (members_of y) j
 
 -- 13 no such member; 14 and 7 a set made by hand
 unfoldable pub ask_causes : CellSet → ℕ → List Cause
-ask_causes y j = when (leb (length y.members) j) 13 0 ∷ set_causes y
+ask_causes y j = when (leb (length y.members) j) NoSuchPlace ∷ set_causes y
 
 -- a member's entry with another `Ynd`; the sizes of its parts stay
 abbrev pub entry_with : Ynd → List ℕ → List ℕ

@@ -5,7 +5,6 @@ ghost use Rattle.sets.specs.Members.{member_for};
 ghost use Rattle.sets.specs.SetParts.{named_of, Holding, areas_of};
 
 use crate::entry::{MemberWords, word_at};
-use crate::named::Named;
 use cells::area::{belongs_to, own_area};
 use cells::node::NodeWords;
 
@@ -14,38 +13,27 @@ pub(crate) fn fill_areas(members: &[MemberWords], nodes: &[NodeWords], areas: &m
     requires { (length members.now ≤ length areas.old) × Holding 10 15 members.now (length nodes.now) }
     ensures { take (length members.now) areas.new ≡ areas_of members.now nodes.now }
 {
-    let mut start: usize = 0;
-    let mut i = 0;
-    while i < members.len() {
-        let n = word_at(members[i], 10);
-        let room = word_at(members[i], 15);
-        areas[i] = own_area(&nodes[start..], n);
-        start += room;
-        i += 1;
+    let mut start = 0;
+    for (i, w) in members.iter().enumerate() {
+        areas[i] = own_area(&nodes[start..], word_at(*w, 10));
+        start += word_at(*w, 15);
     }
 }
 
 // The first of the areas that is this one.
-fn first_with(areas: &[u16], area: u16) -> Named
+fn first_with(areas: &[u16], area: u16) -> Option<usize>
     ensures { result ≡ named_of (first_with areas.now area) }
 {
-    let mut i = 0;
-    while i < areas.len() {
-        if areas[i] == area {
-            return Named::Member(i);
-        }
-        i += 1;
-    }
-    Named::Nobody
+    areas.iter().position(|a| *a == area)
 }
 
 // The member that a link of this area in the member i names. Its cell's own rule has its say first.
-pub(crate) fn member_named(areas: &[u16], i: usize, area: u16) -> Named
+pub(crate) fn member_named(areas: &[u16], i: usize, area: u16) -> Option<usize>
     requires { i < length areas.now }
     ensures { result ≡ named_of (member_for areas.now i area) }
 {
     if belongs_to(areas[i], area) {
-        return Named::Member(i);
+        return Some(i);
     }
     first_with(areas, area)
 }

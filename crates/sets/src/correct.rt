@@ -3,17 +3,14 @@ ghost use Rattle.std.specs.Prelude.{◌≡◌, true, map, ℕ, ◌≤◌, ◌<�
 ghost use Rattle.std.proofs.Math.Option.{Option};
 ghost use Rattle.cells.specs.Lookup.{first_with};
 ghost use Rattle.cells.specs.Order.{Old};
-ghost use Rattle.cells.specs.Renumber.{over};
 ghost use Rattle.sets.specs.SetRenumber.{is_member};
-ghost use Rattle.sets.specs.CellSet.{words_at, total};
-ghost use Rattle.sets.specs.Leave.{start_of};
 ghost use Rattle.sets.specs.SetParts.{Holding, areas_of, named_of};
 ghost use Rattle.sets.specs.CorrectParts.{Table, Tells, relabelled, change_in, part_corrected};
 ghost use Rattle.sets.specs.RenumberMember.{correct_parts};
 
 use crate::entry::{MemberWords, word_at};
-use crate::named::{Named, member_with};
-use crate::parts::count_before;
+use crate::named::member_with;
+use crate::parts::{count_before, own_entries};
 use cells::area::{belongs_to, own_area};
 use cells::link::LinkWords;
 use cells::node::NodeWords;
@@ -29,26 +26,14 @@ fn relabel(w: LinkWords, area: u16, table: &[u32]) -> LinkWords
     w
 }
 
-// The first `count` links.
-fn relabel_all(links: &mut [LinkWords], count: usize, area: u16, table: &[u32])
-    requires { (count ≤ length links.old) × (65536 ≤ length table.now) × Table table.now }
-    ensures { (o : Old) → Tells o table.now → links.new ≡ over (map (relabelled o area)) count links.old }
+// All these links.
+fn relabel_all(links: &mut [LinkWords], area: u16, table: &[u32])
+    requires { (65536 ≤ length table.now) × Table table.now }
+    ensures { (o : Old) → Tells o table.now → links.new ≡ map (relabelled o area) links.old }
 {
-    let mut i = 0;
-    while i < count {
-        let w = links[i];
-        links[i] = relabel(w, area, table);
-        i += 1;
+    for w in links.iter_mut() {
+        *w = relabel(*w, area, table);
     }
-}
-
-// Where the part of the member i starts, in a list of `len` entries that holds all parts.
-fn start_in(members: &[MemberWords], size: usize, i: usize, len: usize) -> usize
-    requires { (size < 20) × (i ≤ length members.now) × (length members.now ≤ 9)
-        × (total (words_at size members.now) ≤ len) }
-    ensures { (result ≡ start_of size members.now i) × (result ≤ len) }
-{
-    count_before(members, size, i)
 }
 
 // The area of the member i.
@@ -56,17 +41,16 @@ fn area_of_member(members: &[MemberWords], nodes: &[NodeWords], i: usize) -> u16
     requires { (i < length members.now) × (length members.now ≤ 9) × Holding 10 15 members.now (length nodes.now) }
     ensures { result ≡ get_or (areas_of members.now nodes.now) i 0 }
 {
-    let start = start_in(members, 15, i, nodes.len());
-    let n = word_at(members[i], 10);
-    own_area(&nodes[start..], n)
+    let own = own_entries(members, 10, 15, i, nodes);
+    own_area(own, own.len())
 }
 
-fn is_member(n: Named, j: usize) -> bool
+fn is_member(n: Option<usize>, j: usize) -> bool
     ensures { (r : Option ℕ) → n ≡ named_of r → result ≡ is_member j r }
 {
     match n {
-        Named::Member(k) => k == j,
-        Named::Nobody => false,
+        Some(k) => k == j,
+        None => false,
     }
 }
 
@@ -94,9 +78,9 @@ fn correct_member(
     if belongs_to(area_of_member(members, nodes, i), area) {
         return;
     }
-    let start = start_in(members, 16, i, links.len());
+    let start = count_before(members, 16, i);
     let count = word_at(members[i], 11);
-    relabel_all(&mut links[start..], count, area, table);
+    relabel_all(&mut links[start..start + count], area, table);
 }
 
 // The links of all members but the member j, by a table of the new numbers. Nothing is to be done where j is not the
@@ -117,9 +101,7 @@ pub(crate) fn correct_others(
     if !is_member(member_with(members, nodes, area), j) {
         return;
     }
-    let mut i = 0;
-    while i < members.len() {
+    for i in 0..members.len() {
         correct_member(members, nodes, links, table, i, j, area);
-        i += 1;
     }
 }

@@ -1,86 +1,53 @@
 // A walk that crosses the members of a set (T-09).
 ghost use Rattle.std.specs.Prelude.{◌≡◌, ◌≤◌, ◌<◌, ◌++◌, List, [], ◌∷◌, ℕ, leb, length, drop};
-ghost use Rattle.numbers.specs.Refusals.{decided};
-ghost use Rattle.numbers.specs.declared.answer.Answer.TheVariants.{Done};
+ghost use Rattle.numbers.specs.Refusals.{decided, done};
 ghost use Rattle.walks.specs.Claim.{places};
 ghost use Rattle.sets.specs.CellSet.{cell_set};
 ghost use Rattle.sets.specs.Crossing.{location};
 ghost use Rattle.sets.specs.CrossingCall.{crossing_left};
+ghost use Rattle.sets.specs.SetParts.{count_of};
 ghost use Rattle.sets.specs.CrossMember.{cross_member};
-ghost use Rattle.sets.specs.CrossParts.{trail_in, Walking, crossed_of, visits_over, start_causes};
+ghost use Rattle.sets.specs.WorldParts.{trail_of};
+ghost use Rattle.sets.specs.CrossParts.{crossed_of, visits_over, start_causes};
 
 use crate::areas::fill_areas;
-use crate::cross::{Cross, step_in};
+use crate::cross::Location;
 use crate::entry::{MemberWords, word_at};
 use crate::room::{holds_list, over_set};
+use crate::world::World;
 use cells::link::LinkWords;
 use cells::node::NodeWords;
-use numbers::answer::Answer;
+use numbers::refusal::{Lent, Refusal};
 use walks::walk::{End, Walked};
 
 // A node visited: its member and its place there.
 pub type LocationWords = [u32; 2];
 
-// The end of a crossing walk, and how many nodes it visits.
-#[derive(Clone, Copy)]
-struct Crossed {
-    end: End,
-    count: usize,
-}
-
 // How many nodes a crossing walk visits. Nothing is stored.
-fn nodes_visited(
-    areas: &[u16],
-    members: &[MemberWords],
-    nodes: &[NodeWords],
-    links: &[LinkWords],
-    member: usize,
-    place: usize,
-    choices: &[u8],
-) -> usize
-    requires { Walking areas.now members.now nodes.now links.now (location member place) }
+fn nodes_visited(set: &World, member: usize, place: usize, choices: &[u8]) -> usize
+    requires { (member < length set.now.members.now) × (place < count_of 10 set.now.members.now member) }
     ensures { result
-        ≡ length (places (trail_in members.now nodes.now links.now choices.now (location member place))) }
+        ≡ length (places (trail_of set.now choices.now (location member place))) }
 {
-    let mut i = member;
-    let mut p = place;
-    let mut k = 0;
-    while k < choices.len() {
-        let b = choices[k] as usize;
-        let x = step_in(areas, members, nodes, links, i, p, b);
-        match x {
-            Cross::To(j, q) => {
-                i = j;
-                p = q;
-                k += 1;
-            }
-            Cross::Stop(_) => {
-                return k + 1;
-            }
+    let mut here = Location { member, place };
+    for (k, choice) in choices.iter().enumerate() {
+        match set.step_in(here.member, here.place, *choice) {
+            Ok(next) => here = next,
+            Err(_) => return k + 1,
         }
     }
-    k + 1
+    choices.len() + 1
 }
 
 // Whether the nodes visited go into a list of `room` entries. They are counted only where there are as many choices.
-fn has_room(
-    areas: &[u16],
-    members: &[MemberWords],
-    nodes: &[NodeWords],
-    links: &[LinkWords],
-    member: usize,
-    place: usize,
-    choices: &[u8],
-    room: usize,
-) -> bool
-    requires { Walking areas.now members.now nodes.now links.now (location member place) }
-    ensures { result ≡ leb (length (places (trail_in members.now nodes.now links.now choices.now
-        (location member place)))) room }
+fn has_room(set: &World, member: usize, place: usize, choices: &[u8], room: usize) -> bool
+    requires { (member < length set.now.members.now) × (place < count_of 10 set.now.members.now member) }
+    ensures { result ≡ leb (length (places (trail_of set.now choices.now (location member place)))) room }
 {
     if choices.len() < room {
         return true;
     }
-    nodes_visited(areas, members, nodes, links, member, place, choices) <= room
+    nodes_visited(set, member, place, choices) <= room
 }
 
 // An entry of the visited list.
@@ -93,47 +60,32 @@ fn location_words(i: usize, p: usize) -> LocationWords
 
 // Stores the nodes visited.
 fn store(
-    areas: &[u16],
-    members: &[MemberWords],
-    nodes: &[NodeWords],
-    links: &[LinkWords],
+    set: &World,
     member: usize,
     place: usize,
     choices: &[u8],
     visited: &mut [LocationWords],
-) -> Crossed
-    requires { Walking areas.now members.now nodes.now links.now (location member place)
-        × (length (places (trail_in members.now nodes.now links.now choices.now (location member place)))
+) -> Walked
+    requires { (member < length set.now.members.now) × (place < count_of 10 set.now.members.now member)
+        × (length (places (trail_of set.now choices.now (location member place)))
         ≤ length visited.old) }
-    ensures { (result ≡ crossed_of (trail_in members.now nodes.now links.now choices.now (location member place)))
+    ensures { (result ≡ crossed_of (trail_of set.now choices.now (location member place)))
         × (visited.new
-        ≡ visits_over (trail_in members.now nodes.now links.now choices.now (location member place)) visited.old) }
+        ≡ visits_over (trail_of set.now choices.now (location member place)) visited.old) }
 {
-    let mut i = member;
-    let mut p = place;
-    let mut k = 0;
-    while k < choices.len() {
-        visited[k] = location_words(i, p);
-        let b = choices[k] as usize;
-        let x = step_in(areas, members, nodes, links, i, p, b);
-        match x {
-            Cross::To(j, q) => {
-                i = j;
-                p = q;
-                k += 1;
-            }
-            Cross::Stop(e) => {
-                return Crossed {
-                    end: e,
-                    count: k + 1,
-                };
-            }
+    let mut here = Location { member, place };
+    for (k, choice) in choices.iter().enumerate() {
+        visited[k] = location_words(here.member, here.place);
+        match set.step_in(here.member, here.place, *choice) {
+            Ok(next) => here = next,
+            Err(end) => return Walked { end, count: k + 1 },
         }
     }
-    visited[k] = location_words(i, p);
-    Crossed {
+    let last = choices.len();
+    visited[last] = location_words(here.member, here.place);
+    Walked {
         end: End::Done,
-        count: k + 1,
+        count: last + 1,
     }
 }
 
@@ -144,25 +96,25 @@ fn start_answer(
     links: usize,
     member: usize,
     place: usize,
-) -> Answer
+) -> Result<(), Refusal>
     ensures { result ≡ decided (start_causes members.now nodes links (location member place)) }
 {
     if members.len() <= member {
-        return Answer::Refused(13, 0);
+        return Err(Refusal::NoSuchPlace);
     }
     if word_at(members[member], 10) <= place {
-        return Answer::Refused(13, 0);
+        return Err(Refusal::NoSuchPlace);
     }
     if over_set(members) {
-        return Answer::Refused(14, 0);
+        return Err(Refusal::AtLimit);
     }
     if !holds_list(members, 10, 15, nodes) {
-        return Answer::Refused(7, 0);
+        return Err(Refusal::TooShort(Lent::Nodes));
     }
     if !holds_list(members, 11, 16, links) {
-        return Answer::Refused(7, 1);
+        return Err(Refusal::TooShort(Lent::Links));
     }
-    Answer::Done
+    Ok(())
 }
 
 // The walk, where nothing refuses its start.
@@ -174,8 +126,8 @@ fn walk_started(
     place: usize,
     choices: &[u8],
     visited: &mut [LocationWords],
-) -> Walked
-    requires { Done ≡ decided (start_causes members.now (length nodes.now) (length links.now)
+) -> Result<Walked, Refusal>
+    requires { done ≡ decided (start_causes members.now (length nodes.now) (length links.now)
         (location member place)) }
     ensures { (junctions : List (List ℕ)) (heights : List ℕ) (refs : List (List ℕ))
         → crossing_left result visited.new
@@ -185,17 +137,16 @@ fn walk_started(
     let m = members.len();
     let mut all = [0u16; 9];
     fill_areas(members, nodes, &mut all);
-    let areas = &all[0..m];
-    let room = visited.len();
-    if !has_room(areas, members, nodes, links, member, place, choices, room) {
-        return Walked::Refused(7, 8);
+    let set = World {
+        areas: &all[..m],
+        members,
+        nodes,
+        links,
+    };
+    if !has_room(&set, member, place, choices, visited.len()) {
+        return Err(Refusal::TooShort(Lent::List));
     }
-    let t = store(
-        areas, members, nodes, links, member, place, choices, visited,
-    );
-    let end = t.end;
-    let count = t.count;
-    Walked::Ended(end, count)
+    Ok(store(&set, member, place, choices, visited))
 }
 
 // A walk from a member and a place in it, by a byte a choice, that goes on in the member that a link names, whatever
@@ -208,14 +159,12 @@ pub fn crossing_walk(
     place: usize,
     choices: &[u8],
     visited: &mut [LocationWords],
-) -> Walked
+) -> Result<Walked, Refusal>
     ensures { (junctions : List (List ℕ)) (heights : List ℕ) (refs : List (List ℕ))
         → crossing_left result visited.new
         ≡ cross_member (cell_set members.now nodes.now links.now junctions heights refs) choices.now
         (location member place) visited.old }
 {
-    match start_answer(members, nodes.len(), links.len(), member, place) {
-        Answer::Refused(cause, at) => Walked::Refused(cause, at),
-        Answer::Done => walk_started(members, nodes, links, member, place, choices, visited),
-    }
+    start_answer(members, nodes.len(), links.len(), member, place)?;
+    walk_started(members, nodes, links, member, place, choices, visited)
 }

@@ -6,12 +6,16 @@ ghost use Rattle.sets.specs.Lent.{Lies};
 ghost use Rattle.sets.specs.MemberEdit.{set_edited, edit_member, put_words};
 
 use crate::entry::MemberWords;
-use crate::member::{Opened, held, open_member, store_ynd};
+use crate::member::{held, open_member, store_ynd};
 use cells::truncate::{truncate_junctions, truncate_nodes, truncate_refs};
-use numbers::answer::Answer;
+use numbers::refusal::Refusal;
 
 // The member's first `count` nodes alone; none of its entries is touched.
-pub fn truncate_nodes_member(members: &mut [MemberWords], member: usize, count: usize) -> Answer
+pub fn truncate_nodes_member(
+    members: &mut [MemberWords],
+    member: usize,
+    count: usize,
+) -> Result<(), Refusal>
     ensures { (nodes links junctions refs : List (List ℕ)) (heights : List ℕ)
         → Lies 15 members.old nodes → Lies 16 members.old links
         → Lies 17 members.old junctions → Lies 18 members.old heights
@@ -21,19 +25,18 @@ pub fn truncate_nodes_member(members: &mut [MemberWords], member: usize, count: 
         (λ m. truncate_nodes m count) }
 {
     let lens = held(members);
-    let o = open_member(members, lens, member);
-    match o {
-        Opened::Refused(cause, place) => Answer::Refused(cause, place),
-        Opened::At(p) => {
-            let r = truncate_nodes(p.ynd, count);
-            store_ynd(members, member, r.ynd);
-            r.answer
-        }
-    }
+    let p = open_member(members, lens, member)?;
+    let next = truncate_nodes(p.ynd, count)?;
+    store_ynd(members, member, next);
+    Ok(())
 }
 
 // Its first `count` junctions alone.
-pub fn truncate_junctions_member(members: &mut [MemberWords], member: usize, count: usize) -> Answer
+pub fn truncate_junctions_member(
+    members: &mut [MemberWords],
+    member: usize,
+    count: usize,
+) -> Result<(), Refusal>
     ensures { (nodes links junctions refs : List (List ℕ)) (heights : List ℕ)
         → Lies 15 members.old nodes → Lies 16 members.old links
         → Lies 17 members.old junctions → Lies 18 members.old heights
@@ -43,19 +46,18 @@ pub fn truncate_junctions_member(members: &mut [MemberWords], member: usize, cou
         (λ m. truncate_junctions m count) }
 {
     let lens = held(members);
-    let o = open_member(members, lens, member);
-    match o {
-        Opened::Refused(cause, place) => Answer::Refused(cause, place),
-        Opened::At(p) => {
-            let r = truncate_junctions(p.ynd, count);
-            store_ynd(members, member, r.ynd);
-            r.answer
-        }
-    }
+    let p = open_member(members, lens, member)?;
+    let next = truncate_junctions(p.ynd, count)?;
+    store_ynd(members, member, next);
+    Ok(())
 }
 
 // Its first `count` refs alone.
-pub fn truncate_refs_member(members: &mut [MemberWords], member: usize, count: usize) -> Answer
+pub fn truncate_refs_member(
+    members: &mut [MemberWords],
+    member: usize,
+    count: usize,
+) -> Result<(), Refusal>
     ensures { (nodes links junctions refs : List (List ℕ)) (heights : List ℕ)
         → Lies 15 members.old nodes → Lies 16 members.old links
         → Lies 17 members.old junctions → Lies 18 members.old heights
@@ -65,15 +67,10 @@ pub fn truncate_refs_member(members: &mut [MemberWords], member: usize, count: u
         (λ m. truncate_refs m count) }
 {
     let lens = held(members);
-    let o = open_member(members, lens, member);
-    match o {
-        Opened::Refused(cause, place) => Answer::Refused(cause, place),
-        Opened::At(p) => {
-            let r = truncate_refs(p.ynd, count);
-            store_ynd(members, member, r.ynd);
-            r.answer
-        }
-    }
+    let p = open_member(members, lens, member)?;
+    let next = truncate_refs(p.ynd, count)?;
+    store_ynd(members, member, next);
+    Ok(())
 }
 
 // The member's own words; its counts of entries stay.
@@ -84,7 +81,7 @@ pub fn put_words_member(
     vehicles: u32,
     peds: u32,
     unknowns: [u32; 7],
-) -> Answer
+) -> Result<(), Refusal>
     ensures { (nodes links junctions refs : List (List ℕ)) (heights : List ℕ)
         → Lies 15 members.old nodes → Lies 16 members.old links
         → Lies 17 members.old junctions → Lies 18 members.old heights
@@ -94,16 +91,11 @@ pub fn put_words_member(
         (λ m. put_words m vft vehicles peds unknowns) }
 {
     let lens = held(members);
-    let o = open_member(members, lens, member);
-    match o {
-        Opened::Refused(cause, place) => Answer::Refused(cause, place),
-        Opened::At(p) => {
-            let a = p.ynd.set_vft(vft);
-            let b = a.set_vehicle_node_count(vehicles);
-            let c = b.set_ped_node_count(peds);
-            let next = c.set_unknowns(unknowns);
-            store_ynd(members, member, next);
-            Answer::Done
-        }
-    }
+    let p = open_member(members, lens, member)?;
+    let a = p.ynd.set_vft(vft);
+    let b = a.set_vehicle_node_count(vehicles);
+    let c = b.set_ped_node_count(peds);
+    let next = c.set_unknowns(unknowns);
+    store_ynd(members, member, next);
+    Ok(())
 }

@@ -8,12 +8,12 @@ ghost use Rattle.sets.specs.Lent.{Lies};
 ghost use Rattle.sets.specs.MemberEdit.{set_edited, edit_member, heights_left, junctions_left};
 
 use crate::entry::MemberWords;
-use crate::member::{Opened, held, open_member, store_ynd};
+use crate::member::{held, open_member, store_ynd};
 use cells::add_junction::add_junction;
 use cells::junction::{JunctionWords, PathJunction};
 use cells::put::{put_height, put_junction};
 use cells::put_heightmap::put_heightmap;
-use numbers::answer::Answer;
+use numbers::refusal::Refusal;
 
 // A junction more in the member, with its heightmap.
 pub fn add_junction_member(
@@ -23,7 +23,7 @@ pub fn add_junction_member(
     member: usize,
     junction: PathJunction,
     values: &[u8],
-) -> Answer
+) -> Result<(), Refusal>
     ensures { (nodes links refs : List (List ℕ))
         → Lies 15 members.old nodes → Lies 16 members.old links
         → Lies 19 members.old refs
@@ -34,25 +34,16 @@ pub fn add_junction_member(
     let mut lens = held(members);
     lens.junctions = junctions.len();
     lens.heights = heights.len();
-    let o = open_member(members, lens, member);
-    match o {
-        Opened::Refused(cause, place) => Answer::Refused(cause, place),
-        Opened::At(p) => {
-            let ja = p.a.junctions;
-            let je = p.e.junctions;
-            let ha = p.a.heights;
-            let he = p.e.heights;
-            let r = add_junction(
-                p.ynd,
-                &mut junctions[ja..je],
-                &mut heights[ha..he],
-                junction,
-                values,
-            );
-            store_ynd(members, member, r.ynd);
-            r.answer
-        }
-    }
+    let p = open_member(members, lens, member)?;
+    let next = add_junction(
+        p.ynd,
+        &mut junctions[p.a.junctions..p.e.junctions],
+        &mut heights[p.a.heights..p.e.heights],
+        junction,
+        values,
+    )?;
+    store_ynd(members, member, next);
+    Ok(())
 }
 
 // The heightmap of a junction of the member.
@@ -65,7 +56,7 @@ pub fn put_heightmap_member(
     width: u8,
     height: u8,
     values: &[u8],
-) -> Answer
+) -> Result<(), Refusal>
     ensures { (nodes links refs : List (List ℕ))
         → Lies 15 members.old nodes → Lies 16 members.old links
         → Lies 19 members.old refs
@@ -76,27 +67,18 @@ pub fn put_heightmap_member(
     let mut lens = held(members);
     lens.junctions = junctions.len();
     lens.heights = heights.len();
-    let o = open_member(members, lens, member);
-    match o {
-        Opened::Refused(cause, place) => Answer::Refused(cause, place),
-        Opened::At(p) => {
-            let ja = p.a.junctions;
-            let je = p.e.junctions;
-            let ha = p.a.heights;
-            let he = p.e.heights;
-            let r = put_heightmap(
-                p.ynd,
-                &mut junctions[ja..je],
-                &mut heights[ha..he],
-                place,
-                width,
-                height,
-                values,
-            );
-            store_ynd(members, member, r.ynd);
-            r.answer
-        }
-    }
+    let p = open_member(members, lens, member)?;
+    let next = put_heightmap(
+        p.ynd,
+        &mut junctions[p.a.junctions..p.e.junctions],
+        &mut heights[p.a.heights..p.e.heights],
+        place,
+        width,
+        height,
+        values,
+    )?;
+    store_ynd(members, member, next);
+    Ok(())
 }
 
 // A junction of the member stored at its place.
@@ -106,7 +88,7 @@ pub fn put_junction_member(
     member: usize,
     place: usize,
     junction: PathJunction,
-) -> Answer
+) -> Result<(), Refusal>
     ensures { (nodes links refs : List (List ℕ)) (heights : List ℕ)
         → Lies 15 members.now nodes → Lies 16 members.now links
         → Lies 18 members.now heights → Lies 19 members.now refs
@@ -116,15 +98,13 @@ pub fn put_junction_member(
 {
     let mut lens = held(members);
     lens.junctions = junctions.len();
-    let o = open_member(members, lens, member);
-    match o {
-        Opened::Refused(cause, place) => Answer::Refused(cause, place),
-        Opened::At(p) => {
-            let a = p.a.junctions;
-            let e = p.e.junctions;
-            put_junction(p.ynd, &mut junctions[a..e], place, junction)
-        }
-    }
+    let p = open_member(members, lens, member)?;
+    put_junction(
+        p.ynd,
+        &mut junctions[p.a.junctions..p.e.junctions],
+        place,
+        junction,
+    )
 }
 
 // Value k of a junction of the member stored.
@@ -136,7 +116,7 @@ pub fn put_height_member(
     place: usize,
     k: usize,
     value: u8,
-) -> Answer
+) -> Result<(), Refusal>
     ensures { (nodes links refs : List (List ℕ))
         → Lies 15 members.now nodes → Lies 16 members.now links
         → Lies 19 members.now refs
@@ -147,22 +127,13 @@ pub fn put_height_member(
     let mut lens = held(members);
     lens.junctions = junctions.len();
     lens.heights = heights.len();
-    let o = open_member(members, lens, member);
-    match o {
-        Opened::Refused(cause, place) => Answer::Refused(cause, place),
-        Opened::At(p) => {
-            let ja = p.a.junctions;
-            let je = p.e.junctions;
-            let ha = p.a.heights;
-            let he = p.e.heights;
-            put_height(
-                p.ynd,
-                &junctions[ja..je],
-                &mut heights[ha..he],
-                place,
-                k,
-                value,
-            )
-        }
-    }
+    let p = open_member(members, lens, member)?;
+    put_height(
+        p.ynd,
+        &junctions[p.a.junctions..p.e.junctions],
+        &mut heights[p.a.heights..p.e.heights],
+        place,
+        k,
+        value,
+    )
 }

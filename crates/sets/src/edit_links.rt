@@ -8,13 +8,13 @@ ghost use Rattle.sets.specs.Lent.{Lies};
 ghost use Rattle.sets.specs.MemberEdit.{set_edited, edit_member, links_left};
 
 use crate::entry::MemberWords;
-use crate::member::{Opened, held, open_member, store_ynd};
+use crate::member::{held, open_member, store_ynd};
 use cells::add_link::add_link;
 use cells::link::{LinkWords, PathLink};
 use cells::node::NodeWords;
 use cells::put::put_link;
 use cells::put_links::put_links;
-use numbers::answer::Answer;
+use numbers::refusal::Refusal;
 
 // A link more of a node of the member, the last of the node's links.
 pub fn add_link_member(
@@ -24,7 +24,7 @@ pub fn add_link_member(
     member: usize,
     place: usize,
     link: PathLink,
-) -> Answer
+) -> Result<(), Refusal>
     ensures { (junctions refs : List (List ℕ)) (heights : List ℕ)
         → Lies 17 members.old junctions → Lies 18 members.old heights
         → Lies 19 members.old refs
@@ -35,19 +35,16 @@ pub fn add_link_member(
     let mut lens = held(members);
     lens.nodes = nodes.len();
     lens.links = links.len();
-    let o = open_member(members, lens, member);
-    match o {
-        Opened::Refused(cause, place) => Answer::Refused(cause, place),
-        Opened::At(p) => {
-            let na = p.a.nodes;
-            let ne = p.e.nodes;
-            let la = p.a.links;
-            let le = p.e.links;
-            let r = add_link(p.ynd, &mut nodes[na..ne], &mut links[la..le], place, link);
-            store_ynd(members, member, r.ynd);
-            r.answer
-        }
-    }
+    let p = open_member(members, lens, member)?;
+    let next = add_link(
+        p.ynd,
+        &mut nodes[p.a.nodes..p.e.nodes],
+        &mut links[p.a.links..p.e.links],
+        place,
+        link,
+    )?;
+    store_ynd(members, member, next);
+    Ok(())
 }
 
 // All links of a node of the member.
@@ -58,7 +55,7 @@ pub fn put_links_member(
     member: usize,
     place: usize,
     new: &[LinkWords],
-) -> Answer
+) -> Result<(), Refusal>
     ensures { (junctions refs : List (List ℕ)) (heights : List ℕ)
         → Lies 17 members.old junctions → Lies 18 members.old heights
         → Lies 19 members.old refs
@@ -69,19 +66,16 @@ pub fn put_links_member(
     let mut lens = held(members);
     lens.nodes = nodes.len();
     lens.links = links.len();
-    let o = open_member(members, lens, member);
-    match o {
-        Opened::Refused(cause, place) => Answer::Refused(cause, place),
-        Opened::At(p) => {
-            let na = p.a.nodes;
-            let ne = p.e.nodes;
-            let la = p.a.links;
-            let le = p.e.links;
-            let r = put_links(p.ynd, &mut nodes[na..ne], &mut links[la..le], place, new);
-            store_ynd(members, member, r.ynd);
-            r.answer
-        }
-    }
+    let p = open_member(members, lens, member)?;
+    let next = put_links(
+        p.ynd,
+        &mut nodes[p.a.nodes..p.e.nodes],
+        &mut links[p.a.links..p.e.links],
+        place,
+        new,
+    )?;
+    store_ynd(members, member, next);
+    Ok(())
 }
 
 // Link k of a node of the member stored.
@@ -93,7 +87,7 @@ pub fn put_link_member(
     place: usize,
     k: usize,
     link: PathLink,
-) -> Answer
+) -> Result<(), Refusal>
     ensures { (junctions refs : List (List ℕ)) (heights : List ℕ)
         → Lies 17 members.now junctions → Lies 18 members.now heights
         → Lies 19 members.now refs
@@ -104,15 +98,13 @@ pub fn put_link_member(
     let mut lens = held(members);
     lens.nodes = nodes.len();
     lens.links = links.len();
-    let o = open_member(members, lens, member);
-    match o {
-        Opened::Refused(cause, place) => Answer::Refused(cause, place),
-        Opened::At(p) => {
-            let na = p.a.nodes;
-            let ne = p.e.nodes;
-            let la = p.a.links;
-            let le = p.e.links;
-            put_link(p.ynd, &nodes[na..ne], &mut links[la..le], place, k, link)
-        }
-    }
+    let p = open_member(members, lens, member)?;
+    put_link(
+        p.ynd,
+        &nodes[p.a.nodes..p.e.nodes],
+        &mut links[p.a.links..p.e.links],
+        place,
+        k,
+        link,
+    )
 }

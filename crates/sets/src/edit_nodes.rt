@@ -6,13 +6,13 @@ ghost use Rattle.sets.specs.Lent.{Lies};
 ghost use Rattle.sets.specs.MemberEdit.{set_edited, edit_member, add_node_member, nodes_left};
 
 use crate::entry::MemberWords;
-use crate::member::{Opened, held, open_member, store_ynd};
+use crate::member::{held, open_member, store_ynd};
 use crate::parts::count_all;
 use cells::add_node::add_node;
 use cells::node::{NodeWords, PathNode};
 use cells::put::{put_node, set_position};
-use numbers::answer::Answer;
 use numbers::math::Vec3;
+use numbers::refusal::Refusal;
 
 // Whether the set has no room for one node more.
 fn set_full(members: &[MemberWords]) -> bool
@@ -31,7 +31,7 @@ pub fn add_node_member(
     member: usize,
     area_id: u16,
     position: Vec3,
-) -> Answer
+) -> Result<(), Refusal>
     ensures { (links junctions refs : List (List ℕ)) (heights : List ℕ)
         → Lies 16 members.old links → Lies 17 members.old junctions
         → Lies 18 members.old heights → Lies 19 members.old refs
@@ -40,24 +40,17 @@ pub fn add_node_member(
         member area_id position }
 {
     if members.len() <= member {
-        return Answer::Refused(13, 0);
+        return Err(Refusal::NoSuchPlace);
     }
     if set_full(members) {
-        return Answer::Refused(14, 0);
+        return Err(Refusal::AtLimit);
     }
     let mut lens = held(members);
     lens.nodes = nodes.len();
-    let o = open_member(members, lens, member);
-    match o {
-        Opened::Refused(cause, place) => Answer::Refused(cause, place),
-        Opened::At(p) => {
-            let a = p.a.nodes;
-            let e = p.e.nodes;
-            let r = add_node(p.ynd, &mut nodes[a..e], area_id, position);
-            store_ynd(members, member, r.ynd);
-            r.answer
-        }
-    }
+    let p = open_member(members, lens, member)?;
+    let next = add_node(p.ynd, &mut nodes[p.a.nodes..p.e.nodes], area_id, position)?;
+    store_ynd(members, member, next);
+    Ok(())
 }
 
 // A node of the member stored at its place.
@@ -67,7 +60,7 @@ pub fn put_node_member(
     member: usize,
     place: usize,
     n: PathNode,
-) -> Answer
+) -> Result<(), Refusal>
     ensures { (links junctions refs : List (List ℕ)) (heights : List ℕ)
         → Lies 16 members.now links → Lies 17 members.now junctions
         → Lies 18 members.now heights → Lies 19 members.now refs
@@ -77,15 +70,8 @@ pub fn put_node_member(
 {
     let mut lens = held(members);
     lens.nodes = nodes.len();
-    let o = open_member(members, lens, member);
-    match o {
-        Opened::Refused(cause, place) => Answer::Refused(cause, place),
-        Opened::At(p) => {
-            let a = p.a.nodes;
-            let e = p.e.nodes;
-            put_node(p.ynd, &mut nodes[a..e], place, n)
-        }
-    }
+    let p = open_member(members, lens, member)?;
+    put_node(p.ynd, &mut nodes[p.a.nodes..p.e.nodes], place, n)
 }
 
 // A node of the member with another position.
@@ -95,7 +81,7 @@ pub fn set_position_member(
     member: usize,
     place: usize,
     position: Vec3,
-) -> Answer
+) -> Result<(), Refusal>
     ensures { (links junctions refs : List (List ℕ)) (heights : List ℕ)
         → Lies 16 members.now links → Lies 17 members.now junctions
         → Lies 18 members.now heights → Lies 19 members.now refs
@@ -105,13 +91,6 @@ pub fn set_position_member(
 {
     let mut lens = held(members);
     lens.nodes = nodes.len();
-    let o = open_member(members, lens, member);
-    match o {
-        Opened::Refused(cause, place) => Answer::Refused(cause, place),
-        Opened::At(p) => {
-            let a = p.a.nodes;
-            let e = p.e.nodes;
-            set_position(p.ynd, &mut nodes[a..e], place, position)
-        }
-    }
+    let p = open_member(members, lens, member)?;
+    set_position(p.ynd, &mut nodes[p.a.nodes..p.e.nodes], place, position)
 }

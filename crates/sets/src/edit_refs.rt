@@ -7,11 +7,11 @@ ghost use Rattle.sets.specs.Lent.{Lies};
 ghost use Rattle.sets.specs.MemberEdit.{set_edited, edit_member, refs_left};
 
 use crate::entry::MemberWords;
-use crate::member::{Opened, held, open_member, store_ynd};
+use crate::member::{held, open_member, store_ynd};
 use cells::add_ref::add_ref;
 use cells::link::LinkWords;
 use cells::put::put_ref;
-use numbers::answer::Answer;
+use numbers::refusal::Refusal;
 use records::junction_ref::NodeJunctionRef;
 
 // A ref more in the member.
@@ -20,7 +20,7 @@ pub fn add_ref_member(
     refs: &mut [LinkWords],
     member: usize,
     r: NodeJunctionRef,
-) -> Answer
+) -> Result<(), Refusal>
     ensures { (nodes links junctions : List (List ℕ)) (heights : List ℕ)
         → Lies 15 members.old nodes → Lies 16 members.old links
         → Lies 17 members.old junctions → Lies 18 members.old heights
@@ -30,17 +30,10 @@ pub fn add_ref_member(
 {
     let mut lens = held(members);
     lens.refs = refs.len();
-    let o = open_member(members, lens, member);
-    match o {
-        Opened::Refused(cause, place) => Answer::Refused(cause, place),
-        Opened::At(p) => {
-            let a = p.a.refs;
-            let e = p.e.refs;
-            let r = add_ref(p.ynd, &mut refs[a..e], r);
-            store_ynd(members, member, r.ynd);
-            r.answer
-        }
-    }
+    let p = open_member(members, lens, member)?;
+    let next = add_ref(p.ynd, &mut refs[p.a.refs..p.e.refs], r)?;
+    store_ynd(members, member, next);
+    Ok(())
 }
 
 // A ref of the member stored at its place.
@@ -50,7 +43,7 @@ pub fn put_ref_member(
     member: usize,
     place: usize,
     r: NodeJunctionRef,
-) -> Answer
+) -> Result<(), Refusal>
     ensures { (nodes links junctions : List (List ℕ)) (heights : List ℕ)
         → Lies 15 members.now nodes → Lies 16 members.now links
         → Lies 17 members.now junctions → Lies 18 members.now heights
@@ -60,13 +53,6 @@ pub fn put_ref_member(
 {
     let mut lens = held(members);
     lens.refs = refs.len();
-    let o = open_member(members, lens, member);
-    match o {
-        Opened::Refused(cause, place) => Answer::Refused(cause, place),
-        Opened::At(p) => {
-            let a = p.a.refs;
-            let e = p.e.refs;
-            put_ref(p.ynd, &mut refs[a..e], place, r)
-        }
-    }
+    let p = open_member(members, lens, member)?;
+    put_ref(p.ynd, &mut refs[p.a.refs..p.e.refs], place, r)
 }

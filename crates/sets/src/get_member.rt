@@ -6,24 +6,17 @@ ghost use Rattle.sets.specs.MemberLookup.{ynd_member, get_node_member, get_link_
 ghost use Rattle.sets.specs.MemberLookup.{get_ref_member, get_junction_member, get_height_member};
 
 use crate::entry::MemberWords;
-use crate::member::{Opened, held, open_member};
-use cells::get::{
-    GotHeight, GotJunction, GotLink, GotNode, GotRef, get_height, get_junction, get_link, get_node,
-    get_ref,
-};
-use cells::junction::JunctionWords;
-use cells::link::LinkWords;
-use cells::node::NodeWords;
+use crate::member::{held, open_member};
+use cells::get::{get_height, get_junction, get_link, get_node, get_ref};
+use cells::junction::{JunctionWords, PathJunction};
+use cells::junction_ref::RefWords;
+use cells::link::{LinkWords, PathLink};
+use cells::node::{NodeWords, PathNode};
 use cells::ynd::Ynd;
+use numbers::refusal::Refusal;
+use records::junction_ref::NodeJunctionRef;
 
-// `Own` has the member's words and counts.
-#[derive(Clone, Copy)]
-pub enum GotYnd {
-    Own(Ynd),
-    Refused(u32, usize),
-}
-
-pub fn ynd_member(members: &[MemberWords], member: usize) -> GotYnd
+pub fn ynd_member(members: &[MemberWords], member: usize) -> Result<Ynd, Refusal>
     ensures { (nodes links junctions refs : List (List ℕ)) (heights : List ℕ)
         → Lies 15 members.now nodes → Lies 16 members.now links
         → Lies 17 members.now junctions → Lies 18 members.now heights
@@ -32,11 +25,8 @@ pub fn ynd_member(members: &[MemberWords], member: usize) -> GotYnd
         member }
 {
     let lens = held(members);
-    let o = open_member(members, lens, member);
-    match o {
-        Opened::Refused(cause, at) => GotYnd::Refused(cause, at),
-        Opened::At(p) => GotYnd::Own(p.ynd),
-    }
+    let p = open_member(members, lens, member)?;
+    Ok(p.ynd)
 }
 
 // A node of the member.
@@ -45,7 +35,7 @@ pub fn get_node_member(
     nodes: &[NodeWords],
     member: usize,
     place: usize,
-) -> GotNode
+) -> Result<PathNode, Refusal>
     ensures { (links junctions refs : List (List ℕ)) (heights : List ℕ)
         → Lies 16 members.now links → Lies 17 members.now junctions
         → Lies 18 members.now heights → Lies 19 members.now refs
@@ -54,15 +44,8 @@ pub fn get_node_member(
 {
     let mut lens = held(members);
     lens.nodes = nodes.len();
-    let o = open_member(members, lens, member);
-    match o {
-        Opened::Refused(cause, at) => GotNode::Refused(cause, at),
-        Opened::At(p) => {
-            let a = p.a.nodes;
-            let e = p.e.nodes;
-            get_node(p.ynd, &nodes[a..e], place)
-        }
-    }
+    let p = open_member(members, lens, member)?;
+    get_node(p.ynd, &nodes[p.a.nodes..p.e.nodes], place)
 }
 
 // Link k of a node of the member.
@@ -73,7 +56,7 @@ pub fn get_link_member(
     member: usize,
     place: usize,
     k: usize,
-) -> GotLink
+) -> Result<PathLink, Refusal>
     ensures { (junctions refs : List (List ℕ)) (heights : List ℕ)
         → Lies 17 members.now junctions → Lies 18 members.now heights
         → Lies 19 members.now refs
@@ -83,26 +66,23 @@ pub fn get_link_member(
     let mut lens = held(members);
     lens.nodes = nodes.len();
     lens.links = links.len();
-    let o = open_member(members, lens, member);
-    match o {
-        Opened::Refused(cause, at) => GotLink::Refused(cause, at),
-        Opened::At(p) => {
-            let na = p.a.nodes;
-            let ne = p.e.nodes;
-            let la = p.a.links;
-            let le = p.e.links;
-            get_link(p.ynd, &nodes[na..ne], &links[la..le], place, k)
-        }
-    }
+    let p = open_member(members, lens, member)?;
+    get_link(
+        p.ynd,
+        &nodes[p.a.nodes..p.e.nodes],
+        &links[p.a.links..p.e.links],
+        place,
+        k,
+    )
 }
 
 // A ref of the member.
 pub fn get_ref_member(
     members: &[MemberWords],
-    refs: &[LinkWords],
+    refs: &[RefWords],
     member: usize,
     place: usize,
-) -> GotRef
+) -> Result<NodeJunctionRef, Refusal>
     ensures { (nodes links junctions : List (List ℕ)) (heights : List ℕ)
         → Lies 15 members.now nodes → Lies 16 members.now links
         → Lies 17 members.now junctions → Lies 18 members.now heights
@@ -111,15 +91,8 @@ pub fn get_ref_member(
 {
     let mut lens = held(members);
     lens.refs = refs.len();
-    let o = open_member(members, lens, member);
-    match o {
-        Opened::Refused(cause, at) => GotRef::Refused(cause, at),
-        Opened::At(p) => {
-            let a = p.a.refs;
-            let e = p.e.refs;
-            get_ref(p.ynd, &refs[a..e], place)
-        }
-    }
+    let p = open_member(members, lens, member)?;
+    get_ref(p.ynd, &refs[p.a.refs..p.e.refs], place)
 }
 
 // A junction of the member.
@@ -128,7 +101,7 @@ pub fn get_junction_member(
     junctions: &[JunctionWords],
     member: usize,
     place: usize,
-) -> GotJunction
+) -> Result<PathJunction, Refusal>
     ensures { (nodes links refs : List (List ℕ)) (heights : List ℕ)
         → Lies 15 members.now nodes → Lies 16 members.now links
         → Lies 18 members.now heights → Lies 19 members.now refs
@@ -137,15 +110,8 @@ pub fn get_junction_member(
 {
     let mut lens = held(members);
     lens.junctions = junctions.len();
-    let o = open_member(members, lens, member);
-    match o {
-        Opened::Refused(cause, at) => GotJunction::Refused(cause, at),
-        Opened::At(p) => {
-            let a = p.a.junctions;
-            let e = p.e.junctions;
-            get_junction(p.ynd, &junctions[a..e], place)
-        }
-    }
+    let p = open_member(members, lens, member)?;
+    get_junction(p.ynd, &junctions[p.a.junctions..p.e.junctions], place)
 }
 
 // Value k of a junction of the member.
@@ -156,7 +122,7 @@ pub fn get_height_member(
     member: usize,
     place: usize,
     k: usize,
-) -> GotHeight
+) -> Result<u8, Refusal>
     ensures { (nodes links refs : List (List ℕ))
         → Lies 15 members.now nodes → Lies 16 members.now links
         → Lies 19 members.now refs
@@ -166,15 +132,12 @@ pub fn get_height_member(
     let mut lens = held(members);
     lens.junctions = junctions.len();
     lens.heights = heights.len();
-    let o = open_member(members, lens, member);
-    match o {
-        Opened::Refused(cause, at) => GotHeight::Refused(cause, at),
-        Opened::At(p) => {
-            let ja = p.a.junctions;
-            let je = p.e.junctions;
-            let ha = p.a.heights;
-            let he = p.e.heights;
-            get_height(p.ynd, &junctions[ja..je], &heights[ha..he], place, k)
-        }
-    }
+    let p = open_member(members, lens, member)?;
+    get_height(
+        p.ynd,
+        &junctions[p.a.junctions..p.e.junctions],
+        &heights[p.a.heights..p.e.heights],
+        place,
+        k,
+    )
 }

@@ -1,6 +1,5 @@
 // A cell handed back before it leaves its set (T-09).
 ghost use Rattle.std.specs.Prelude.{◌≡◌, [], length};
-ghost use Rattle.numbers.specs.declared.answer.Answer.TheVariants.{Refused};
 ghost use Rattle.cells.specs.Memory.{memory, left};
 ghost use Rattle.sets.specs.CellSet.{cell_set};
 ghost use Rattle.sets.specs.Join.{per_list};
@@ -9,15 +8,15 @@ ghost use Rattle.sets.specs.MemberParts.{part_memory, Giving};
 
 use crate::entry::MemberWords;
 use crate::join::{append, counts_of};
-use crate::member::{MemberPart, Opened, open_member};
-use crate::named::{Named, member_with};
+use crate::member::{MemberPart, open_member};
+use crate::named::member_with;
 use crate::parts::{PerList, lengths};
 use cells::junction::JunctionWords;
 use cells::link::LinkWords;
 use cells::node::NodeWords;
-use cells::room::lacking;
-use cells::ynd::{Outcome, Ynd};
-use numbers::answer::Answer;
+use cells::room::check_lent;
+use cells::ynd::Ynd;
+use numbers::refusal::Refusal;
 
 // The cell whose lists are the parts of p, into lists that have room for it.
 fn give_part(
@@ -76,15 +75,6 @@ fn give_part(
     );
 }
 
-fn not_given(cause: u32, place: usize, ynd: Ynd) -> Outcome
-    ensures { result ≡ record { answer = Refused cause place; ynd = ynd } }
-{
-    Outcome {
-        answer: Answer::Refused(cause, place),
-        ynd,
-    }
-}
-
 // The cell that `leave` would take out, copied into the caller's lists. A refusal changes nothing, and neither does
 // the set change: `leave` follows.
 pub fn hand_back(
@@ -101,46 +91,36 @@ pub fn hand_back(
     to_junctions: &mut [JunctionWords],
     to_heights: &mut [u8],
     to_refs: &mut [LinkWords],
-) -> Outcome
-    ensures { left result to_nodes.new to_links.new to_junctions.new to_heights.new to_refs.new
+) -> Result<Ynd, Refusal>
+    ensures { left ynd result to_nodes.new to_links.new to_junctions.new to_heights.new to_refs.new
         ≡ hand_back (cell_set members.now nodes.now links.now junctions.now heights.now refs.now)
         area (memory ynd to_nodes.old to_links.old to_junctions.old to_heights.old to_refs.old) }
 {
-    let Named::Member(j) = member_with(members, nodes, area) else {
-        return not_given(13, 0, ynd);
+    let Some(j) = member_with(members, nodes, area) else {
+        return Err(Refusal::NoSuchPlace);
     };
     let lens = lengths(nodes, links, junctions, heights, refs);
-    match open_member(members, lens, j) {
-        Opened::Refused(cause, place) => not_given(cause, place, ynd),
-        Opened::At(p) => {
-            let lack = lacking(
-                p.ynd,
-                to_nodes.len(),
-                to_links.len(),
-                to_junctions.len(),
-                to_heights.len(),
-                to_refs.len(),
-            );
-            if lack < 5 {
-                return not_given(7, lack, ynd);
-            }
-            give_part(
-                p,
-                nodes,
-                links,
-                junctions,
-                heights,
-                refs,
-                to_nodes,
-                to_links,
-                to_junctions,
-                to_heights,
-                to_refs,
-            );
-            Outcome {
-                answer: Answer::Done,
-                ynd: p.ynd,
-            }
-        }
-    }
+    let p = open_member(members, lens, j)?;
+    check_lent(
+        p.ynd,
+        to_nodes.len(),
+        to_links.len(),
+        to_junctions.len(),
+        to_heights.len(),
+        to_refs.len(),
+    )?;
+    give_part(
+        p,
+        nodes,
+        links,
+        junctions,
+        heights,
+        refs,
+        to_nodes,
+        to_links,
+        to_junctions,
+        to_heights,
+        to_refs,
+    );
+    Ok(p.ynd)
 }

@@ -5,14 +5,13 @@ ghost use Rattle.cells.specs.Lookup.{first_with, is_some};
 ghost use Rattle.cells.specs.Memory.{memory};
 ghost use Rattle.sets.specs.MemberList.{over_set};
 ghost use Rattle.sets.specs.CellSet.{cell_set};
-ghost use Rattle.sets.specs.Leave.{set_left};
-ghost use Rattle.sets.specs.Join.{stored, part_fits, lack_later, lack_for, join_cell};
-ghost use Rattle.sets.specs.SetParts.{named_of, areas_of, bare, bare_cell, counts_in, entry_causes, least};
+ghost use Rattle.sets.specs.Leave.{left_after};
+ghost use Rattle.sets.specs.Join.{stored, part_fits, lack_for, join_cell};
+ghost use Rattle.sets.specs.SetParts.{named_of, areas_of, bare, bare_cell, counts_in, entry_causes, of_list};
 
 use crate::entry::{MemberWords, entry_words};
-use crate::leave::SetChange;
-use crate::moves::{put_bytes, put_junctions, put_links, put_nodes};
-use crate::named::{Named, member_with};
+use crate::moves::put;
+use crate::named::member_with;
 use crate::parts::{PerList, count_all, lengths, starts_of};
 use crate::room::{any_over, holds_list};
 use cells::area::own_area;
@@ -21,7 +20,7 @@ use cells::link::LinkWords;
 use cells::node::NodeWords;
 use cells::room::over_limit;
 use cells::ynd::Ynd;
-use numbers::answer::Answer;
+use numbers::refusal::{Lent, Refusal};
 
 // Whether a list of `len` entries holds the members' parts and has room for one more, of `room` entries, which has
 // place for the first `count` entries of a list of `have`.
@@ -52,87 +51,52 @@ fn part_fits(
     room <= len - count_all(members, size)
 }
 
-// The first of junctions, heightmap values and refs that is too short for the cell, 5 if none is.
-fn lacking_later(
+// The same of the list i, in the order of the five.
+fn fits_at(
     members: &[MemberWords],
+    i: usize,
     lens: PerList,
     haves: PerList,
-    ynd: Ynd,
+    counts: PerList,
     sizes: PerList,
-) -> usize
-    requires { length members.now ≤ 9 }
-    ensures { result ≡ lack_later members.now lens haves ynd sizes }
+) -> bool
+    requires { (i < 5) × (length members.now ≤ 9) }
+    ensures { result ≡ part_fits (10 + i) (15 + i) members.now (of_list i lens) (of_list i haves)
+        (of_list i counts) (of_list i sizes) }
 {
-    if !part_fits(
-        members,
-        12,
-        17,
-        lens.junctions,
-        haves.junctions,
-        ynd.junction_count as usize,
-        sizes.junctions,
-    ) {
-        return 2;
-    }
-    if !part_fits(
-        members,
-        13,
-        18,
-        lens.heights,
-        haves.heights,
-        ynd.heightmap_count as usize,
-        sizes.heights,
-    ) {
-        return 3;
-    }
-    if !part_fits(
-        members,
-        14,
-        19,
-        lens.refs,
-        haves.refs,
-        ynd.ref_count as usize,
-        sizes.refs,
-    ) {
-        return 4;
-    }
-    5
+    let (len, have, count) = (lens.at(i), haves.at(i), counts.at(i));
+    part_fits(members, 10 + i, 15 + i, len, have, count, sizes.at(i))
 }
 
-// The first list that is too short for the cell, 5 if none is.
-fn lacking_for(
+// 7: whether each list has room for the cell.
+#[tactic(auto, using(numbers::proofs::Refusing::tested), unfolding(crate::specs::Join::lack_for))]
+fn check_fit(
     members: &[MemberWords],
     lens: PerList,
     haves: PerList,
     ynd: Ynd,
     sizes: PerList,
-) -> usize
+) -> Result<(), Refusal>
     requires { length members.now ≤ 9 }
-    ensures { result ≡ lack_for members.now lens haves ynd sizes }
+    ensures { result ≡ decided (lack_for members.now lens haves ynd sizes) }
 {
-    if !part_fits(
-        members,
-        10,
-        15,
-        lens.nodes,
-        haves.nodes,
-        ynd.node_count as usize,
-        sizes.nodes,
-    ) {
-        return 0;
+    let counts = counts_of(ynd);
+    if !fits_at(members, 0, lens, haves, counts, sizes) {
+        return Err(Refusal::TooShort(Lent::Nodes));
     }
-    if !part_fits(
-        members,
-        11,
-        16,
-        lens.links,
-        haves.links,
-        ynd.link_count as usize,
-        sizes.links,
-    ) {
-        return 1;
+    if !fits_at(members, 1, lens, haves, counts, sizes) {
+        return Err(Refusal::TooShort(Lent::Links));
     }
-    lacking_later(members, lens, haves, ynd, sizes)
+    if !fits_at(members, 2, lens, haves, counts, sizes) {
+        return Err(Refusal::TooShort(Lent::Junctions));
+    }
+    if !fits_at(members, 3, lens, haves, counts, sizes) {
+        return Err(Refusal::TooShort(Lent::Heightmap));
+    }
+    if !fits_at(members, 4, lens, haves, counts, sizes) {
+        return Err(Refusal::TooShort(Lent::Refs));
+    }
+    Ok(())
 }
 
 // Whether the set with the cell is over a limit.
@@ -155,21 +119,11 @@ fn over_with(members: &[MemberWords], ynd: Ynd) -> bool
     over_limit(ynd)
 }
 
-fn is_some(n: Named) -> bool
-    ensures { (xs : List ℕ) (a : ℕ) → n ≡ named_of (first_with xs a)
-        → result ≡ is_some (first_with xs a) }
-{
-    match n {
-        Named::Member(_) => true,
-        Named::Nobody => false,
-    }
-}
-
 // Whether a member has the area.
 fn has_area(members: &[MemberWords], nodes: &[NodeWords], area: u16) -> bool
     ensures { result ≡ is_some (first_with (areas_of members.now nodes.now) area) }
 {
-    is_some(member_with(members, nodes, area))
+    member_with(members, nodes, area).is_some()
 }
 
 // What joining answers, for a cell of this area. Nothing is stored.
@@ -182,30 +136,21 @@ fn join_answer(
     sizes: PerList,
     area: u16,
     room: usize,
-) -> Answer
+) -> Result<(), Refusal>
     ensures { result
         ≡ decided (entry_causes members.now nodes.now lens haves ynd sizes area room) }
 {
     if has_area(members, nodes, area) {
-        return Answer::Refused(18, 0);
+        return Err(Refusal::AreaTaken);
     }
     if over_with(members, ynd) {
-        return Answer::Refused(14, 0);
+        return Err(Refusal::AtLimit);
     }
-    let lack = lacking_for(members, lens, haves, ynd, sizes);
-    if lack < 5 {
-        return Answer::Refused(7, lack);
-    }
+    check_fit(members, lens, haves, ynd, sizes)?;
     if room <= members.len() {
-        return Answer::Refused(7, 10);
+        return Err(Refusal::TooShort(Lent::Members));
     }
-    Answer::Done
-}
-
-fn least_of(a: usize, b: usize) -> usize
-    ensures { result ≡ least a b }
-{
-    if a < b { a } else { b }
+    Ok(())
 }
 
 // What the cell's counts say of its lists, stored in the five lists from these places on.
@@ -244,11 +189,11 @@ pub(crate) fn append(
         × (refs.new
         ≡ stored at.refs (take counts.refs new_refs.now) refs.old) }
 {
-    put_nodes(nodes, at.nodes, new_nodes, counts.nodes);
-    put_links(links, at.links, new_links, counts.links);
-    put_junctions(junctions, at.junctions, new_junctions, counts.junctions);
-    put_bytes(heights, at.heights, new_heights, counts.heights);
-    put_links(refs, at.refs, new_refs, counts.refs);
+    put(nodes, at.nodes, &new_nodes[..counts.nodes]);
+    put(links, at.links, &new_links[..counts.links]);
+    put(junctions, at.junctions, &new_junctions[..counts.junctions]);
+    put(heights, at.heights, &new_heights[..counts.heights]);
+    put(refs, at.refs, &new_refs[..counts.refs]);
 }
 
 pub(crate) fn counts_of(ynd: Ynd) -> PerList
@@ -264,7 +209,8 @@ pub(crate) fn counts_of(ynd: Ynd) -> PerList
 }
 
 // A cell joins: what its counts say is copied behind the other members' parts. Its parts get `sizes` entries, at least
-// as many as its counts. The first `count` entries of `members` are the set's before it. A refusal changes nothing.
+// as many as its counts. The first `count` entries of `members` are the set's before it. Gives how many there are after
+// it; a refusal changes nothing.
 pub fn join(
     count: usize,
     members: &mut [MemberWords],
@@ -280,8 +226,8 @@ pub fn join(
     new_heights: &[u8],
     new_refs: &[LinkWords],
     sizes: PerList,
-) -> SetChange
-    ensures { set_left result.answer result.count (cell_set members.new nodes.new links.new
+) -> Result<usize, Refusal>
+    ensures { left_after (length (take count members.old)) result (cell_set members.new nodes.new links.new
         junctions.new heights.new refs.new)
         ≡ join_cell count (cell_set members.old nodes.old links.old junctions.old
         heights.old refs.old)
@@ -289,18 +235,12 @@ pub fn join(
         new_heights.now new_refs.now) sizes }
 {
     let room = members.len();
-    let held = least_of(count, room);
+    let held = count.min(room);
     let lens = lengths(nodes, links, junctions, heights, refs);
     let have = lengths(new_nodes, new_links, new_junctions, new_heights, new_refs);
     let area = own_area(new_nodes, ynd.node_count as usize);
-    let a = join_answer(&members[0..held], nodes, lens, have, ynd, sizes, area, room);
-    let Answer::Done = a else {
-        return SetChange {
-            answer: a,
-            count: held,
-        };
-    };
-    let at = starts_of(&members[0..held], held);
+    join_answer(&members[..held], nodes, lens, have, ynd, sizes, area, room)?;
+    let at = starts_of(&members[..held], held);
     let counts = counts_of(ynd);
     append(
         nodes,
@@ -317,8 +257,5 @@ pub fn join(
         new_refs,
     );
     members[held] = entry_words(ynd, sizes);
-    SetChange {
-        answer: Answer::Done,
-        count: held + 1,
-    }
+    Ok(held + 1)
 }

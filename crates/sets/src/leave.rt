@@ -2,24 +2,17 @@
 ghost use Rattle.std.specs.Prelude.{◌≡◌, ◌≤◌, ◌<◌, length};
 ghost use Rattle.sets.specs.CellSet.{cell_set};
 ghost use Rattle.sets.specs.SetParts.{Holds};
-ghost use Rattle.sets.specs.Leave.{set_left, without, leave_area};
+ghost use Rattle.sets.specs.Leave.{left_after, without, leave_area};
 
 use crate::entry::MemberWords;
-use crate::moves::{close_bytes, close_entries, close_junctions, close_links, close_nodes};
-use crate::named::{Named, member_with};
-use crate::parts::starts_of;
-use crate::room::set_answer;
+use crate::moves::close;
+use crate::named::member_with;
+use crate::parts::{lengths, starts_of};
+use crate::room::check_set;
 use cells::junction::JunctionWords;
 use cells::link::LinkWords;
 use cells::node::NodeWords;
-use numbers::answer::Answer;
-
-// A call's answer, and how many members the set has after it.
-#[derive(Clone, Copy)]
-pub struct SetChange {
-    pub answer: Answer,
-    pub count: usize,
-}
+use numbers::refusal::Refusal;
 
 // Closes the gap that the member j leaves in each list.
 fn take_out(
@@ -43,31 +36,16 @@ fn take_out(
     let a = starts_of(members, j);
     let e = starts_of(members, k);
     let t = starts_of(members, m);
-    let na = a.nodes;
-    let ne = e.nodes;
-    let nt = t.nodes;
-    close_nodes(nodes, na, ne, nt);
-    let la = a.links;
-    let le = e.links;
-    let lt = t.links;
-    close_links(links, la, le, lt);
-    let ja = a.junctions;
-    let je = e.junctions;
-    let jt = t.junctions;
-    close_junctions(junctions, ja, je, jt);
-    let ha = a.heights;
-    let he = e.heights;
-    let ht = t.heights;
-    close_bytes(heights, ha, he, ht);
-    let ra = a.refs;
-    let re = e.refs;
-    let rt = t.refs;
-    close_links(refs, ra, re, rt);
-    close_entries(members, j, k, m);
+    close(nodes, a.nodes, e.nodes, t.nodes);
+    close(links, a.links, e.links, t.links);
+    close(junctions, a.junctions, e.junctions, t.junctions);
+    close(heights, a.heights, e.heights, t.heights);
+    close(refs, a.refs, e.refs, t.refs);
+    close(members, j, k, m);
 }
 
-// Takes the member with this area out, the first joined of several. `members` are all entries of the set; after it the
-// first `count` are. A refusal changes nothing.
+// Takes the member with this area out, the first joined of several. `members` are all entries of the set; gives how
+// many of them are after it. A refusal changes nothing.
 pub fn leave(
     members: &mut [MemberWords],
     nodes: &mut [NodeWords],
@@ -76,37 +54,17 @@ pub fn leave(
     heights: &mut [u8],
     refs: &mut [LinkWords],
     area: u16,
-) -> SetChange
-    ensures { set_left result.answer result.count (cell_set members.new nodes.new links.new
+) -> Result<usize, Refusal>
+    ensures { left_after (length members.old) result (cell_set members.new nodes.new links.new
         junctions.new heights.new refs.new)
         ≡ leave_area (cell_set members.old nodes.old links.old junctions.old
         heights.old refs.old) area }
 {
     let m = members.len();
-    let f = member_with(members, nodes, area);
-    let Named::Member(j) = f else {
-        return SetChange {
-            answer: Answer::Refused(13, 0),
-            count: m,
-        };
+    let Some(j) = member_with(members, nodes, area) else {
+        return Err(Refusal::NoSuchPlace);
     };
-    let a = set_answer(
-        members,
-        nodes.len(),
-        links.len(),
-        junctions.len(),
-        heights.len(),
-        refs.len(),
-    );
-    let Answer::Done = a else {
-        return SetChange {
-            answer: a,
-            count: m,
-        };
-    };
+    check_set(members, lengths(nodes, links, junctions, heights, refs))?;
     take_out(members, nodes, links, junctions, heights, refs, j);
-    SetChange {
-        answer: Answer::Done,
-        count: m - 1,
-    }
+    Ok(m - 1)
 }

@@ -26,4 +26,5 @@ pub mod renumber;
 mod room;
 pub mod shown_member;
 pub mod soundness;
+mod world;
 pub mod write_member;

@@ -5,13 +5,18 @@ ghost use Rattle.sets.specs.Lent.{Lies};
 ghost use Rattle.sets.specs.MemberLookup.{area_id_member, node_member, junction_of_member};
 
 use crate::entry::MemberWords;
-use crate::member::{Opened, held, open_member};
+use crate::member::{held, open_member};
 use cells::link::LinkWords;
-use cells::lookup::{OwnArea, Place, area_id, junction_of, node};
+use cells::lookup::{area_id, junction_of, node};
 use cells::node::NodeWords;
+use numbers::refusal::Refusal;
 
 // The member's area, its first node's.
-pub fn area_id_member(members: &[MemberWords], nodes: &[NodeWords], member: usize) -> OwnArea
+pub fn area_id_member(
+    members: &[MemberWords],
+    nodes: &[NodeWords],
+    member: usize,
+) -> Result<Option<u32>, Refusal>
     ensures { (links junctions refs : List (List ℕ)) (heights : List ℕ)
         → Lies 16 members.now links → Lies 17 members.now junctions
         → Lies 18 members.now heights → Lies 19 members.now refs
@@ -20,15 +25,8 @@ pub fn area_id_member(members: &[MemberWords], nodes: &[NodeWords], member: usiz
 {
     let mut lens = held(members);
     lens.nodes = nodes.len();
-    let o = open_member(members, lens, member);
-    match o {
-        Opened::Refused(cause, at) => OwnArea::Refused(cause, at),
-        Opened::At(p) => {
-            let a = p.a.nodes;
-            let e = p.e.nodes;
-            area_id(p.ynd, &nodes[a..e])
-        }
-    }
+    let p = open_member(members, lens, member)?;
+    area_id(p.ynd, &nodes[p.a.nodes..p.e.nodes])
 }
 
 // The place of a number in the member.
@@ -37,7 +35,7 @@ pub fn node_member(
     nodes: &[NodeWords],
     member: usize,
     node_id: u16,
-) -> Place
+) -> Result<Option<usize>, Refusal>
     ensures { (links junctions refs : List (List ℕ)) (heights : List ℕ)
         → Lies 16 members.now links → Lies 17 members.now junctions
         → Lies 18 members.now heights → Lies 19 members.now refs
@@ -46,15 +44,8 @@ pub fn node_member(
 {
     let mut lens = held(members);
     lens.nodes = nodes.len();
-    let o = open_member(members, lens, member);
-    match o {
-        Opened::Refused(cause, at) => Place::Refused(cause, at),
-        Opened::At(p) => {
-            let a = p.a.nodes;
-            let e = p.e.nodes;
-            node(p.ynd, &nodes[a..e], node_id)
-        }
-    }
+    let p = open_member(members, lens, member)?;
+    node(p.ynd, &nodes[p.a.nodes..p.e.nodes], node_id)
 }
 
 // The member's junction of a node.
@@ -65,7 +56,7 @@ pub fn junction_of_member(
     member: usize,
     area_id: u16,
     node_id: u16,
-) -> Place
+) -> Result<Option<usize>, Refusal>
     ensures { (links junctions : List (List ℕ)) (heights : List ℕ)
         → Lies 16 members.now links → Lies 17 members.now junctions
         → Lies 18 members.now heights
@@ -75,15 +66,12 @@ pub fn junction_of_member(
     let mut lens = held(members);
     lens.nodes = nodes.len();
     lens.refs = refs.len();
-    let o = open_member(members, lens, member);
-    match o {
-        Opened::Refused(cause, at) => Place::Refused(cause, at),
-        Opened::At(p) => {
-            let na = p.a.nodes;
-            let ne = p.e.nodes;
-            let ra = p.a.refs;
-            let re = p.e.refs;
-            junction_of(p.ynd, &nodes[na..ne], &refs[ra..re], area_id, node_id)
-        }
-    }
+    let p = open_member(members, lens, member)?;
+    junction_of(
+        p.ynd,
+        &nodes[p.a.nodes..p.e.nodes],
+        &refs[p.a.refs..p.e.refs],
+        area_id,
+        node_id,
+    )
 }

@@ -1,14 +1,14 @@
 // A call on a member: what it is refused for before the cell's own causes, and where the member's parts lie.
-ghost use Rattle.std.specs.Prelude.{◌≡◌, ◌<◌, [], length, get_or, set};
+ghost use Rattle.std.specs.Prelude.{◌≡◌, ◌≤◌, ◌<◌, [], IfOk, length, get_or, set};
 ghost use Rattle.numbers.specs.Refusals.{decided};
 ghost use Rattle.sets.specs.SetStored.{entry_with};
 ghost use Rattle.sets.specs.MemberParts.{entry_ask, opened, held_by};
 
 use crate::entry::{MemberWords, entry_words, word_at, ynd_of};
 use crate::parts::{PerList, starts_of};
-use crate::room::set_answer;
+use crate::room::check_set;
 use cells::ynd::Ynd;
-use numbers::answer::Answer;
+use numbers::refusal::Refusal;
 
 // A member's `Ynd`, and where its parts start and end.
 #[derive(Clone, Copy)]
@@ -18,40 +18,34 @@ pub(crate) struct MemberPart {
     pub e: PerList,
 }
 
-#[derive(Clone, Copy)]
-pub(crate) enum Opened {
-    At(MemberPart),
-    Refused(u32, usize),
-}
-
 // What is asked for the member j of a set whose lists have these lengths.
-fn member_asked(members: &[MemberWords], lens: PerList, j: usize) -> Answer
+#[tactic(auto, using(numbers::proofs::Refusing::tested), unfolding(crate::specs::MemberParts::entry_ask))]
+fn check_member(members: &[MemberWords], lens: PerList, j: usize) -> Result<(), Refusal>
     ensures { result ≡ decided (entry_ask members.now lens j) }
 {
     if members.len() <= j {
-        return Answer::Refused(13, 0);
+        return Err(Refusal::NoSuchPlace);
     }
-    set_answer(
-        members,
-        lens.nodes,
-        lens.links,
-        lens.junctions,
-        lens.heights,
-        lens.refs,
-    )
+    check_set(members, lens)
 }
 
-pub(crate) fn open_member(members: &[MemberWords], lens: PerList, j: usize) -> Opened
-    ensures { result ≡ opened members.now lens j }
+pub(crate) fn open_member(
+    members: &[MemberWords],
+    lens: PerList,
+    j: usize,
+) -> Result<MemberPart, Refusal>
+    ensures value { result ≡ opened members.now lens j }
+    ensures inside { IfOk result (λ p. (j < length members.now) × ((p.a.nodes ≤ p.e.nodes) × (p.e.nodes ≤ lens.nodes))
+        × ((p.a.links ≤ p.e.links) × (p.e.links ≤ lens.links))
+        × ((p.a.junctions ≤ p.e.junctions) × (p.e.junctions ≤ lens.junctions))
+        × ((p.a.heights ≤ p.e.heights) × (p.e.heights ≤ lens.heights))
+        × ((p.a.refs ≤ p.e.refs) × (p.e.refs ≤ lens.refs))) }
 {
-    let asked = member_asked(members, lens, j);
-    if let Answer::Refused(cause, place) = asked {
-        return Opened::Refused(cause, place);
-    }
+    check_member(members, lens, j)?;
     let ynd = ynd_of(members[j]);
     let a = starts_of(members, j);
     let e = starts_of(members, j + 1);
-    Opened::At(MemberPart { ynd, a, e })
+    Ok(MemberPart { ynd, a, e })
 }
 
 // How many entries the parts in each list have together. With it a list that a call isn't lent counts as long enough.

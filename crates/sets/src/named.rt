@@ -9,12 +9,6 @@ use crate::entry::{MemberWords, word_at};
 use cells::area::own_area;
 use cells::node::NodeWords;
 
-#[derive(Clone, Copy)]
-pub enum Named {
-    Member(usize),
-    Nobody,
-}
-
 // The area of a member with n nodes, whose part of the nodes has `room` entries from `start` on.
 fn area_in(nodes: &[NodeWords], start: usize, room: usize, n: usize) -> u16
     requires { start ≤ length nodes.now }
@@ -38,19 +32,16 @@ fn part_end(start: usize, room: usize, len: usize) -> usize
 }
 
 // The member with this area.
-pub(crate) fn member_with(members: &[MemberWords], nodes: &[NodeWords], area: u16) -> Named
+pub(crate) fn member_with(members: &[MemberWords], nodes: &[NodeWords], area: u16) -> Option<usize>
     ensures { result ≡ named_of (first_with (areas_of members.now nodes.now) area) }
 {
     let mut start = 0;
-    let mut i = 0;
-    while i < members.len() {
-        let n = word_at(members[i], 10);
-        let room = word_at(members[i], 15);
-        if area_in(nodes, start, room, n) == area {
-            return Named::Member(i);
+    for (i, w) in members.iter().enumerate() {
+        let room = word_at(*w, 15);
+        if area_in(nodes, start, room, word_at(*w, 10)) == area {
+            return Some(i);
         }
         start = part_end(start, room, nodes.len());
-        i += 1;
     }
-    Named::Nobody
+    None
 }

@@ -1,8 +1,9 @@
 // Where a member's parts of the five lists start.
-ghost use Rattle.std.specs.Prelude.{◌≡◌, ◌≤◌, ◌<◌, length, take};
+ghost use Rattle.std.specs.Prelude.{◌≡◌, ◌≤◌, ◌<◌, length, take, drop};
 ghost use Rattle.sets.specs.CellSet.{words_at, total};
 ghost use Rattle.sets.specs.Join.{per_list};
-ghost use Rattle.sets.specs.SetParts.{starts_of};
+ghost use Rattle.sets.specs.Leave.{start_of};
+ghost use Rattle.sets.specs.SetParts.{starts_of, count_of, of_list, Holding};
 
 use crate::entry::{MemberWords, word_at};
 use cells::junction::JunctionWords;
@@ -17,6 +18,22 @@ pub struct PerList {
     pub junctions: usize,
     pub heights: usize,
     pub refs: usize,
+}
+
+impl PerList {
+    // The number for the list i, in their order.
+    pub(crate) fn at(self, i: usize) -> usize
+        requires { i < 5 }
+        ensures { result ≡ of_list i self }
+    {
+        match i {
+            0 => self.nodes,
+            1 => self.links,
+            2 => self.junctions,
+            3 => self.heights,
+            _ => self.refs,
+        }
+    }
 }
 
 // How many entries the five lists have.
@@ -44,11 +61,9 @@ pub(crate) fn count_before(members: &[MemberWords], k: usize, i: usize) -> usize
     requires { (k < 20) × (i ≤ length members.now) × (length members.now ≤ 9) }
     ensures { result ≡ total (take i (words_at k members.now)) }
 {
-    let mut s: usize = 0;
-    let mut t = 0;
-    while t < i {
-        s += word_at(members[t], k);
-        t += 1;
+    let mut s = 0;
+    for w in &members[..i] {
+        s += word_at(*w, k);
     }
     s
 }
@@ -58,8 +73,23 @@ pub(crate) fn count_all(members: &[MemberWords], k: usize) -> usize
     requires { (k < 20) × (length members.now ≤ 9) }
     ensures { result ≡ total (words_at k members.now) }
 {
-    let m = members.len();
-    count_before(members, k, m)
+    count_before(members, k, members.len())
+}
+
+// The member i's own entries of a list that holds all parts: as many as word k says, in the part of word `size`.
+pub(crate) fn own_entries<'a, T>(
+    members: &[MemberWords],
+    k: usize,
+    size: usize,
+    i: usize,
+    list: &'a [T],
+) -> &'a [T]
+    requires { (k < 20) × (size < 20) × (i < length members.now) × (length members.now ≤ 9)
+        × Holding k size members.now (length list.now) }
+    ensures { result.now ≡ take (count_of k members.now i) (drop (start_of size members.now i) list.now) }
+{
+    let start = count_before(members, size, i);
+    &list[start..start + word_at(members[i], k)]
 }
 
 // Where the parts of the member i start, or end if it is one behind the last.

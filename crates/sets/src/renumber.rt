@@ -10,15 +10,15 @@ ghost use Rattle.sets.specs.RenumberMember.{member_renumbered, renumbered_at, re
 
 use crate::correct::correct_others;
 use crate::entry::MemberWords;
-use crate::member::{Opened, open_member, store_ynd};
+use crate::member::{open_member, store_ynd};
 use crate::parts::{PerList, lengths};
 use cells::junction::JunctionWords;
 use cells::link::LinkWords;
 use cells::new_numbers::new_numbers;
 use cells::node::NodeWords;
 use cells::renumber::recalculate_node_indices;
-use cells::ynd::{Outcome, Ynd};
-use numbers::answer::Answer;
+use cells::ynd::Ynd;
+use numbers::refusal::Refusal;
 
 // The new numbers of the nodes from `start` on, n of them.
 fn numbers_at(
@@ -27,7 +27,7 @@ fn numbers_at(
     n: usize,
     scratch: &mut [u32],
     places: &mut [u32],
-) -> Answer
+) -> Result<(), Refusal>
     requires { start ≤ length nodes.now }
     ensures { numbers_left result scratch.new places.new
         ≡ numbers_call n (drop start nodes.now) scratch.old places.old }
@@ -46,15 +46,15 @@ fn renumber_part(
     refs: &mut [LinkWords],
     scratch: &mut [u32],
     places: &mut [u32],
-) -> Outcome
+) -> Result<Ynd, Refusal>
     requires { (at.nodes ≤ length nodes.old) × (at.links ≤ length links.old) × (at.refs ≤ length refs.old) }
-    ensures called { renumbered_by result (drop at.nodes nodes.new) (drop at.links links.new) junctions.now heights.now
-        (drop at.refs refs.new) places.new
+    ensures called { renumbered_by ynd result (drop at.nodes nodes.new) (drop at.links links.new) junctions.now
+        heights.now (drop at.refs refs.new) places.new
         ≡ renumber (memory ynd (drop at.nodes nodes.old) (drop at.links links.old) junctions.now heights.now
         (drop at.refs refs.old)) (length scratch.old) places.old }
     ensures before { (take at.nodes nodes.new ≡ take at.nodes nodes.old)
         × (take at.links links.new ≡ take at.links links.old) × (take at.refs refs.new ≡ take at.refs refs.old) }
-    ensures scratch_left { scratch_left result.answer scratch.old scratch.new }
+    ensures scratch_left { scratch_left result scratch.old scratch.new }
 {
     let na = at.nodes;
     let la = at.links;
@@ -84,7 +84,7 @@ fn renumber_held(
     scratch: &mut [u32],
     places: &mut [u32],
     j: usize,
-) -> Answer
+) -> Result<(), Refusal>
     requires { (j < length members.old) × (length members.old ≤ 9) × (over_limit ynd ≡ false)
         × (ynd ≡ ynd_of (get_or members.old j [])) × (at ≡ starts_of members.old j)
         × Holds (cell_set members.old nodes.old links.old junctions.now heights.now refs.old) }
@@ -95,16 +95,13 @@ fn renumber_held(
         (length scratch.old) places.old) }
     ensures scratch_left { scratch_left result scratch.old scratch.new }
 {
-    let a = numbers_at(nodes, at.nodes, ynd.node_count as usize, scratch, places);
-    let Answer::Done = a else {
-        return a;
-    };
+    numbers_at(nodes, at.nodes, ynd.node_count as usize, scratch, places)?;
     correct_others(members, nodes, links, scratch, j);
-    let r = renumber_part(
+    let next = renumber_part(
         ynd, at, nodes, links, junctions, heights, refs, scratch, places,
-    );
-    store_ynd(members, j, r.ynd);
-    Answer::Done
+    )?;
+    store_ynd(members, j, next);
+    Ok(())
 }
 
 // Renumbers a member as `recalculate_node_indices` does a cell, and corrects the links of the others that name its
@@ -120,7 +117,7 @@ pub fn renumber_member(
     scratch: &mut [u32],
     places: &mut [u32],
     member: usize,
-) -> Answer
+) -> Result<(), Refusal>
     ensures called { member_renumbered result
         (cell_set members.new nodes.new links.new junctions.now heights.now refs.new) places.new
         ≡ renumber_member (cell_set members.old nodes.old links.old junctions.now heights.now refs.old) member
@@ -128,10 +125,8 @@ pub fn renumber_member(
     ensures scratch_left { scratch_left result scratch.old scratch.new }
 {
     let lens = lengths(nodes, links, junctions, heights, refs);
-    match open_member(members, lens, member) {
-        Opened::Refused(cause, place) => Answer::Refused(cause, place),
-        Opened::At(p) => renumber_held(
-            p.ynd, p.a, members, nodes, links, junctions, heights, refs, scratch, places, member,
-        ),
-    }
+    let p = open_member(members, lens, member)?;
+    renumber_held(
+        p.ynd, p.a, members, nodes, links, junctions, heights, refs, scratch, places, member,
+    )
 }

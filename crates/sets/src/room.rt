@@ -7,25 +7,16 @@ ghost use Rattle.sets.specs.CellSet.{room_for, holds_list, lack_of};
 ghost use Rattle.sets.specs.SetParts.{bare, list_causes};
 
 use crate::entry::{MemberWords, word_at, ynd_of};
-use crate::parts::count_all;
+use crate::parts::{PerList, count_all};
 use cells::room::over_limit;
-use numbers::answer::Answer;
+use numbers::refusal::{Lent, Refusal};
 
 // Whether each member's part, of as many entries as word `size` says, has as many as word k says.
 fn rooms_hold(members: &[MemberWords], k: usize, size: usize) -> bool
     requires { (k < 20) × (size < 20) }
     ensures { result ≡ every (room_for k size) members.now }
 {
-    let mut i = 0;
-    while i < members.len() {
-        let n = word_at(members[i], k);
-        let room = word_at(members[i], size);
-        if room < n {
-            return false;
-        }
-        i += 1;
-    }
-    true
+    members.iter().all(|w| word_at(*w, k) <= word_at(*w, size))
 }
 
 // Whether a list of `len` entries holds all members' parts, and each part its member's entries.
@@ -39,48 +30,35 @@ pub(crate) fn holds_list(members: &[MemberWords], k: usize, size: usize, len: us
     count_all(members, size) <= len
 }
 
-// The first list that doesn't hold the members, 5 if all do.
-fn lacking_in(
-    members: &[MemberWords],
-    nodes: usize,
-    links: usize,
-    junctions: usize,
-    heights: usize,
-    refs: usize,
-) -> usize
+// 7: whether the lists, of these lengths, hold the members.
+#[tactic(auto, using(numbers::proofs::Refusing::tested), unfolding(crate::specs::CellSet::lack_of))]
+fn check_lists(members: &[MemberWords], lens: PerList) -> Result<(), Refusal>
     requires { length members.now ≤ 9 }
-    ensures { result ≡ lack_of members.now nodes links junctions heights refs }
+    ensures { result ≡ decided (lack_of members.now lens.nodes lens.links lens.junctions lens.heights lens.refs) }
 {
-    if !holds_list(members, 10, 15, nodes) {
-        return 0;
+    if !holds_list(members, 10, 15, lens.nodes) {
+        return Err(Refusal::TooShort(Lent::Nodes));
     }
-    if !holds_list(members, 11, 16, links) {
-        return 1;
+    if !holds_list(members, 11, 16, lens.links) {
+        return Err(Refusal::TooShort(Lent::Links));
     }
-    if !holds_list(members, 12, 17, junctions) {
-        return 2;
+    if !holds_list(members, 12, 17, lens.junctions) {
+        return Err(Refusal::TooShort(Lent::Junctions));
     }
-    if !holds_list(members, 13, 18, heights) {
-        return 3;
+    if !holds_list(members, 13, 18, lens.heights) {
+        return Err(Refusal::TooShort(Lent::Heightmap));
     }
-    if !holds_list(members, 14, 19, refs) {
-        return 4;
+    if !holds_list(members, 14, 19, lens.refs) {
+        return Err(Refusal::TooShort(Lent::Refs));
     }
-    5
+    Ok(())
 }
 
 // Whether a member's cell is over a limit of its own.
 pub(crate) fn any_over(members: &[MemberWords]) -> bool
     ensures { result ≡ any_over (bare members.now) }
 {
-    let mut i = 0;
-    while i < members.len() {
-        if over_limit(ynd_of(members[i])) {
-            return true;
-        }
-        i += 1;
-    }
-    false
+    members.iter().any(|w| over_limit(ynd_of(*w)))
 }
 
 // Whether the set is over a limit: nine members, 65,536 nodes together, or a member's own.
@@ -97,22 +75,12 @@ pub(crate) fn over_set(members: &[MemberWords]) -> bool
 }
 
 // 14 for a set over a limit, 7 for lists of these lengths that don't hold it.
-pub(crate) fn set_answer(
-    members: &[MemberWords],
-    nodes: usize,
-    links: usize,
-    junctions: usize,
-    heights: usize,
-    refs: usize,
-) -> Answer
-    ensures { result ≡ decided (list_causes members.now nodes links junctions heights refs) }
+#[tactic(auto, using(numbers::proofs::Refusing::tested), unfolding(crate::specs::SetParts::list_causes))]
+pub(crate) fn check_set(members: &[MemberWords], lens: PerList) -> Result<(), Refusal>
+    ensures { result ≡ decided (list_causes members.now lens.nodes lens.links lens.junctions lens.heights lens.refs) }
 {
     if over_set(members) {
-        return Answer::Refused(14, 0);
+        return Err(Refusal::AtLimit);
     }
-    let lack = lacking_in(members, nodes, links, junctions, heights, refs);
-    if lack < 5 {
-        return Answer::Refused(7, lack);
-    }
-    Answer::Done
+    check_lists(members, lens)
 }

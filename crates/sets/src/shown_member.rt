@@ -7,13 +7,13 @@ ghost use Rattle.sets.specs.MemberLookup.{shown_node_member, shown_junction_memb
 ghost use Rattle.sets.specs.MemberLookup.{shown_link_member};
 
 use crate::entry::MemberWords;
-use crate::member::{Opened, held, open_member};
+use crate::member::{held, open_member};
 use cells::junction::JunctionWords;
 use cells::link::LinkWords;
 use cells::node::NodeWords;
+use numbers::refusal::Refusal;
 use walks::shown::{
-    ShownJunction, ShownLink, ShownNode, ShownValues, shown_junction, shown_link, shown_node,
-    shown_values,
+    SeenJunction, SeenLink, SeenNode, shown_junction, shown_link, shown_node, shown_values,
 };
 
 // What a walk shows of a node of the member.
@@ -25,7 +25,7 @@ pub fn shown_node_member(
     refs: &[LinkWords],
     member: usize,
     place: usize,
-) -> ShownNode
+) -> Result<SeenNode, Refusal>
     ensures { (heights : List ℕ)
         → Lies 18 members.now heights
         → result ≡ shown_node_member (cell_set members.now nodes.now links.now junctions.now heights refs.now)
@@ -36,28 +36,15 @@ pub fn shown_node_member(
     lens.links = links.len();
     lens.junctions = junctions.len();
     lens.refs = refs.len();
-    let o = open_member(members, lens, member);
-    match o {
-        Opened::Refused(cause, at) => ShownNode::Refused(cause, at),
-        Opened::At(p) => {
-            let na = p.a.nodes;
-            let ne = p.e.nodes;
-            let la = p.a.links;
-            let le = p.e.links;
-            let ja = p.a.junctions;
-            let je = p.e.junctions;
-            let ra = p.a.refs;
-            let re = p.e.refs;
-            shown_node(
-                p.ynd,
-                &nodes[na..ne],
-                &links[la..le],
-                &junctions[ja..je],
-                &refs[ra..re],
-                place,
-            )
-        }
-    }
+    let p = open_member(members, lens, member)?;
+    shown_node(
+        p.ynd,
+        &nodes[p.a.nodes..p.e.nodes],
+        &links[p.a.links..p.e.links],
+        &junctions[p.a.junctions..p.e.junctions],
+        &refs[p.a.refs..p.e.refs],
+        place,
+    )
 }
 
 // What it shows of a junction.
@@ -66,7 +53,7 @@ pub fn shown_junction_member(
     junctions: &[JunctionWords],
     member: usize,
     place: usize,
-) -> ShownJunction
+) -> Result<SeenJunction, Refusal>
     ensures { (nodes links refs : List (List ℕ)) (heights : List ℕ)
         → Lies 15 members.now nodes → Lies 16 members.now links
         → Lies 18 members.now heights → Lies 19 members.now refs
@@ -75,15 +62,8 @@ pub fn shown_junction_member(
 {
     let mut lens = held(members);
     lens.junctions = junctions.len();
-    let o = open_member(members, lens, member);
-    match o {
-        Opened::Refused(cause, at) => ShownJunction::Refused(cause, at),
-        Opened::At(p) => {
-            let a = p.a.junctions;
-            let e = p.e.junctions;
-            shown_junction(p.ynd, &junctions[a..e], place)
-        }
-    }
+    let p = open_member(members, lens, member)?;
+    shown_junction(p.ynd, &junctions[p.a.junctions..p.e.junctions], place)
 }
 
 // A junction's heightmap values, copied.
@@ -94,7 +74,7 @@ pub fn shown_values_member(
     member: usize,
     place: usize,
     values: &mut [u8],
-) -> ShownValues
+) -> Result<usize, Refusal>
     ensures { (nodes links refs : List (List ℕ))
         → Lies 15 members.now nodes → Lies 16 members.now links
         → Lies 19 members.now refs
@@ -105,17 +85,14 @@ pub fn shown_values_member(
     let mut lens = held(members);
     lens.junctions = junctions.len();
     lens.heights = heights.len();
-    let o = open_member(members, lens, member);
-    match o {
-        Opened::Refused(cause, at) => ShownValues::Refused(cause, at),
-        Opened::At(p) => {
-            let ja = p.a.junctions;
-            let je = p.e.junctions;
-            let ha = p.a.heights;
-            let he = p.e.heights;
-            shown_values(p.ynd, &junctions[ja..je], &heights[ha..he], place, values)
-        }
-    }
+    let p = open_member(members, lens, member)?;
+    shown_values(
+        p.ynd,
+        &junctions[p.a.junctions..p.e.junctions],
+        &heights[p.a.heights..p.e.heights],
+        place,
+        values,
+    )
 }
 
 // What it shows of the link chosen.
@@ -126,7 +103,7 @@ pub fn shown_link_member(
     member: usize,
     place: usize,
     choice: u8,
-) -> ShownLink
+) -> Result<Option<SeenLink>, Refusal>
     ensures { (junctions refs : List (List ℕ)) (heights : List ℕ)
         → Lies 17 members.now junctions → Lies 18 members.now heights
         → Lies 19 members.now refs
@@ -136,15 +113,12 @@ pub fn shown_link_member(
     let mut lens = held(members);
     lens.nodes = nodes.len();
     lens.links = links.len();
-    let o = open_member(members, lens, member);
-    match o {
-        Opened::Refused(cause, at) => ShownLink::Refused(cause, at),
-        Opened::At(p) => {
-            let na = p.a.nodes;
-            let ne = p.e.nodes;
-            let la = p.a.links;
-            let le = p.e.links;
-            shown_link(p.ynd, &nodes[na..ne], &links[la..le], place, choice)
-        }
-    }
+    let p = open_member(members, lens, member)?;
+    shown_link(
+        p.ynd,
+        &nodes[p.a.nodes..p.e.nodes],
+        &links[p.a.links..p.e.links],
+        place,
+        choice,
+    )
 }

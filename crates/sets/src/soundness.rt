@@ -1,116 +1,71 @@
 // Whether a set is sound (T-09): each member is, and each link into a member names a node there.
 ghost use Rattle.std.specs.Prelude.{◌≡◌, ◌≤◌, ◌<◌, ◌&&◌, List, ℕ, length};
-ghost use Rattle.numbers.specs.Refusals.{decided};
-ghost use Rattle.numbers.specs.declared.answer.Answer.TheVariants.{Done};
+ghost use Rattle.numbers.specs.Refusals.{decided, done};
 ghost use Rattle.walks.specs.Sound.{sound as is_sound};
-ghost use Rattle.walks.specs.SoundCall.{verdict, indexed, sound_left};
+ghost use Rattle.walks.specs.SoundCall.{indexed, sound_left};
 ghost use Rattle.sets.specs.Members.{cell_at};
 ghost use Rattle.sets.specs.SetSound.{set_sound};
 ghost use Rattle.sets.specs.CellSet.{cell_set};
 ghost use Rattle.sets.specs.SetSoundCall.{set_sound_call};
-ghost use Rattle.sets.specs.SetParts.{areas_of};
-ghost use Rattle.sets.specs.SetSoundParts.{judged_at, numbers_of, SetHeld, indexed_to, entries_causes, cells_in};
+ghost use Rattle.sets.specs.SetParts.{Holding};
+ghost use Rattle.sets.specs.WorldParts.{set_of};
+ghost use Rattle.sets.specs.SetSoundParts.{judged_at, numbers_of, indexed_to, entries_causes, cells_in};
 
 use crate::areas::fill_areas;
 use crate::arrivals::members_meet;
 use crate::entry::{MemberWords, ynd_of};
 use crate::parts::count_before;
 use crate::room::{holds_list, over_set};
+use crate::world::World;
 use cells::link::LinkWords;
 use cells::node::NodeWords;
-use numbers::answer::Answer;
-use walks::sound::{Soundness, sound};
+use numbers::refusal::{Lent, Refusal};
+use walks::sound::sound;
 
 // Whether the member k is sound. The scratch then leads to its nodes.
-fn member_sound(
-    members: &[MemberWords],
-    nodes: &[NodeWords],
-    links: &[LinkWords],
-    refs: &[LinkWords],
-    k: usize,
-    scratch: &mut [u32],
-) -> bool
-    requires { SetHeld members.now nodes.now links.now refs.now × (k < length members.now)
+fn member_sound(set: &World, refs: &[LinkWords], k: usize, scratch: &mut [u32]) -> bool
+    requires { Holding 14 19 set.now.members.now (length refs.now) × (k < length set.now.members.now)
         × (65536 ≤ length scratch.old) }
     ensures { ((junctions : List (List ℕ)) (heights : List ℕ) → result
-        ≡ is_sound (cell_at (cells_in (cell_set members.now nodes.now links.now junctions heights refs.now)) k))
-        × (scratch.new ≡ indexed (numbers_of members.now nodes.now k) 0 scratch.old) }
+        ≡ is_sound (cell_at (cells_in (set_of set.now junctions heights refs.now)) k))
+        × (scratch.new ≡ indexed (numbers_of set.now.members.now set.now.nodes.now k) 0 scratch.old) }
 {
-    let ynd = ynd_of(members[k]);
-    let a = count_before(members, 15, k);
-    let c = count_before(members, 16, k);
-    let e = count_before(members, 19, k);
-    match sound(ynd, &nodes[a..], &links[c..], &refs[e..], scratch) {
-        Soundness::Sound => true,
-        Soundness::Unsound => false,
-        Soundness::Refused(_, _) => false,
+    let ynd = ynd_of(set.members[k]);
+    let a = count_before(set.members, 15, k);
+    let c = count_before(set.members, 16, k);
+    let e = count_before(set.members, 19, k);
+    match sound(ynd, &set.nodes[a..], &set.links[c..], &refs[e..], scratch) {
+        Ok(v) => v,
+        Err(_) => false,
     }
 }
 
 // Whether the member k is sound, and all links that name it name nodes of it.
-fn judge_member(
-    areas: &[u16],
-    members: &[MemberWords],
-    nodes: &[NodeWords],
-    links: &[LinkWords],
-    refs: &[LinkWords],
-    k: usize,
-    scratch: &mut [u32],
-) -> bool
-    requires { SetHeld members.now nodes.now links.now refs.now × (areas.now ≡ areas_of members.now nodes.now)
-        × (k < length members.now) × (65536 ≤ length scratch.old) }
+fn judge_member(set: &World, refs: &[LinkWords], k: usize, scratch: &mut [u32]) -> bool
+    requires { Holding 14 19 set.now.members.now (length refs.now)
+        × (k < length set.now.members.now) × (65536 ≤ length scratch.old) }
     ensures { ((junctions : List (List ℕ)) (heights : List ℕ) → result
-        ≡ judged_at (cells_in (cell_set members.now nodes.now links.now junctions heights refs.now))
-        (length members.now) k)
-        × (scratch.new ≡ indexed (numbers_of members.now nodes.now k) 0 scratch.old) }
+        ≡ judged_at (cells_in (set_of set.now junctions heights refs.now))
+        (length set.now.members.now) k)
+        × (scratch.new ≡ indexed (numbers_of set.now.members.now set.now.nodes.now k) 0 scratch.old) }
 {
-    if !member_sound(members, nodes, links, refs, k, scratch) {
-        return false;
-    }
-    members_meet(areas, members, nodes, links, scratch, k)
-}
-
-fn both(a: bool, b: bool) -> bool
-    ensures { result ≡ (a && b) }
-{
-    if a {
-        return b;
-    }
-    false
+    member_sound(set, refs, k, scratch) && members_meet(set, scratch, k)
 }
 
 // The same of each member. One that is not sound ends nothing, so that the scratch is known whatever the answer.
-fn judge_members(
-    areas: &[u16],
-    members: &[MemberWords],
-    nodes: &[NodeWords],
-    links: &[LinkWords],
-    refs: &[LinkWords],
-    scratch: &mut [u32],
-) -> bool
-    requires { SetHeld members.now nodes.now links.now refs.now × (areas.now ≡ areas_of members.now nodes.now)
+fn judge_members(set: &World, refs: &[LinkWords], scratch: &mut [u32]) -> bool
+    requires { Holding 14 19 set.now.members.now (length refs.now)
         × (65536 ≤ length scratch.old) }
     ensures { ((junctions : List (List ℕ)) (heights : List ℕ) → result
-        ≡ set_sound (cells_in (cell_set members.now nodes.now links.now junctions heights refs.now)))
-        × (scratch.new ≡ indexed_to (numbers_of members.now nodes.now) (length members.now) scratch.old) }
+        ≡ set_sound (cells_in (set_of set.now junctions heights refs.now)))
+        × (scratch.new
+        ≡ indexed_to (numbers_of set.now.members.now set.now.nodes.now) (length set.now.members.now) scratch.old) }
 {
     let mut good = true;
-    let mut k = 0;
-    while k < members.len() {
-        let b = judge_member(areas, members, nodes, links, refs, k, scratch);
-        good = both(good, b);
-        k += 1;
+    for k in 0..set.members.len() {
+        good &= judge_member(set, refs, k, scratch);
     }
     good
-}
-
-fn verdict_of(v: bool) -> Soundness
-    ensures { result ≡ verdict v }
-{
-    if v {
-        return Soundness::Sound;
-    }
-    Soundness::Unsound
 }
 
 // What the call is refused for, with a scratch of `room` entries.
@@ -120,25 +75,25 @@ fn sound_answer(
     links: usize,
     refs: usize,
     room: usize,
-) -> Answer
+) -> Result<(), Refusal>
     ensures { result ≡ decided (entries_causes members.now nodes links refs room) }
 {
     if over_set(members) {
-        return Answer::Refused(14, 0);
+        return Err(Refusal::AtLimit);
     }
     if !holds_list(members, 10, 15, nodes) {
-        return Answer::Refused(7, 0);
+        return Err(Refusal::TooShort(Lent::Nodes));
     }
     if !holds_list(members, 11, 16, links) {
-        return Answer::Refused(7, 1);
+        return Err(Refusal::TooShort(Lent::Links));
     }
     if !holds_list(members, 14, 19, refs) {
-        return Answer::Refused(7, 4);
+        return Err(Refusal::TooShort(Lent::Refs));
     }
     if room < 65536 {
-        return Answer::Refused(7, 6);
+        return Err(Refusal::TooShort(Lent::Scratch));
     }
-    Answer::Done
+    Ok(())
 }
 
 // The answer, where nothing refuses the call.
@@ -148,8 +103,8 @@ fn judge_set(
     links: &[LinkWords],
     refs: &[LinkWords],
     scratch: &mut [u32],
-) -> Soundness
-    requires { Done ≡ decided (entries_causes members.now (length nodes.now) (length links.now) (length refs.now)
+) -> Result<bool, Refusal>
+    requires { done ≡ decided (entries_causes members.now (length nodes.now) (length links.now) (length refs.now)
         (length scratch.old)) }
     ensures { (junctions : List (List ℕ)) (heights : List ℕ) → sound_left result scratch.new
         ≡ set_sound_call (cell_set members.now nodes.now links.now junctions heights refs.now) scratch.old }
@@ -157,8 +112,13 @@ fn judge_set(
     let m = members.len();
     let mut all = [0u16; 9];
     fill_areas(members, nodes, &mut all);
-    let v = judge_members(&all[0..m], members, nodes, links, refs, scratch);
-    verdict_of(v)
+    let set = World {
+        areas: &all[..m],
+        members,
+        nodes,
+        links,
+    };
+    Ok(judge_members(&set, refs, scratch))
 }
 
 // Whether a set is sound, whatever its junctions and heightmaps. The scratch then holds each member's numbers, one
@@ -171,12 +131,10 @@ pub fn set_sound(
     links: &[LinkWords],
     refs: &[LinkWords],
     scratch: &mut [u32],
-) -> Soundness
+) -> Result<bool, Refusal>
     ensures { (junctions : List (List ℕ)) (heights : List ℕ) → sound_left result scratch.new
         ≡ set_sound_call (cell_set members.now nodes.now links.now junctions heights refs.now) scratch.old }
 {
-    match sound_answer(members, nodes.len(), links.len(), refs.len(), scratch.len()) {
-        Answer::Refused(cause, at) => Soundness::Refused(cause, at),
-        Answer::Done => judge_set(members, nodes, links, refs, scratch),
-    }
+    sound_answer(members, nodes.len(), links.len(), refs.len(), scratch.len())?;
+    judge_set(members, nodes, links, refs, scratch)
 }

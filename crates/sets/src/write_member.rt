@@ -2,21 +2,22 @@
 ghost use Rattle.std.specs.Prelude.{◌≡◌, [], length};
 ghost use Rattle.records.specs.Put.{put};
 ghost use Rattle.cells.specs.Write.{left, write_call};
-ghost use Rattle.cells.specs.WriteRead.{write_read_of};
+ghost use Rattle.cells.specs.WriteRead.{write_read_of, written_of, ynd_after};
 ghost use Rattle.sets.specs.CellSet.{cell_set};
 ghost use Rattle.sets.specs.Join.{per_list};
 ghost use Rattle.sets.specs.MemberParts.{part_memory, PartsLie};
 ghost use Rattle.sets.specs.WriteMember.{set_written, write_read_member, write_member};
 
 use crate::entry::MemberWords;
-use crate::member::{Opened, open_member, store_ynd};
+use crate::member::{open_member, store_ynd};
 use crate::parts::{PerList, lengths};
 use cells::junction::JunctionWords;
 use cells::link::LinkWords;
 use cells::node::NodeWords;
-use cells::write::{Written, write};
+use cells::write::write;
 use cells::write_read::{WroteRead, write_then_read};
 use cells::ynd::Ynd;
+use numbers::refusal::Refusal;
 
 // The cell whose lists are the parts from a up to e.
 fn write_read_part(
@@ -29,12 +30,12 @@ fn write_read_part(
     heights: &mut [u8],
     refs: &mut [LinkWords],
     section: &mut [u8],
-) -> WroteRead
+) -> Result<WroteRead, Refusal>
     requires { PartsLie a e (per_list (length nodes.old) (length links.old)
         (length junctions.old) (length heights.old) (length refs.old)) }
     ensures { let b = write_read_of (part_memory ynd a e (cell_set [] nodes.old links.old
         junctions.old heights.old refs.old)) section.old in
-        (result.answer ≡ b.answer) × (result.ynd ≡ b.memory.ynd)
+        (written_of result ≡ b.answer) × (ynd_after ynd result ≡ b.memory.ynd)
         × (nodes.new ≡ put nodes.old a.nodes b.memory.nodes)
         × (links.new ≡ put links.old a.links b.memory.links)
         × (junctions.new ≡ put junctions.old a.junctions b.memory.junctions)
@@ -73,26 +74,19 @@ pub fn write_then_read_member(
     refs: &mut [LinkWords],
     section: &mut [u8],
     member: usize,
-) -> Written
+) -> Result<usize, Refusal>
     ensures { set_written result (cell_set members.new nodes.new links.new junctions.new
         heights.new refs.new) section.new
         ≡ write_read_member (cell_set members.old nodes.old links.old junctions.old
         heights.old refs.old) member section.old }
 {
     let lens = lengths(nodes, links, junctions, heights, refs);
-    let o = open_member(members, lens, member);
-    match o {
-        Opened::Refused(cause, place) => Written::Refused(cause, place),
-        Opened::At(p) => {
-            let r = write_read_part(
-                p.ynd, p.a, p.e, nodes, links, junctions, heights, refs, section,
-            );
-            if let Written::Wrote(_) = r.answer {
-                store_ynd(members, member, r.ynd);
-            }
-            r.answer
-        }
-    }
+    let p = open_member(members, lens, member)?;
+    let r = write_read_part(
+        p.ynd, p.a, p.e, nodes, links, junctions, heights, refs, section,
+    )?;
+    store_ynd(members, member, r.ynd);
+    Ok(r.written)
 }
 
 // The cell whose lists are the parts from a up to e.
@@ -106,7 +100,7 @@ fn write_part(
     heights: &[u8],
     refs: &[LinkWords],
     section: &mut [u8],
-) -> Written
+) -> Result<usize, Refusal>
     requires { PartsLie a e (per_list (length nodes.now) (length links.now)
         (length junctions.now) (length heights.now) (length refs.now)) }
     ensures { left result section.new
@@ -144,17 +138,14 @@ pub fn write_member(
     refs: &[LinkWords],
     section: &mut [u8],
     member: usize,
-) -> Written
+) -> Result<usize, Refusal>
     ensures { left result section.new
         ≡ write_member (cell_set members.now nodes.now links.now junctions.now
         heights.now refs.now) member section.old }
 {
     let lens = lengths(nodes, links, junctions, heights, refs);
-    let o = open_member(members, lens, member);
-    match o {
-        Opened::Refused(cause, place) => Written::Refused(cause, place),
-        Opened::At(p) => write_part(
-            p.ynd, p.a, p.e, nodes, links, junctions, heights, refs, section,
-        ),
-    }
+    let p = open_member(members, lens, member)?;
+    write_part(
+        p.ynd, p.a, p.e, nodes, links, junctions, heights, refs, section,
+    )
 }

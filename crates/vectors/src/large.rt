@@ -4,85 +4,35 @@
 //   writing;
 //   17 nodes, links, junctions, heightmap values and refs counted, 37 the length written, four bytes each;
 //   41 the bytes: place, stride and how many, four bytes each, and the value.
-ghost use Rattle.std.specs.Prelude.{◌<◌};
-
-use crate::parts::{after, answer_agrees, most, number_at, told};
-use cells::count::{Counted, Counts};
-use cells::node::NodeWords;
-use cells::write::Written;
-use cells::ynd::{Outcome, Ynd};
-use numbers::answer::Answer;
+use crate::parts::{after, agrees, answer_at, most, number_at, upto, upto_mut};
+use crate::room::{Cell, Room};
+use cells::count::Counts;
 use records::bytes::byte_at;
 use records::junction_ref::NodeJunctionRef;
 
-// The value at each of so many places that are there.
-fn set_bytes(section: &mut [u8], first: usize, stride: usize, times: usize, value: u8)
-    requires { stride < 4294967296 }
-{
-    let mut at = first;
-    for _ in 0..times {
-        if section.len() <= at {
-            return;
-        }
-        if 16777216 < at {
-            return;
-        }
-        section[at] = value;
-        at += stride;
+// The value at each of so many places that are there; with a stride of 0 they are one place.
+fn set_bytes(section: &mut [u8], p: &[u8]) {
+    let stride = number_at(p, 4);
+    let times = most(number_at(p, 8), if stride == 0 { 1 } else { section.len() });
+    let from = section.iter_mut().skip(number_at(p, 0));
+    for byte in from.step_by(stride.max(1)).take(times) {
+        *byte = byte_at(p, 12);
     }
 }
 
 fn set_all(section: &mut [u8], patches: &[u8]) {
     for p in patches.chunks_exact(13) {
-        set_bytes(
-            section,
-            number_at(p, 0),
-            number_at(p, 4),
-            number_at(p, 8),
-            byte_at(p, 12),
-        );
+        set_bytes(section, p);
     }
 }
 
+// By fields: `Counts` derives no `PartialEq`.
 fn same_counts(b: &[u8], k: Counts) -> bool {
-    if k.nodes != number_at(b, 17) {
-        return false;
-    }
-    if k.links != number_at(b, 21) {
-        return false;
-    }
-    if k.junctions != number_at(b, 25) {
-        return false;
-    }
-    if k.heights != number_at(b, 29) {
-        return false;
-    }
-    k.refs == number_at(b, 33)
-}
-
-fn counts_agree(b: &[u8], system: &[u8]) -> bool {
-    let c = cells::count::count(system, &system[0..0]);
-    match c {
-        Counted::Held(k) => {
-            if !told(b, 8, 0, 0) {
-                return false;
-            }
-            same_counts(b, k)
-        }
-        Counted::Refused(number, place) => told(b, 8, number, place),
-    }
-}
-
-fn length_agrees(b: &[u8], w: Written) -> bool {
-    match w {
-        Written::Wrote(n) => {
-            if !told(b, 14, 0, 0) {
-                return false;
-            }
-            n == number_at(b, 37)
-        }
-        Written::Refused(number, place) => told(b, 14, number, place),
-    }
+    k.nodes == number_at(b, 17)
+        && k.links == number_at(b, 21)
+        && k.junctions == number_at(b, 25)
+        && k.heights == number_at(b, 29)
+        && k.refs == number_at(b, 33)
 }
 
 fn bare_ref() -> NodeJunctionRef {
@@ -95,127 +45,41 @@ fn bare_ref() -> NodeJunctionRef {
 }
 
 // So many refs added, up to the first that is refused.
-fn add_refs(ynd: Ynd, refs: &mut [[u16; 4]], n: usize) -> Outcome {
-    let mut y = ynd;
+fn add_refs(cell: &mut Cell<'_>, n: usize) {
     for _ in 0..n {
-        let o = cells::add_ref::add_ref(y, refs, bare_ref());
-        let a = o.answer;
-        let Answer::Done = a else {
-            return o;
-        };
-        y = o.ynd;
-    }
-    Outcome {
-        answer: Answer::Done,
-        ynd: y,
+        if cell.add_ref(bare_ref()).is_err() {
+            return;
+        }
     }
 }
 
-fn written(
-    b: &[u8],
-    ynd: Ynd,
-    nodes: &[NodeWords],
-    links: &[[u16; 4]],
-    junctions: &[[u32; 6]],
-    heights: &[u8],
-    refs: &mut [[u16; 4]],
-    section: &mut [u8],
-) -> bool {
-    let o = add_refs(ynd, refs, number_at(b, 4));
-    let y = o.ynd;
-    length_agrees(
-        b,
-        cells::write::write(y, nodes, links, junctions, heights, refs, section),
-    )
-}
-
-fn read_alone(
-    system: &[u8],
-    nodes: &mut [NodeWords],
-    links: &mut [[u16; 4]],
-    junctions: &mut [[u32; 6]],
-    heights: &mut [u8],
-    refs: &mut [[u16; 4]],
-) -> Outcome {
-    cells::read::read(
-        Ynd::new(),
-        system,
-        &system[0..0],
-        nodes,
-        links,
-        junctions,
-        heights,
-        refs,
-    )
+fn written(b: &[u8], cell: &mut Cell<'_>, section: &mut [u8]) -> bool {
+    add_refs(cell, number_at(b, 4));
+    let w = cell.write(section);
+    agrees(answer_at(b, 14), w, |length| length == number_at(b, 37))
 }
 
 // The section is counted and read, and then written over.
-fn replayed(
-    b: &[u8],
-    section: &mut [u8],
-    nodes: &mut [NodeWords],
-    links: &mut [[u16; 4]],
-    junctions: &mut [[u32; 6]],
-    heights: &mut [u8],
-    refs: &mut [[u16; 4]],
-) -> bool {
-    let n = most(number_at(b, 0), section.len());
-    if !counts_agree(b, &section[0..n]) {
+fn replayed(b: &[u8], cell: &mut Cell<'_>, section: &mut [u8]) -> bool {
+    let system = upto(section, number_at(b, 0));
+    let counted = cells::count::count(system, &[]);
+    if !agrees(answer_at(b, 8), counted, |k| same_counts(b, k)) {
         return false;
     }
-    let o = read_alone(&section[0..n], nodes, links, junctions, heights, refs);
-    let a = o.answer;
-    if !answer_agrees(b, 11, a) {
-        return false;
-    }
-    let Answer::Done = a else {
-        return true;
-    };
-    let y = o.ynd;
-    written(b, y, nodes, links, junctions, heights, refs, section)
+    let read = cell.read(system, &[]);
+    agrees(answer_at(b, 11), read, |_| true) && (read.is_err() || written(b, cell, section))
 }
 
-fn made(
-    b: &[u8],
-    section: &mut [u8],
-    nodes: &mut [NodeWords],
-    links: &mut [[u16; 4]],
-    junctions: &mut [[u32; 6]],
-    heights: &mut [u8],
-    refs: &mut [[u16; 4]],
-) -> bool {
-    let n = most(number_at(b, 0), section.len());
-    set_all(&mut section[0..n], after(b, 41));
-    replayed(b, section, nodes, links, junctions, heights, refs)
+// Of any length: a check that knows 2,621,600 would count to it.
+fn made<const S: usize>(b: &[u8], cell: &mut Cell<'_>, section: &mut [u8; S]) -> bool {
+    set_all(upto_mut(section, number_at(b, 0)), after(b, 41));
+    replayed(b, cell, section)
 }
 
-// The section has room for 65,537 nodes.
-fn lent(
-    b: &[u8],
-    section: &mut [u8; 2621600],
-    nodes: &mut [NodeWords],
-    links: &mut [[u16; 4]],
-    junctions: &mut [[u32; 6]],
-    heights: &mut [u8],
-    refs: &mut [[u16; 4]],
-) -> bool {
-    made(b, section, nodes, links, junctions, heights, refs)
-}
-
+// The section has room for 65,537 nodes. Never inlined: the other records need no stack of 4 MB.
+#[inline(never)]
 pub fn large(b: &[u8]) -> bool {
     let mut section = [0u8; 2621600];
-    let mut nodes = [[0u32; 13]; 3900];
-    let mut links = [[0u16; 4]; 65600];
-    let mut junctions = [[0u32; 6]; 300];
-    let mut heights = [0u8; 66100];
-    let mut refs = [[0u16; 4]; 65537];
-    lent(
-        b,
-        &mut section,
-        &mut nodes,
-        &mut links,
-        &mut junctions,
-        &mut heights,
-        &mut refs,
-    )
+    let mut room = Room::<3900, 65600, 300, 66100, 65537>::new();
+    made(b, &mut room.cell(), &mut section)
 }

@@ -12,6 +12,7 @@ mod names;
 mod near;
 mod parts;
 mod replay;
+mod room;
 mod round_files;
 mod shortest;
 mod steps;

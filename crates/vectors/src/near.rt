@@ -1,21 +1,19 @@
 // T-01: the nodes within reach of a point, and the nearest, over nodes that the record gives by the bits of x and y.
-use crate::parts::{after, length_at, most, told};
+use crate::cell::same_places;
+use crate::parts::{after, agrees, answer_at, length_at, upto, upto_mut};
 use cells::node::NodeWords;
 use cells::ynd::Ynd;
-use reach::reach::{Listing, NearestNode};
+use reach::reach::NearestNode;
 use records::bytes::{byte_at, i16_at, u16_at, u32_at, u64_at};
 
 fn placed(b: &[u8]) -> NodeWords {
     [0, 0, u32_at(b, 0), u32_at(b, 4), 0, 0, 0, 0, 0, 0, 0, 0, 0]
 }
 
-// Eight bytes a node, for 64 nodes at most.
+// Eight bytes a node.
 fn place_nodes(nodes: &mut [NodeWords], b: &[u8]) {
-    if 64 < nodes.len() {
-        return;
-    }
-    for (i, node) in nodes.iter_mut().enumerate() {
-        *node = placed(after(b, 8 * i));
+    for (node, bits) in nodes.iter_mut().zip(b.chunks(8)) {
+        *node = placed(bits);
     }
 }
 
@@ -26,46 +24,18 @@ fn cell_of(node_count: u32, junction_count: u32) -> Ynd {
         vehicle_node_count: 0,
         ped_node_count: 0,
         unknowns: [0; 7],
-        node_count: node_count,
+        node_count,
         link_count: 0,
-        junction_count: junction_count,
+        junction_count,
         heightmap_count: 0,
         ref_count: 0,
     }
 }
 
-fn wide(x: u16) -> u32 {
-    x as u32
-}
-
 // The list has so many places, in this order (T-08); behind them it holds what it held.
 fn places_agree(places: &[u32], count: usize, expected: &[u8]) -> bool {
-    if 64 < places.len() {
-        return false;
-    }
-    for (i, place) in places.iter().enumerate() {
-        let held = if i < count {
-            wide(u16_at(after(expected, 2 * i), 0))
-        } else {
-            65535
-        };
-        if *place != held {
-            return false;
-        }
-    }
-    true
-}
-
-fn listing_agrees(b: &[u8], a: Listing) -> bool {
-    match a {
-        Listing::Places(count) => {
-            if !told(b, 18, 0, 0) {
-                return false;
-            }
-            count == length_at(b, 21)
-        }
-        Listing::Refused(number, place) => told(b, 18, number, place),
-    }
+    same_places(upto(places, count), expected)
+        && places.iter().skip(count).all(|place| *place == 65535)
 }
 
 fn listed(b: &[u8], nodes: &mut [NodeWords], places: &mut [u32]) -> bool {
@@ -73,16 +43,8 @@ fn listed(b: &[u8], nodes: &mut [NodeWords], places: &mut [u32]) -> bool {
     place_nodes(nodes, given);
     let ynd = cell_of(u32_at(b, 8), u32_at(b, 12));
     let a = reach::reach::within(ynd, nodes, i16_at(b, 0), i16_at(b, 2), u16_at(b, 4), places);
-    if !listing_agrees(b, a) {
-        return false;
-    }
-    places_agree(places, length_at(b, 21), after(given, 8 * length_at(b, 6)))
-}
-
-fn cut(b: &[u8], nodes: &mut [NodeWords], places: &mut [u32]) -> bool {
-    let n = most(length_at(b, 6), nodes.len());
-    let p = most(length_at(b, 16), places.len());
-    listed(b, &mut nodes[0..n], &mut places[0..p])
+    agrees(answer_at(b, 18), a, |count| count == length_at(b, 21))
+        && places_agree(places, length_at(b, 21), after(given, 8 * length_at(b, 6)))
 }
 
 // The places within reach.
@@ -91,42 +53,22 @@ fn cut(b: &[u8], nodes: &mut [NodeWords], places: &mut [u32]) -> bool {
 pub fn within(b: &[u8]) -> bool {
     let mut nodes = [[0u32; 13]; 64];
     let mut places = [65535u32; 64];
-    cut(b, &mut nodes, &mut places)
+    let nodes = upto_mut(&mut nodes, length_at(b, 6));
+    listed(b, nodes, upto_mut(&mut places, length_at(b, 16)))
 }
 
-fn nearest_agrees(b: &[u8], a: NearestNode) -> bool {
-    match a {
-        NearestNode::At(place, square) => {
-            if !told(b, 14, 0, 0) {
-                return false;
-            }
-            if byte_at(b, 17) != 1 {
-                return false;
-            }
-            if place != length_at(b, 18) {
-                return false;
-            }
-            square == u64_at(b, 20)
-        }
-        NearestNode::Nothing => {
-            if !told(b, 14, 0, 0) {
-                return false;
-            }
-            byte_at(b, 17) == 0
-        }
-        NearestNode::Refused(number, place) => told(b, 14, number, place),
+fn nearest_is(b: &[u8], found: Option<NearestNode>) -> bool {
+    match found {
+        Some(n) => byte_at(b, 17) == 1 && n.place == length_at(b, 18) && n.square == u64_at(b, 20),
+        None => byte_at(b, 17) == 0,
     }
 }
 
 fn found(b: &[u8], nodes: &mut [NodeWords]) -> bool {
-    let n = most(length_at(b, 4), nodes.len());
-    let lent = &mut nodes[0..n];
-    place_nodes(lent, after(b, 28));
+    place_nodes(nodes, after(b, 28));
     let ynd = cell_of(u32_at(b, 6), u32_at(b, 10));
-    nearest_agrees(
-        b,
-        reach::reach::nearest(ynd, lent, i16_at(b, 0), i16_at(b, 2)),
-    )
+    let a = reach::reach::nearest(ynd, nodes, i16_at(b, 0), i16_at(b, 2));
+    agrees(answer_at(b, 14), a, |found| nearest_is(b, found))
 }
 
 // The nearest node.
@@ -134,5 +76,5 @@ fn found(b: &[u8], nodes: &mut [NodeWords]) -> bool {
 //   is one, 18 its place, 20 its squared distance; 28 the nodes.
 pub fn nearest(b: &[u8]) -> bool {
     let mut nodes = [[0u32; 13]; 64];
-    found(b, &mut nodes)
+    found(b, upto_mut(&mut nodes, length_at(b, 4)))
 }

@@ -1,7 +1,8 @@
 // Parts of a record.
-ghost use Rattle.std.specs.Prelude.{◌≤◌, ◌<◌};
+ghost use Rattle.std.specs.Prelude.{◌≡◌, ◌≤◌, ◌<◌, take};
+ghost use Rattle.std.specs.Result.{ForOk};
 
-use numbers::answer::Answer;
+use numbers::refusal::Refusal;
 use records::bytes::{byte_at, u16_at, u32_at};
 
 pub fn length_at(b: &[u8], at: u32) -> usize
@@ -18,41 +19,51 @@ pub fn number_at(b: &[u8], at: u32) -> usize
 
 // The first n bytes, none if there are fewer.
 pub fn first(b: &[u8], n: usize) -> &[u8] {
-    if b.len() < n {
-        return &b[0..0];
-    }
-    &b[0..n]
+    b.get(..n).unwrap_or(&[])
 }
 
 // The bytes after the first n, none if there are fewer.
 pub fn after(b: &[u8], n: usize) -> &[u8] {
-    if b.len() < n {
-        return &b[0..0];
-    }
-    &b[n..]
+    b.get(n..).unwrap_or(&[])
 }
 
 // The number, no more than the limit.
 pub fn most(n: usize, limit: usize) -> usize
     ensures { result ≤ limit }
 {
-    if limit < n {
-        return limit;
-    }
-    n
+    n.min(limit)
 }
 
-// Whether an answer is the one of the record: its number a byte, its place two.
-pub fn told(b: &[u8], at: u8, number: u32, place: usize) -> bool {
-    if number != byte_at(b, at as usize) as u32 {
-        return false;
-    }
-    place == length_at(b, at as u32 + 1)
+// The first n entries, all if there are fewer.
+pub(crate) fn upto<T>(list: &[T], n: usize) -> &[T]
+    ensures { result.now ≡ take n list.now }
+{
+    &list[..n.min(list.len())]
 }
 
-pub fn answer_agrees(b: &[u8], at: u8, a: Answer) -> bool {
-    match a {
-        Answer::Done => told(b, at, 0, 0),
-        Answer::Refused(number, place) => told(b, at, number, place),
+pub(crate) fn upto_mut<T>(list: &mut [T], n: usize) -> &mut [T]
+    ensures { result.now ≡ take n list.old }
+{
+    let n = n.min(list.len());
+    &mut list[..n]
+}
+
+// An answer of the record: a refusal's number, a byte, and its place, two bytes; zeros if accepted.
+pub(crate) fn answer_at(b: &[u8], at: u8) -> (u32, usize) {
+    let number = byte_at(b, at as usize);
+    (number as u32, length_at(b, at as u32 + 1))
+}
+
+// Whether a call's answer is the record's, and what it gives is what it should be.
+pub fn agrees<T: Copy, F: FnOnce(T) -> bool>(
+    told: (u32, usize),
+    answer: Result<T, Refusal>,
+    same: F,
+) -> bool
+    requires { ForOk answer (F.pre same) }
+{
+    match answer {
+        Ok(value) => told == (0, 0) && same(value),
+        Err(refusal) => told == (refusal.number(), refusal.place()),
     }
 }

@@ -1,16 +1,53 @@
 // One record after another.
-ghost use Rattle.std.specs.Prelude.{◌≤◌};
+ghost use Rattle.std.specs.Prelude.{◌≤◌, length};
+ghost use Rattle.std.specs.Iterator.{at_most};
 
 use records::bytes::u16_at;
 
 // How many records there were, and how many agreed.
 #[derive(Clone, Copy)]
 pub struct Tally {
-    pub records: u64,
-    pub agreed: u64,
+    pub records: usize,
+    pub agreed: usize,
 }
 
-// Whether a record's answer is the one that the library gives.
+// The bytes from the next record on.
+#[derive(Clone, Copy)]
+struct Records<'a>(&'a [u8]);
+
+// The last record may be cut off: it holds what is there.
+impl<'a> Iterator for Records<'a> {
+    type Item = &'a [u8];
+
+    ghost remaining = { λ s. at_most (length s.0.now) };
+
+    fn next(&mut self) -> Option<&'a [u8]> {
+        if self.0.is_empty() {
+            return None;
+        }
+        let n = record_length(self.0).min(self.0.len());
+        let (record, rest) = self.0.split_at(n);
+        self.0 = rest;
+        Some(record)
+    }
+}
+
+// A record's length: three bytes, and as many as they say.
+fn record_length(record: &[u8]) -> usize
+    ensures { (3 ≤ result) × (result ≤ 65538) }
+{
+    3 + u16_at(record, 1) as usize
+}
+
+// Whether a record's answer is the one that the library gives. One that is cut off does not agree.
+fn record_agrees(record: &[u8]) -> bool {
+    match record.get(3..record_length(record)) {
+        Some(body) => agrees(record[0], body),
+        None => false,
+    }
+}
+
+// The kind is a byte of the file: a number and not an enum, since each has one call and nothing else.
 fn agrees(kind: u8, body: &[u8]) -> bool {
     match kind {
         1 => crate::steps::steps(body),
@@ -38,33 +75,10 @@ fn agrees(kind: u8, body: &[u8]) -> bool {
     }
 }
 
-fn counted(agrees: bool) -> u64
-    ensures { result ≤ 1 }
-{
-    if agrees { 1 } else { 0 }
-}
-
-// A record's length: three bytes, and as many as they say.
-fn record_length(record: &[u8]) -> usize
-    ensures { (3 ≤ result) × (result ≤ 65538) }
-{
-    3 + u16_at(record, 1) as usize
-}
-
-// A record that the bytes end in counts as one that does not agree.
 pub fn replay(bytes: &[u8]) -> Tally {
-    let mut records: u64 = 0;
-    let mut agreed: u64 = 0;
-    let mut at: usize = 0;
-    while at < bytes.len() {
-        let rest = &bytes[at..];
-        let length = record_length(rest);
-        records += 1;
-        if rest.len() < length {
-            return Tally { records, agreed };
-        }
-        agreed += counted(agrees(rest[0], &rest[3..length]));
-        at += length;
+    let records = Records(bytes);
+    Tally {
+        records: records.count(),
+        agreed: records.filter(|record| record_agrees(record)).count(),
     }
-    Tally { records, agreed }
 }

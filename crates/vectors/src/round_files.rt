@@ -1,51 +1,29 @@
 // T-03: round files that are read and written back, and rounds of very many choices that are written.
-use crate::parts::{after, first, length_at, most, number_at, told};
-use cells::write::Written;
+use crate::parts::{after, agrees, answer_at, first, length_at, number_at, upto, upto_mut};
 use records::bytes::u16_at;
-use rounds::file::{RoundRead, read_round, write_round};
+use rounds::file::{Round, read_round, write_round};
 
 // The round is written into memory of the file's length, and gives the file.
 fn written_back(file: &[u8], start: u16, choices: &[u8], to: &mut [u8]) -> bool {
-    let n = most(file.len(), to.len());
-    let lent = &mut to[0..n];
-    let w = write_round(start, choices, lent);
-    let Written::Wrote(_) = w else {
-        return false;
-    };
-    *lent == *file
+    let lent = upto_mut(to, file.len());
+    write_round(start, choices, lent).is_ok() && *lent == *file
 }
 
-fn read_agrees(b: &[u8], file: &[u8], a: RoundRead, choices: &[u8], to: &mut [u8]) -> bool {
-    match a {
-        RoundRead::Round(start, count) => {
-            if !told(b, 4, 0, 0) {
-                return false;
-            }
-            if start != u16_at(b, 7) {
-                return false;
-            }
-            if count != length_at(b, 9) {
-                return false;
-            }
-            written_back(file, start, first(choices, count), to)
-        }
-        RoundRead::Refused(number, place) => told(b, 4, number, place),
-    }
+fn round_is(b: &[u8], file: &[u8], round: Round, choices: &[u8], to: &mut [u8]) -> bool {
+    round.start == u16_at(b, 7)
+        && round.count == length_at(b, 9)
+        && written_back(file, round.start, first(choices, round.count), to)
 }
 
 fn read_into(b: &[u8], choices: &mut [u8], to: &mut [u8]) -> bool {
     let rest = after(b, 11);
     let file = first(rest, length_at(b, 0));
     let a = read_round(file, choices);
-    if !read_agrees(b, file, a, choices, to) {
-        return false;
-    }
-    *choices == *after(rest, length_at(b, 0))
-}
-
-fn cut(b: &[u8], choices: &mut [u8], to: &mut [u8]) -> bool {
-    let n = most(length_at(b, 2), choices.len());
-    read_into(b, &mut choices[0..n], to)
+    agrees(
+        answer_at(b, 4),
+        a,
+        |round| round_is(b, file, round, choices, to),
+    ) && *choices == *after(rest, length_at(b, 0))
 }
 
 // A round file; an accepted one is written back.
@@ -54,25 +32,16 @@ fn cut(b: &[u8], choices: &mut [u8], to: &mut [u8]) -> bool {
 pub fn file(b: &[u8]) -> bool {
     let mut choices = [165u8; 1024];
     let mut to = [0u8; 2048];
-    cut(b, &mut choices, &mut to)
-}
-
-fn long_agrees(b: &[u8], w: Written) -> bool {
-    match w {
-        Written::Wrote(n) => {
-            if !told(b, 10, 0, 0) {
-                return false;
-            }
-            n == number_at(b, 13)
-        }
-        Written::Refused(number, place) => told(b, 10, number, place),
-    }
+    read_into(b, upto_mut(&mut choices, length_at(b, 2)), &mut to)
 }
 
 fn written_with(b: &[u8], choices: &[u8], to: &mut [u8]) -> bool {
-    let n = most(number_at(b, 2), choices.len());
-    let m = most(number_at(b, 6), to.len());
-    long_agrees(b, write_round(u16_at(b, 0), &choices[0..n], &mut to[0..m]))
+    let w = write_round(
+        u16_at(b, 0),
+        upto(choices, number_at(b, 2)),
+        upto_mut(to, number_at(b, 6)),
+    );
+    agrees(answer_at(b, 10), w, |length| length == number_at(b, 13))
 }
 
 // A round of many choices, all 7, that is written.

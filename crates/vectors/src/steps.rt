@@ -7,25 +7,19 @@ use records::bytes::{byte_at, i16_at, u32_at};
 pub fn steps(b: &[u8]) -> bool {
     let bits = u32_at(b, 0);
     let x = float_of(bits);
-    if numbers::steps::steps_xy(x) != i16_at(b, 4) {
-        return false;
-    }
-    if numbers::steps::steps_z(x) != i16_at(b, 6) {
-        return false;
-    }
-    if numbers::steps::steps_xy_of_bits(bits) != i16_at(b, 4) {
-        return false;
-    }
-    numbers::steps::steps_z_of_bits(bits) == i16_at(b, 6)
+    let xy = i16_at(b, 4);
+    let z = i16_at(b, 6);
+    numbers::steps::steps_xy(x) == xy
+        && numbers::steps::steps_z(x) == z
+        && numbers::steps::steps_xy_of_bits(bits) == xy
+        && numbers::steps::steps_z_of_bits(bits) == z
 }
 
 // steps; bits of their metres along x and y, along z.
 pub fn metres(b: &[u8]) -> bool {
     let n = i16_at(b, 0);
-    if bits_of(numbers::steps::metres_xy(n)) != u32_at(b, 2) {
-        return false;
-    }
-    bits_of(numbers::steps::metres_z(n)) == u32_at(b, 6)
+    bits_of(numbers::steps::metres_xy(n)) == u32_at(b, 2)
+        && bits_of(numbers::steps::metres_z(n)) == u32_at(b, 6)
 }
 
 fn position_at(b: &[u8], at: u8) -> Vec3 {

@@ -14,8 +14,6 @@ use Rattle.cells.specs.CellOf.{cell_of}
 use Rattle.cells.specs.Renumber.{renumber}
 use Rattle.cells.proofs.WritingBack.KeptCells.{kept}
 use Rattle.walks.specs.Calls.{Call, renumbering, write_read, is_done, after, run, renumbers, moved, any_renumbers}
-use Rattle.numbers.specs.declared.answer.Answer.{Answer}
-use Rattle.numbers.specs.declared.answer.Answer.TheVariants.{Done, Refused}
 use Rattle.cells.proofs.Sequences.Tests.{by_test, true_false}
 use Rattle.cells.proofs.Renumbering.NewCell.{new_length, new_number_law, new_at}
 use Rattle.walks.proofs.NewSound.{sound_parts, sound_new}
@@ -23,6 +21,8 @@ use Rattle.walks.proofs.NewWalks.{move_visit, move, walk_new}
 use Rattle.cells.proofs.Renumbering.CellRenumbered.{done_call, refused_call, done_few}
 use Rattle.cells.proofs.WritingBack.Kept.{kept_again}
 use Rattle.cells.proofs.WritingBack.WrittenBack.{write_read_same}
+use Rattle.std.specs.Prelude.{Ok, Err}
+use Rattle.numbers.specs.Refusals.{Answer}
 
 -- ---- cells that are alike
 
@@ -105,8 +105,8 @@ step m (renumbering s ps) h = go (renumber m (length s) ps).answer refl
   where
     go : (a : Answer) → (renumber m (length s) ps).answer ≡ a
         → Step (cell_of m) (cell_of (renumber m (length s) ps).memory) (λ p. cond (is_done a) (new_place (ped_flags (cell_of m).nodes) p) p) (is_done a)
-    go Done e = rw (done_call m ps (length s) e) (renumbered (cell_of m) (done_few m ps (length s) e) h)
-    go (Refused x p) e = stays (cell_of m) _ h (ap cell_of (refused_call m ps (length s) x p e))
+    go (Ok tt) e = rw (done_call m ps (length s) e) (renumbered (cell_of m) (done_few m ps (length s) e) h)
+    go (Err x) e = stays (cell_of m) _ h (ap cell_of (refused_call m ps (length s) x e))
 
 -- of a sound cell that storing keeps, in memory, and of every list of calls
 pub run_alike : (m : Memory) (ks : List Call) → Fit (cell_of m) → Alike (cell_of m) (cell_of (run m ks)) (moved m ks)

@@ -27,9 +27,7 @@ use Rattle.cells.specs.WriteRead.{write_read_of}
 use Rattle.walks.specs.Walk.{Seen, next, see, walk_in, walk}
 use Rattle.walks.specs.Calls.{Call, after, run, any_renumbers, renumbers, moved}
 use Rattle.walks.specs.WalkCall.{route, walk_left, walk_call}
-use Rattle.walks.specs.declared.walk.Walked.TheVariants.{Ended}
 use Rattle.walks.specs.Shown.{values_at, values_left, shown_values}
-use Rattle.walks.specs.declared.shown.ShownValues.TheVariants.{Copied}
 use Rattle.walks.specs.Claim.{shown, followed, SameWalk, Unnoticed}
 use Rattle.walks.specs.declared.walk.End.TheVariants.{NoLink}
 use Rattle.walks.proofs.Demand.{demand_3}
@@ -40,6 +38,7 @@ use Rattle.cells.specs.Read.{links_from, node_in, links_in, values_from, junctio
 use Rattle.cells.specs.Order.{keep, rank, parted, new_place, listed, new_places, last_with, new_number, renamed}
 use Rattle.cells.specs.NodeWords.{area_of, number_of, is_ped, numbered, number_from, reordered, first_area, old_of, relinked}
 use Rattle.walks.specs.Sound.{differing, sound}
+use Rattle.std.specs.Prelude.{Ok}
 
 -- what is shown of a node of the bytes, by its number, its steps, its flags1 and its junction
 abbrev seen_at : ℕ → ℕ → ℕ → Option Junction → Seen
@@ -167,7 +166,7 @@ bare =
     (record { vft = 0; vehicle_node_count = 0; ped_node_count = 0; unknowns = []; node_count = 1; link_count = 0; junction_count = 0; heightmap_count = 0; ref_count = 0 })
     ((458757 ∷ []) ∷ []) [] [] [] []
 
-pub just_full : walk_call bare (0 ∷ []) 0 (9 ∷ []) ≡ walk_left (Ended NoLink 1) (0 ∷ [])
+pub just_full : walk_call bare (0 ∷ []) 0 (9 ∷ []) ≡ walk_left (Ok (record { end = NoLink; count = 1 })) (0 ∷ [])
 unfolding walk_call over_limit route next nodes_of
 just_full = refl
 
@@ -178,6 +177,6 @@ mapped =
     (record { vft = 0; vehicle_node_count = 0; ped_node_count = 0; unknowns = []; node_count = 0; link_count = 0; junction_count = 1; heightmap_count = 1; ref_count = 0 })
     [] [] ((0 ∷ 0 ∷ 0 ∷ 0 ∷ 257 ∷ 0 ∷ []) ∷ []) (77 ∷ []) []
 
-pub values_just_fit : shown_values mapped 0 (9 ∷ []) ≡ values_left (Copied 1) (77 ∷ [])
+pub values_just_fit : shown_values mapped 0 (9 ∷ []) ≡ values_left (Ok 1) (77 ∷ [])
 unfolding shown_values over_limit values_at cell_of junctions_of put
 values_just_fit = refl

@@ -5,7 +5,6 @@ use mathlib.Core.Path.{◌≡◌, ap, ◌∙◌}
 use mathlib.Core.Bool.{true}
 use mathlib.Core.List.{List}
 use lib.ListN.{length}
-use Rattle.numbers.specs.declared.answer.Answer.TheVariants.{Done}
 use Rattle.cells.specs.Memory.{Memory}
 use Rattle.cells.specs.Read.{read_of}
 use Rattle.cells.specs.Cell.{Cell}
@@ -22,6 +21,7 @@ use Rattle.cells.proofs.WritingBack.Kept.{read_kept}
 use Rattle.walks.proofs.CallLists.{Alike, Fit, run_alike, run_numbers}
 use Rattle.walks.proofs.Routes.{same_walk, move_route}
 use Rattle.walks.proofs.WalksAlike.{Lies, read_lies, run_lies, route_left, calls_alike, answers_alike}
+use Rattle.std.specs.Prelude.{Ok}
 
 -- of a sound cell that storing keeps, in lists that hold it, and of every list of calls
 unnoticed : (m : Memory) → Fit (cell_of m) → Lies m → (calls : List Call) → Unnoticed (cell_of m) m calls
@@ -36,7 +36,7 @@ unnoticed m h l calls =
       numbered = run_numbers m calls h;
     }
 
-module _ (system graphics : List ℕ) (lent : Memory) (e : (read_of system graphics lent).answer ≡ Done) (s : sound (file_cell system graphics) ≡ true) where
+module _ (system graphics : List ℕ) (lent : Memory) (e : (read_of system graphics lent).answer ≡ (Ok tt)) (s : sound (file_cell system graphics) ≡ true) where
   abbrev first : Memory
   first = (read_of system graphics lent).memory
 
@@ -54,7 +54,7 @@ demand_3 system graphics lent e s calls =
     rw (same system graphics lent e s) at (unnoticed (first system graphics lent e s) (fit system graphics lent e s) (lies system graphics lent e s) calls)
 
 -- the visited list too: after any list of calls `walk` leaves in it the places of the walk in the first cell, each moved on
-pub walks_unnoticed : (system graphics : List ℕ) (lent : Memory) → (read_of system graphics lent).answer ≡ Done → sound (file_cell system graphics) ≡ true
+pub walks_unnoticed : (system graphics : List ℕ) (lent : Memory) → (read_of system graphics lent).answer ≡ (Ok tt) → sound (file_cell system graphics) ≡ true
     → (calls : List Call) (choices : List ℕ) (p : ℕ) → p < length (file_cell system graphics).nodes → (visited : List ℕ)
     → walk_call (run (read_of system graphics lent).memory calls) choices (moved (read_of system graphics lent).memory calls p) visited
     ≡ route_left (move_route (moved (read_of system graphics lent).memory calls) (route (file_cell system graphics).nodes choices p)) visited

@@ -8,7 +8,6 @@ use mathlib.Core.List.{List, [], ◌∷◌, ◌++◌, map}
 use lib.IntN.{pos}
 use lib.ListN.{replicate}
 use Rattle.numbers.specs.Steps.{step_of, unstep}
-use Rattle.numbers.specs.declared.answer.Answer.TheVariants.{Done}
 use Rattle.records.specs.Bytes.{number_at, number_bytes, signed16, bits16}
 use Rattle.records.specs.Sections.{located, extent, bytes_of, array_at}
 use Rattle.records.specs.Root.{unknowns_of, root_of, root_bytes}
@@ -34,10 +33,10 @@ use Rattle.cells.specs.WriteChecks.{values_within, maps_cut, check_nodes, check_
 use Rattle.cells.specs.Blocks.{laid, arrays, root_for, written}
 use Rattle.cells.specs.Write.{held, stored, write_held, write_call}
 use Rattle.cells.specs.WriteRead.{write_read_of}
-use Rattle.cells.specs.declared.write.Written.{Written}
-use Rattle.cells.specs.declared.write.Written.TheVariants as answer
 use Rattle.walks.specs.Sound.{differing, sound}
 use Rattle.walks.specs.Calls.{Call, renumbering, write_read, after, run, renumbers, moved}
+use Rattle.std.specs.Prelude.{Result, Ok, Err}
+use Rattle.numbers.specs.declared.refusal.Refusal.{Refusal}
 
 -- a root with three nodes behind it, three links, a junction, its one heightmap byte and a ref; no two words alike
 abbrev root : List ℕ
@@ -114,7 +113,7 @@ room =
     (record { vft = 0; vehicle_node_count = 0; ped_node_count = 0; unknowns = []; node_count = 0; link_count = 0; junction_count = 0; heightmap_count = 0; ref_count = 0 })
     ([] ∷ [] ∷ [] ∷ []) ([] ∷ [] ∷ [] ∷ []) ([] ∷ []) (0 ∷ []) ([] ∷ [])
 
-pub reads : (read_of bytes [] room).answer ≡ Done
+pub reads : (read_of bytes [] room).answer ≡ (Ok tt)
 unfolding bytes room root_bytes node_bytes link_bytes junction_bytes ref_bytes number_bytes bits16 read_of sizes_check arrays_found located root_of unknowns_of number_at bytes_of extent read_arrays arrays_check scan node_at junction_at sum_to room_check
 reads = refl
 
@@ -144,9 +143,9 @@ pub not_renumbered_law : renumbers (after first accepted) refused ≡ false
 unfolding bytes room root_bytes node_bytes link_bytes junction_bytes ref_bytes number_bytes bits16 read_of sizes_check arrays_found located root_of unknowns_of number_at bytes_of extent read_arrays arrays_check scan node_at link_at junction_at sum_to up_to join_to room_check filled cell_read node_in links_in links_from link_words path_link path_node node_words junction_in values_in values_from path_junction junction_words ref_in ref_words ref_at renumbers renumber over_limit answer_of short_of after run renumber_memory new_lists renumber_lists recounted vehicles peds reordered number_from numbered parted keep is_ped area_of number_of old_of first_area relinked renamed new_number new_place new_places listed rank last_with belongs
 not_renumbered_law = refl
 
-abbrev pub is_wrote : Written → Bool
-is_wrote (answer.Wrote n) = true
-is_wrote (answer.Refused cause place) = false
+abbrev pub is_wrote : Result ℕ Refusal → Bool
+is_wrote (Ok n) = true
+is_wrote (Err cause) = false
 
 pub written_read : is_wrote (write_read_of (run first (accepted ∷ refused ∷ [])) (replicate 1400 9)).answer ≡ true
 unfolding bytes room root_bytes node_bytes link_bytes junction_bytes ref_bytes number_bytes bits16 read_of sizes_check arrays_found located root_of unknowns_of number_at bytes_of extent read_arrays arrays_check scan node_at link_at junction_at sum_to up_to join_to room_check filled cell_read node_in links_in links_from link_words path_link path_node node_words junction_in values_in values_from path_junction junction_words ref_in ref_words ref_at renumber over_limit answer_of short_of after run renumber_memory new_lists renumber_lists recounted vehicles peds reordered number_from numbered parted keep is_ped area_of number_of old_of first_area relinked renamed new_number new_place new_places listed rank last_with belongs write_read_of write_call write_held maps_cut values_within held check_nodes check_junctions stored written arrays laid joined file_node to_node file_link to_link file_junction to_junction to_ref entries.values_in root_for pages header_bytes section_bytes lay padded gap_for start_of offset total address places_of entries.links_in step_of unstep signed16

@@ -7,7 +7,6 @@ use mathlib.Core.Bool.{Bool, true, false}
 use mathlib.Core.List.{List, [], ◌∷◌, map}
 use mathlib.Core.Option.{Option, none, some}
 use Rattle.numbers.specs.Steps.{step_of, unstep}
-use Rattle.numbers.specs.declared.answer.Answer.TheVariants as answer
 use Rattle.records.specs.Bytes.{number_at, number_bytes, signed16, bits16}
 use Rattle.records.specs.Sections.{located, extent, bytes_of, array_at}
 use Rattle.records.specs.Root.{unknowns_of, root_of, root_bytes}
@@ -40,11 +39,12 @@ use Rattle.walks.specs.Claim.{Unnoticed}
 use Rattle.walks.specs.declared.walk.End.TheVariants.{Done}
 use Rattle.walks.proofs.Demand.{demand_3}
 use Rattle.walks.proofs.Example.{yard, room, accepted, stored_read}
+use Rattle.std.specs.Prelude.{Ok}
 
 unfoldable pub bytes : List ℕ
 bytes = yard 1029 5
 
-pub reads : (read_of bytes [] room).answer ≡ answer.Done
+pub reads : (read_of bytes [] room).answer ≡ (Ok tt)
 unfolding bytes root_bytes node_bytes link_bytes junction_bytes ref_bytes number_bytes bits16 room read_of sizes_check arrays_found located root_of unknowns_of number_at bytes_of extent read_arrays arrays_check scan node_at junction_at sum_to room_check
 reads = refl
 

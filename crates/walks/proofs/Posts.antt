@@ -8,7 +8,6 @@ use mathlib.Core.List.{List, [], ◌∷◌, ◌++◌, map}
 use lib.IntN.{pos}
 use lib.ListN.{replicate}
 use Rattle.numbers.specs.Steps.{step_of, unstep}
-use Rattle.numbers.specs.declared.answer.Answer.TheVariants.{Done}
 use Rattle.records.specs.Bytes.{number_at, number_bytes, le16, signed16, bits16}
 use Rattle.records.specs.Sections.{located, extent, bytes_of, array_at}
 use Rattle.records.specs.Root.{unknowns_of, root_of, root_bytes}
@@ -39,6 +38,7 @@ use Rattle.walks.specs.Walk.{Visit, Trail, next, see, walk_in, walk}
 use Rattle.walks.specs.Claim.{Unnoticed}
 use Rattle.walks.specs.declared.walk.End.TheVariants.{NoLink}
 use Rattle.walks.proofs.Demand.{demand_3}
+use Rattle.std.specs.Prelude.{Ok}
 
 abbrev root : List ℕ
 root = root_bytes (record {
@@ -95,7 +95,7 @@ room =
     (record { vft = 0; vehicle_node_count = 0; ped_node_count = 0; unknowns = []; node_count = 0; link_count = 0; junction_count = 0; heightmap_count = 0; ref_count = 0 })
     ([] ∷ [] ∷ [] ∷ [] ∷ []) ([] ∷ [] ∷ [] ∷ []) [] [] []
 
-pub reads : (read_of bytes [] room).answer ≡ Done
+pub reads : (read_of bytes [] room).answer ≡ (Ok tt)
 unfolding bytes room root_bytes node_bytes link_bytes number_bytes bits16 read_of sizes_check arrays_found located root_of unknowns_of number_at bytes_of extent read_arrays arrays_check scan node_at junction_at sum_to room_check
 reads = refl
 

@@ -6,6 +6,7 @@ use mathlib.Core.Bool.{Bool, true, false, ◌&&◌}
 use mathlib.Core.List.{List, [], ◌∷◌, map}
 use lib.ListN.{length, get_or, take, drop, length-drop}
 use lib.Seq.{length-take-le, get_or-take, get_or-drop, take_all}
+use Rattle.std.specs.List.{list_all}
 use Rattle.cells.specs.Lists.{every}
 
 module _ {A : Type 0} (f : A → Bool) (d : A) where
@@ -43,6 +44,12 @@ module _ {A : Type 0} (f : A → Bool) (d : A) where
 
     pub front_not : (j : ℕ) → j < count → f (get_or l j d) ≡ false → false ≡ every f (take count l)
     front_not j lt h = sym (every_not (take count l) j (omega (arith, length-take-le count l fits)) (ap f (get_or-take count l j d lt) ∙ h))
+
+-- what `all` answers
+pub all_is_every : {A : Type 0} (f : A → Bool) (l : List A) → list_all f l ≡ every f l
+unfolding every
+all_is_every f [] = refl
+all_is_every f (x ∷ xs) = ap (λ (b : Bool). f x && b) (all_is_every f xs)
 
 module _ {A B : Type 0} where
   pub every_mapped : (f : B → Bool) (g : A → B) (h : A → Bool) → ((x : A) → f (g x) ≡ h x) → (l : List A) → every f (map g l) ≡ every h l

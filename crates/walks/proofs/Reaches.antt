@@ -21,15 +21,15 @@ use Rattle.walks.specs.WalkCall.{Route, step_on, route}
 use Rattle.walks.specs.WalkParts.{step_of, step_in, route_in, traced}
 use Rattle.walks.specs.declared.walk.End.{End}
 use Rattle.walks.specs.declared.walk.End.TheVariants.{Done, Left}
-use Rattle.walks.specs.declared.walk.Step.TheVariants.{To, Stop}
-use Rattle.walks.specs.declared.walk.Traced.{Traced}
+use Rattle.walks.specs.declared.walk.Walked.{Walked}
 use Rattle.walks.proofs.SoundWords.{numbers_same}
 use Rattle.walks.proofs.ScratchLaws.{numbers_long}
+use Rattle.std.specs.Prelude.{Ok, Err}
 
 never : {P : Type 0} {i : ℕ} → ◌≡◌ {A = Option ℕ} none (some i) → P
 never e = let z : ◌≡◌ {A = ℕ} 0 1 = cc in absurd (omega arith)
 
-to_stop : {P : Type 0} {q : ℕ} {e : End} → To q ≡ Stop e → P
+to_stop : {P : Type 0} {q : ℕ} {e : End} → Ok q ≡ Err e → P
 to_stop e = let z : ◌≡◌ {A = ℕ} 0 1 = cc in absurd (omega arith)
 
 -- after i choices the walk stands at p: what is left of its places is the route from there
@@ -101,36 +101,36 @@ module _ (m : Memory) (fits : m.ynd.node_count ≤ length m.nodes) where
   unfolding cell_of
   found_inside k q e = rw (numbers_same m, numbers_long n m.nodes fits) at (find_inside (numbers N) k q e)
 
-  goes_on : (p b q : ℕ) → To q ≡ step_in m p b → (next N p b ≡ to q) × (q < n)
+  goes_on : (p b q : ℕ) → Ok q ≡ step_in m p b → (next N p b ≡ to q) × (q < n)
   unfolding step_in next
   goes_on p b q e = go (link_at N p b) e
     where
-      go : (l : Option Link) → To q ≡ step_of (take_link N l) → (take_link N l ≡ to q) × (q < n)
+      go : (l : Option Link) → Ok q ≡ step_of (take_link N l) → (take_link N l ≡ to q) × (q < n)
       go none e = to_stop e
       go (some l) e = own (belongs (first_of N) l.area) (find (numbers N) l.number) (found_inside l.number q) e
         where
           own : (t : Bool) (r : Option ℕ) → (r ≡ some q → q < n)
-              → To q ≡ step_of (cond t (arrive r) (stop (Left l.area l.number))) → (cond t (arrive r) (stop (Left l.area l.number)) ≡ to q) × (q < n)
+              → Ok q ≡ step_of (cond t (arrive r) (stop (Left l.area l.number))) → (cond t (arrive r) (stop (Left l.area l.number)) ≡ to q) × (q < n)
           own true (some j) h e = let z : j ≡ q = cc in (ap to z, h (ap some z))
           own true none h e = to_stop e
           own false r h e = to_stop e
 
-  stops : (p b : ℕ) (e : End) → Stop e ≡ step_in m p b → next N p b ≡ stop e
+  stops : (p b : ℕ) (e : End) → Err e ≡ step_in m p b → next N p b ≡ stop e
   unfolding step_in
   stops p b e h = go (next N p b) h
     where
-      go : (x : Next ℕ) → Stop e ≡ step_of x → x ≡ stop e
+      go : (x : Next ℕ) → Err e ≡ step_of x → x ≡ stop e
       go (to q) h = to_stop (sym h)
       go (stop s) h = cc
 
   -- ---- the loop over the choices
 
   module _ (bs : List ℕ) (s i p : ℕ) (h : Reached N bs s i p) where
-    pub advance : (q : ℕ) → i < length bs → To q ≡ step_in m p (get_or bs i 0) → (i + 1 ≤ length bs) × (q < n) × Reached N bs s (i + 1) q
+    pub advance : (q : ℕ) → i < length bs → Ok q ≡ step_in m p (get_or bs i 0) → (i + 1 ≤ length bs) × (q < n) × Reached N bs s (i + 1) q
     advance q lt e = let g = goes_on p (get_or bs i 0) q e in (omega arith, g.1, reached_step N bs s i p h q lt g.0)
 
     -- the part of the places from i is p alone
-    pub halt : (e : End) → i < length bs → Stop e ≡ step_in m p (get_or bs i 0) → ((route_in m bs s).ending ≡ e) × (drop i (route_in m bs s).places ≡ p ∷ [])
+    pub halt : (e : End) → i < length bs → Err e ≡ step_in m p (get_or bs i 0) → ((route_in m bs s).ending ≡ e) × (drop i (route_in m bs s).places ≡ p ∷ [])
     unfolding route_in
     halt e lt x = reached_stop N bs s i p h e lt (stops p (get_or bs i 0) e x)
 
@@ -139,20 +139,20 @@ module _ (m : Memory) (fits : m.ynd.node_count ≤ length m.nodes) where
     finish le = reached_end N bs s i p h le
 
     -- what is answered there
-    traced_is : (e : End) → ((route_in m bs s).ending ≡ e) × (drop i (route_in m bs s).places ≡ p ∷ []) → ◌≡◌ {A = Traced} (record { end = e; count = i + 1 }) (traced (route_in m bs s))
+    traced_is : (e : End) → ((route_in m bs s).ending ≡ e) × (drop i (route_in m bs s).places ≡ p ∷ []) → ◌≡◌ {A = Walked} (record { end = e; count = i + 1 }) (traced (route_in m bs s))
     traced_is e h = cc (h.0, one_left (route_in m bs s).places i p h.1)
 
-    pub halt_traced : (e : End) → i < length bs → Stop e ≡ step_in m p (get_or bs i 0) → ◌≡◌ {A = Traced} (record { end = e; count = i + 1 }) (traced (route_in m bs s))
+    pub halt_traced : (e : End) → i < length bs → Err e ≡ step_in m p (get_or bs i 0) → ◌≡◌ {A = Walked} (record { end = e; count = i + 1 }) (traced (route_in m bs s))
     halt_traced e lt x = traced_is e (halt e lt x)
 
-    pub finish_traced : length bs ≤ i → ◌≡◌ {A = Traced} (record { end = Done; count = i + 1 }) (traced (route_in m bs s))
+    pub finish_traced : length bs ≤ i → ◌≡◌ {A = Walked} (record { end = Done; count = i + 1 }) (traced (route_in m bs s))
     finish_traced le = traced_is Done (finish le)
 
-    pub halt_counted : (e : End) → i < length bs → Stop e ≡ step_in m p (get_or bs i 0) → i + 1 ≡ length (route_in m bs s).places
-    halt_counted e lt x = ap (λ (t : Traced). t.count) (halt_traced e lt x)
+    pub halt_counted : (e : End) → i < length bs → Err e ≡ step_in m p (get_or bs i 0) → i + 1 ≡ length (route_in m bs s).places
+    halt_counted e lt x = ap (λ (t : Walked). t.count) (halt_traced e lt x)
 
     pub finish_counted : length bs ≤ i → i + 1 ≡ length (route_in m bs s).places
-    finish_counted le = ap (λ (t : Traced). t.count) (finish_traced le)
+    finish_counted le = ap (λ (t : Walked). t.count) (finish_traced le)
 
 -- at most one place a choice, and the start
 places_few : (ns : List Node) (bs : List ℕ) (p : ℕ) → length (route ns bs p).places ≤ length bs + 1

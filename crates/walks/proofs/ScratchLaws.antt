@@ -1,22 +1,25 @@
 -- The scratch as a map from numbers to places. It is never cleared: an entry counts if the node there has the number.
-use Prim.Native.Nat.{ℕ, suc, ◌+◌, ◌≤◌, ◌<◌}
+use Prim.Native.Nat.{ℕ, zero, suc, ◌+◌, ◌≤◌, ◌<◌}
 use native.Mathlib.Omega.{arith}
 use native.Mathlib.Numerals.{add-one}
 use native.Mathlib.Nat.{zero-add, suc-add, add-suc, add-zero}
 use mathlib.Core.Path.{◌≡◌, refl, ap, sym, ◌∙◌}
-use mathlib.Core.Bool.{true, false}
+use mathlib.Core.Bool.{Bool, true, false}
 use mathlib.Core.List.{List, [], ◌∷◌, ◌++◌, map}
+use lib.Dec.{eqb}
+use borrow.Author.Tests.{eqb-true, eqb-false}
+use Rattle.std.specs.List.{list_all, enumerate_from}
 use lib.ListN.{length, get_or, set, take, length-map, get_or-map}
-use lib.Seq.{get_or-take, take-suc, length-take-le}
+use lib.Seq.{get_or-take, take-suc, length-take-le, take_all}
 use Rattle.cells.specs.NodeWords.{number_of}
 use Rattle.cells.specs.Lookup.{first_with, is_some}
 use Rattle.cells.specs.LookupCall.{numbers_in}
 use Rattle.cells.specs.RenumberParts.{Indexed}
 use Rattle.cells.proofs.Renumbering.Named as cells
-use Rattle.cells.proofs.Sequences.Tests.{by_test}
+use Rattle.cells.proofs.Sequences.Tests.{by_test, and_left, and_right, true_false}
 use Rattle.walks.specs.Sound.{differing}
 use Rattle.walks.specs.SoundCall.{indexed}
-use Rattle.walks.specs.SoundParts.{Ready}
+use Rattle.walks.specs.SoundParts.{all_numbers, Ready}
 use Rattle.walks.proofs.Numbers.{named_has, first_last, last_is}
 
 -- ---- the scratch, number by number
@@ -56,6 +59,11 @@ pub numbers_long : (n : ℕ) (nodes : List (List ℕ)) → n ≤ length nodes �
 unfolding numbers_in
 numbers_long n nodes h = length-map (take n nodes) number_of ∙ length-take-le n nodes h
 
+-- the numbers of the first n nodes are all of theirs
+pub all_front : (n : ℕ) (nodes : List (List ℕ)) → all_numbers (take n nodes) ≡ numbers_in n nodes
+unfolding numbers_in
+all_front n nodes = ap (map number_of) (take_all (length (take n nodes)) (take n nodes) (omega arith))
+
 -- the numbers differ if no two places have the same
 differ_yes : (ns : List ℕ) → ((i j : ℕ) → i < length ns → j < length ns → get_or ns i 0 ≡ get_or ns j 0 → i ≡ j) → differing ns ≡ true
 unfolding differing
@@ -68,6 +76,27 @@ differ_yes (n ∷ ns) h =
     let z : 0 ≡ suc r.0 = h 0 (suc r.0) (omega arith) (omega (arith, r.1.inside)) (sym r.1.number) in
     absurd (omega arith))
     (λ f. rw f))
+
+-- ---- a test of each entry with its place
+
+each_place : {A : Type 0} (f : ℕ × A → Bool) (d : A) (l : List A) (i : ℕ) → list_all f (enumerate_from i l) ≡ true
+    → (j : ℕ) → j < length l → f (i + j, get_or l j d) ≡ true
+each_place f d [] i h j lt = absurd (omega arith)
+each_place f d (x ∷ xs) i h zero lt = rw add-zero (and_left _ _ h)
+each_place f d (x ∷ xs) i h (suc j) lt = rw (add-suc, ← suc-add, ← add-one) (each_place f d xs (i + 1) (and_right (f (i, x)) _ h) j (omega arith))
+
+some_place : {A : Type 0} (f : ℕ × A → Bool) (d : A) (l : List A) (i : ℕ) → list_all f (enumerate_from i l) ≡ false
+    → (j : ℕ) × (j < length l) × (f (i + j, get_or l j d) ≡ false)
+some_place f d [] i h = true_false h
+some_place f d (x ∷ xs) i h = by_test (f (i, x))
+    (λ t. let r = some_place f d xs (i + 1) (rw t at h) in
+    let e : i + suc r.0 ≡ i + 1 + r.0 = omega arith in
+    (suc r.0, omega (arith, r.1), ap (λ (k : ℕ). f (k, get_or xs r.0 d)) e ∙ r.2))
+    (λ g. (0, omega arith, rw add-zero g))
+
+-- the scratch leads from a node's number to its place
+abbrev pub leads_back : List ℕ → ℕ × List ℕ → Bool
+leads_back s p = eqb (get_or s (number_of p.1) 0) p.0
 
 -- ---- by the scratch
 
@@ -85,6 +114,12 @@ module _ (n : ℕ) (nodes : List (List ℕ)) (s : List ℕ) (r : Ready n nodes s
   differ_not i lt ne = by_test (differing (numbers_in n nodes))
       (λ t. absurd (ne (r.leads.at _ i (last_is (numbers_in n nodes) (number_of (get_or nodes i [])) i t (record { inside = omega (arith, long); number = number_in n nodes i lt })))))
       (λ f. sym f)
+
+  -- what a test of each node with its place says
+  pub differ_told : n ≡ length nodes → list_all (leads_back s) (enumerate_from 0 nodes) ≡ differing (numbers_in n nodes)
+  differ_told e = by_test (list_all (leads_back s) (enumerate_from 0 nodes))
+      (λ t. t ∙ differ_all (λ j lt. eqb-true _ _ (each_place (leads_back s) [] nodes 0 t j (omega arith)) ∙ zero-add j))
+      (λ f. let x = some_place (leads_back s) [] nodes 0 f in f ∙ differ_not x.0 (omega (arith, x.1)) (λ q. eqb-false _ _ x.2 (q ∙ sym (zero-add x.0))))
 
   module _ (k t : ℕ) (is-t : get_or s k 0 ≡ t) where
     pub number_there : t < n → number_of (get_or nodes t []) ≡ k → true ≡ is_some (first_with (numbers_in n nodes) k)

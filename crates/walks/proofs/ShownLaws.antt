@@ -1,38 +1,40 @@
 -- What a walk shows, by the words in memory.
-use Prim.Native.Nat.{ℕ, ◌+◌, ◌-◌, ◌<◌, ◌≤◌, min}
+use Prim.Native.Nat.{ℕ, ◌-◌, ◌<◌, ◌≤◌, min}
 use native.Mathlib.Omega.{arith}
-use native.Mathlib.Nat.{min-eq_left, min-eq_right, min-le_right, le-min}
+use native.Mathlib.Nat.{zero-add, min-eq_left, min-eq_right, min-le_right, le-min}
 use mathlib.Core.Path.{◌≡◌, refl, ap, sym, ◌∙◌}
 use mathlib.Core.Bool.{true, false}
-use mathlib.Core.List.{List, [], map}
+use mathlib.Core.List.{List, [], ◌++◌, map}
 use mathlib.Core.Option.{Option, none, some}
 use lib.Dec.{ltb}
 use lib.ListN.{length, get_or, get_elem?, take, drop, length-map, length-drop, length-take, drop_of_length-le}
 use lib.Seq.{length-take-le, get_or-take, take_all, take-nil}
 use borrow.Author.Tests.{le-leb, lt-leb, lt-ltb, le-ltb, ltb-true, ltb-false}
-use Rattle.records.specs.Put.{put_in}
-use Rattle.records.proofs.Puts.{put_fits}
+use Rattle.records.specs.Put.{put}
+use Rattle.std.specs.Prelude.{Some, None, MatchOption, IsSomeAnd}
+use Rattle.std.specs.declared.option.Option as std
 use Rattle.cells.specs.Memory.{Memory, over_limit}
 use Rattle.cells.specs.NodeWords.{area_of, number_of, link_start, link_count, value_start, value_count}
 use Rattle.cells.specs.Cell.{Link, Node, Cell, node_at, first_of}
 use Rattle.cells.specs.CellOf.{link_of, junction_with, nodes_of, junctions_of, refs_of, cell_of}
 use Rattle.cells.specs.Lookup.{ref_of, junction_at, junction_of}
 use Rattle.cells.specs.LookupCall.{place_of, ref_in, below, junction_of_call}
-use Rattle.cells.specs.declared.lookup.Place.{Place}
 use Rattle.cells.proofs.Sequences.Tests.{by_test}
 use Rattle.cells.proofs.Lookups.LookupLaws.{area_held}
 use Rattle.walks.specs.Walk.{see, link_at, body_of}
 use Rattle.walks.specs.Shown.{seen_by, inside, junction_place, seen_node, shown_node, seen_junction, shown_junction, values_at, values_left, shown_values, seen_link, or_no_link, shown_link}
+use Rattle.walks.specs.Parts.{chosen}
 use Rattle.walks.specs.ShownParts.{seen_of}
 use Rattle.walks.specs.declared.shown.SeenNode.{SeenNode}
 use Rattle.walks.specs.declared.shown.SeenJunction.{SeenJunction}
 use Rattle.walks.specs.declared.shown.SeenLink.{SeenLink}
-use Rattle.walks.specs.declared.shown.ShownNode.TheVariants as node
-use Rattle.walks.specs.declared.shown.ShownJunction.TheVariants as junction
-use Rattle.walks.specs.declared.shown.ShownValues.TheVariants as shown
-use Rattle.walks.specs.declared.shown.ShownLink.TheVariants as link
 use Rattle.walks.proofs.Ranges.{cut_all, cut_part}
-use Rattle.walks.proofs.StepLaws.{elem_at, elem_past, get_d_map_in, node_in, link_past, link_out, link_in}
+use Rattle.walks.proofs.StepLaws.{elem_at, elem_past, get_d_map_in, node_in, linked, link_found}
+use Rattle.std.specs.Prelude.{Ok, Err}
+use Rattle.numbers.specs.declared.refusal.Refusal.TheVariants.{TooShort, NoSuchPlace, AtLimit}
+use Rattle.numbers.specs.declared.refusal.Lent.TheVariants as lent
+use Rattle.numbers.specs.declared.refusal.Refusal.{Refusal}
+use Rattle.numbers.proofs.Refusing.{not_refused}
 
 -- ---- a range, cut where the list ends
 
@@ -50,9 +52,6 @@ module _ {A : Type 0} (xs : List A) (l start count : ℕ) where
       (λ f. sym (ap (λ (k : ℕ). take k xs) (min-eq_left {n = l} {m = length xs} (ltb-false _ _ f))))
 
   module _ (n : ℕ) (is : n ≡ min count (end - start)) (lt : start < end) where
-    pub cut_fits : start + n ≤ length xs
-    cut_fits = omega (arith, is, min-le_right count (end - start), min-le_right l (length xs))
-
     pub cut_held : take n (drop start xs) ≡ take count (drop start (take l xs))
     cut_held = by_test (ltb (end - start) count)
         (λ t. let h : end - start < count = ltb-true _ _ t in
@@ -95,13 +94,17 @@ module _ (m : Memory) where
   junctions_long h = length-map (take m.ynd.junction_count m.junctions) (junction_with (take m.ynd.heightmap_count m.heights)) ∙ length-take-le _ m.junctions h
 
   module _ (within : over_limit m.ynd ≡ false) (nodes : n ≤ length m.nodes) (links : l ≤ length m.links) (junctions : m.ynd.junction_count ≤ length m.junctions) (refs : m.ynd.ref_count ≤ length m.refs) where
-    junction_place_law : (a k : ℕ) → junction_of_call m.ynd m.nodes m.refs a k ≡ place_of (junction_place (cell_of m) a k)
+    junction_place_law : (a k : ℕ) → junction_of_call m.ynd m.nodes m.refs a k ≡ Ok (place_of (junction_place (cell_of m) a k))
     unfolding junction_of_call junction_place cell_of ref_in refs_of
-    junction_place_law a k = rw (within, le-ltb _ _ nodes, le-ltb _ _ refs, area_held m, junctions_long junctions) (go (ref_of _ _ a k))
+    junction_place_law a k = rw (within, le-ltb _ _ nodes, le-ltb _ _ refs, area_held m, junctions_long junctions) (ap Ok (go (ref_of _ _ a k)))
       where
         go : (o : Option ℕ) → below m.ynd.junction_count (place_of o) ≡ place_of (inside m.ynd.junction_count o)
         go none = refl
         go (some j) = by_test (ltb j m.ynd.junction_count) (λ t. rw t) (λ f. rw f)
+
+    -- so it is not refused
+    pub junction_never : {P : Type 0} (a k : ℕ) (r : Refusal) → Err r ≡ junction_of_call m.ynd m.nodes m.refs a k → P
+    junction_never a k r e = not_refused (e ∙ junction_place_law a k)
 
     module _ (p : ℕ) (lt : p < n) where
       abbrev w : List ℕ
@@ -118,45 +121,46 @@ module _ (m : Memory) where
       unfolding seen_node see cell_of
       seen_fields = refl
 
-      seen_words : (count : ℕ) (j : Place) → count ≡ min (link_count w) (l - link_start w) → j ≡ junction_of_call m.ynd m.nodes m.refs (area_of w) (number_of w)
+      seen_words : (count : ℕ) (j : std.Option ℕ) → count ≡ min (link_count w) (l - link_start w) → Ok j ≡ junction_of_call m.ynd m.nodes m.refs (area_of w) (number_of w)
           → seen_of w count j ≡ seen_node (cell_of m) p
       unfolding seen_of
       seen_words count j ec ej =
           let ec' : count ≡ length (take (link_count w) (drop (link_start w) pool)) = ec ∙ held_long in
-          let ej' : j ≡ place_of (junction_place (cell_of m) (area_of w) (number_of w)) = ej ∙ junction_place_law (area_of w) (number_of w) in
+          let ej'' : Ok j ≡ Ok (place_of (junction_place (cell_of m) (area_of w) (number_of w))) = ej ∙ junction_place_law (area_of w) (number_of w) in
+          let ej' : j ≡ place_of (junction_place (cell_of m) (area_of w) (number_of w)) = cc in
           (λ i. seen_of w (ec' i) (ej' i)) ∙ ap seen_as (sym (node_in m nodes p lt)) ∙ sym seen_fields
 
-      pub node_answered : (r : SeenNode) (count : ℕ) (j : Place) → r ≡ seen_of w count j → count ≡ min (link_count w) (l - link_start w)
-          → j ≡ junction_of_call m.ynd m.nodes m.refs (area_of w) (number_of w) → node.Node r ≡ shown_node m p
+      pub node_answered : (r : SeenNode) (count : ℕ) (j : std.Option ℕ) → r ≡ seen_of w count j → count ≡ min (link_count w) (l - link_start w)
+          → Ok j ≡ junction_of_call m.ynd m.nodes m.refs (area_of w) (number_of w) → Ok r ≡ shown_node m p
       unfolding shown_node
       node_answered r count j er ec ej =
-          rw (lt-leb _ _ lt, within, le-ltb _ _ nodes, le-ltb _ _ links, le-ltb _ _ junctions, le-ltb _ _ refs) (ap node.Node (er ∙ seen_words count j ec ej))
+          rw (lt-leb _ _ lt, within, le-ltb _ _ nodes, le-ltb _ _ links, le-ltb _ _ junctions, le-ltb _ _ refs) (ap Ok (er ∙ seen_words count j ec ej))
 
   module _ (p : ℕ) where
-    pub node_no_place : n ≤ p → node.Refused 13 0 ≡ shown_node m p
+    pub node_no_place : n ≤ p → Err NoSuchPlace ≡ shown_node m p
     unfolding shown_node
     node_no_place h = rw (le-leb _ _ h)
 
-    pub node_over : p < n → over_limit m.ynd ≡ true → node.Refused 14 0 ≡ shown_node m p
+    pub node_over : p < n → over_limit m.ynd ≡ true → Err AtLimit ≡ shown_node m p
     unfolding shown_node
     node_over lt o = rw (lt-leb _ _ lt, o)
 
     module _ (lt : p < n) (within : over_limit m.ynd ≡ false) where
-      pub node_nodes_short : length m.nodes < n → node.Refused 7 0 ≡ shown_node m p
+      pub node_nodes_short : length m.nodes < n → Err (TooShort lent.Nodes) ≡ shown_node m p
       unfolding shown_node
       node_nodes_short h = rw (lt-leb _ _ lt, within, lt-ltb _ _ h)
 
-      pub node_links_short : n ≤ length m.nodes → length m.links < l → node.Refused 7 1 ≡ shown_node m p
+      pub node_links_short : n ≤ length m.nodes → length m.links < l → Err (TooShort lent.Links) ≡ shown_node m p
       unfolding shown_node
       node_links_short a h = rw (lt-leb _ _ lt, within, le-ltb _ _ a, lt-ltb _ _ h)
 
       pub node_junctions_short : n ≤ length m.nodes → l ≤ length m.links → length m.junctions < m.ynd.junction_count
-          → node.Refused 7 2 ≡ shown_node m p
+          → Err (TooShort lent.Junctions) ≡ shown_node m p
       unfolding shown_node
       node_junctions_short a b h = rw (lt-leb _ _ lt, within, le-ltb _ _ a, le-ltb _ _ b, lt-ltb _ _ h)
 
       pub node_refs_short : n ≤ length m.nodes → l ≤ length m.links → m.ynd.junction_count ≤ length m.junctions
-          → length m.refs < m.ynd.ref_count → node.Refused 7 4 ≡ shown_node m p
+          → length m.refs < m.ynd.ref_count → Err (TooShort lent.Refs) ≡ shown_node m p
       unfolding shown_node
       node_refs_short a b c h = rw (lt-leb _ _ lt, within, le-ltb _ _ a, le-ltb _ _ b, le-ltb _ _ c, lt-ltb _ _ h)
 
@@ -175,23 +179,23 @@ module _ (m : Memory) where
         elem_at (map (junction_with values) (take many m.junctions)) p (junction_with values []) (rw length-map long)
         ∙ ap some (get_d_map_in (junction_with values) (take many m.junctions) p [] (junction_with values []) long ∙ ap (junction_with values) (get_or-take many m.junctions p [] lt))
 
-    pub junction_no_place : many ≤ p → junction.Refused 13 0 ≡ shown_junction m p
+    pub junction_no_place : many ≤ p → Err NoSuchPlace ≡ shown_junction m p
     unfolding shown_junction
     junction_no_place h = rw (le-leb _ _ h)
 
-    pub junction_over : p < many → over_limit m.ynd ≡ true → junction.Refused 14 0 ≡ shown_junction m p
+    pub junction_over : p < many → over_limit m.ynd ≡ true → Err AtLimit ≡ shown_junction m p
     unfolding shown_junction
     junction_over lt o = rw (lt-leb _ _ lt, o)
 
     module _ (lt : p < many) (within : over_limit m.ynd ≡ false) where
-      pub junction_list_short : length m.junctions < many → junction.Refused 7 2 ≡ shown_junction m p
+      pub junction_list_short : length m.junctions < many → Err (TooShort lent.Junctions) ≡ shown_junction m p
       unfolding shown_junction
       junction_list_short h = rw (lt-leb _ _ lt, within, lt-ltb _ _ h)
 
       pub junction_answered : many ≤ length m.junctions → (r : SeenJunction)
-          → ((hs : List ℕ) → r ≡ seen_junction (junction_with hs (get_or m.junctions p []))) → junction.Junction r ≡ shown_junction m p
+          → ((hs : List ℕ) → r ≡ seen_junction (junction_with hs (get_or m.junctions p []))) → Ok r ≡ shown_junction m p
       unfolding shown_junction
-      junction_answered h r e = rw (lt-leb _ _ lt, within, le-ltb _ _ h, junction_at_law lt (omega arith)) (ap junction.Junction (e values))
+      junction_answered h r e = rw (lt-leb _ _ lt, within, le-ltb _ _ h, junction_at_law lt (omega arith)) (ap Ok (e values))
 
     -- ---- its values
 
@@ -201,52 +205,49 @@ module _ (m : Memory) where
     values_answered lt h start count es ec = rw (junction_at_law lt h) (λ i. take (ec i) (drop (es i) values))
 
     module _ (old : List ℕ) where
-      pub values_no_place : many ≤ p → values_left (shown.Refused 13 0) old ≡ shown_values m p old
+      pub values_no_place : many ≤ p → values_left (Err NoSuchPlace) old ≡ shown_values m p old
       unfolding shown_values
       values_no_place h = rw (le-leb _ _ h)
 
-      pub values_over : p < many → over_limit m.ynd ≡ true → values_left (shown.Refused 14 0) old ≡ shown_values m p old
+      pub values_over : p < many → over_limit m.ynd ≡ true → values_left (Err AtLimit) old ≡ shown_values m p old
       unfolding shown_values
       values_over lt o = rw (lt-leb _ _ lt, o)
 
       module _ (lt : p < many) (within : over_limit m.ynd ≡ false) where
-        pub junctions_short : length m.junctions < many → values_left (shown.Refused 7 2) old ≡ shown_values m p old
+        pub junctions_short : length m.junctions < many → values_left (Err (TooShort lent.Junctions)) old ≡ shown_values m p old
         unfolding shown_values
         junctions_short h = rw (lt-leb _ _ lt, within, lt-ltb _ _ h)
 
         module _ (junctions : many ≤ length m.junctions) where
-          pub heights_short : length m.heights < m.ynd.heightmap_count → values_left (shown.Refused 7 3) old ≡ shown_values m p old
+          pub heights_short : length m.heights < m.ynd.heightmap_count → values_left (Err (TooShort lent.Heightmap)) old ≡ shown_values m p old
           unfolding shown_values
           heights_short h = rw (lt-leb _ _ lt, within, le-ltb _ _ junctions, lt-ltb _ _ h)
 
           module _ (heights : m.ynd.heightmap_count ≤ length m.heights) (v : List ℕ) (are : v ≡ values_at m p) where
-            pub values_short : length old < length v → values_left (shown.Refused 7 3) old ≡ shown_values m p old
+            pub values_short : length old < length v → values_left (Err (TooShort lent.Heightmap)) old ≡ shown_values m p old
             unfolding shown_values
             values_short h = rw (lt-leb _ _ lt, within, le-ltb _ _ junctions, le-ltb _ _ heights, sym are, lt-ltb _ _ h)
 
-            pub values_copied : length v ≤ length old → {new : List ℕ} → new ≡ put_in old 0 v
-                → values_left (shown.Copied (length v)) new ≡ shown_values m p old
-            unfolding shown_values
-            values_copied h e =
-                let e' = e ∙ put_fits old 0 v (omega arith) in
-                rw (lt-leb _ _ lt, within, le-ltb _ _ junctions, le-ltb _ _ heights, sym are, le-ltb _ _ h, e')
+            pub values_copied : length v ≤ length old → values_left (Ok (length v)) (v ++ drop (length v) old) ≡ shown_values m p old
+            unfolding shown_values put
+            values_copied h = rw (lt-leb _ _ lt, within, le-ltb _ _ junctions, le-ltb _ _ heights, sym are, le-ltb _ _ h, zero-add)
 
     -- ---- the link chosen
 
-    pub link_no_place : (b : ℕ) → n ≤ p → link.Refused 13 0 ≡ shown_link m p b
+    pub link_no_place : (b : ℕ) → n ≤ p → Err NoSuchPlace ≡ shown_link m p b
     unfolding shown_link
     link_no_place b h = rw (le-leb _ _ h)
 
-    pub link_over : (b : ℕ) → p < n → over_limit m.ynd ≡ true → link.Refused 14 0 ≡ shown_link m p b
+    pub link_over : (b : ℕ) → p < n → over_limit m.ynd ≡ true → Err AtLimit ≡ shown_link m p b
     unfolding shown_link
     link_over b lt o = rw (lt-leb _ _ lt, o)
 
-    pub link_nodes_short : (b : ℕ) → p < n → over_limit m.ynd ≡ false → length m.nodes < n → link.Refused 7 0 ≡ shown_link m p b
+    pub link_nodes_short : (b : ℕ) → p < n → over_limit m.ynd ≡ false → length m.nodes < n → Err (TooShort lent.Nodes) ≡ shown_link m p b
     unfolding shown_link
     link_nodes_short b lt within h = rw (lt-leb _ _ lt, within, lt-ltb _ _ h)
 
     module _ (b : ℕ) (lt : p < n) (within : over_limit m.ynd ≡ false) (nodes : n ≤ length m.nodes) where
-      pub link_links_short : length m.links < l → link.Refused 7 1 ≡ shown_link m p b
+      pub link_links_short : length m.links < l → Err (TooShort lent.Links) ≡ shown_link m p b
       unfolding shown_link
       link_links_short h = rw (lt-leb _ _ lt, within, le-ltb _ _ nodes, lt-ltb _ _ h)
 
@@ -255,14 +256,24 @@ module _ (m : Memory) where
         unfolding shown_link cell_of
         by_link o e = rw (lt-leb _ _ lt, within, le-ltb _ _ nodes, le-ltb _ _ links, e)
 
-        pub link_beyond : link_count (get_or m.nodes p []) ≤ b → link.NoLink ≡ shown_link m p b
-        link_beyond h = by_link none (link_past m nodes p b lt h)
+        abbrev found : std.Option (List ℕ)
+        found = chosen (take l m.links) (get_or m.nodes p []) b
 
-        pub link_beyond_list : b < link_count (get_or m.nodes p []) → l ≤ link_start (get_or m.nodes p []) + b → link.NoLink ≡ shown_link m p b
-        link_beyond_list h out = by_link none (link_out m nodes links p b lt h out)
+        abbrev pub shown_for : std.Option (List ℕ) → std.Option SeenLink
+        shown_for (Some w) = Some (seen_link (link_of w).body)
+        shown_for None = None
 
-        pub link_answered : b < link_count (get_or m.nodes p []) → (at : ℕ) → at ≡ link_start (get_or m.nodes p []) + b → at < l → (r : SeenLink)
-            → r ≡ seen_link (link_of (get_or m.links at [])).body → link.Link r ≡ shown_link m p b
-        link_answered h at ea lq r er =
-            ap link.Link (er ∙ (λ i. seen_link (link_of (get_or m.links (ea i) [])).body))
-            ∙ by_link (some (link_of (get_or m.links (link_start (get_or m.nodes p []) + b) []))) (link_in m nodes links p b lt h (omega arith))
+        for_linked : (o : std.Option (List ℕ)) → Ok (shown_for o) ≡ or_no_link (body_of (linked o))
+        for_linked (Some w) = refl
+        for_linked None = refl
+
+        pub link_answered : (o : std.Option SeenLink) → o ≡ shown_for found → Ok o ≡ shown_link m p b
+        link_answered o e = ap Ok e ∙ for_linked found ∙ by_link (linked found) (link_found m nodes links p b lt)
+
+        pub link_said : (o : std.Option SeenLink) → MatchOption found (o ≡ None) (λ w. IsSomeAnd o (λ r. r ≡ seen_link (link_of w).body)) → o ≡ shown_for found
+        link_said o h = go found o h
+          where
+            go : (f : std.Option (List ℕ)) (o : std.Option SeenLink) → MatchOption f (o ≡ None) (λ w. IsSomeAnd o (λ r. r ≡ seen_link (link_of w).body)) → o ≡ shown_for f
+            go None o h = h
+            go (Some w) (Some r) h = ap Some h
+            go (Some w) None h = absurd h

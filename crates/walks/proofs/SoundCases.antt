@@ -5,42 +5,44 @@ use mathlib.Core.Path.{◌≡◌, refl, ap, sym, ◌∙◌}
 use mathlib.Core.Bool.{Bool, true, false}
 use mathlib.Core.List.{List}
 use lib.Dec.{ltb}
-use lib.ListN.{length}
+use lib.ListN.{length, take}
 use borrow.Author.Tests.{lt-ltb, le-ltb}
 use Rattle.cells.specs.Memory.{Memory, over_limit}
 use Rattle.cells.specs.Cell.{numbers}
 use Rattle.cells.specs.CellOf.{cell_of}
-use Rattle.cells.specs.LookupCall.{numbers_in}
 use Rattle.cells.proofs.Sequences.Tests.{by_test}
 use Rattle.walks.specs.Sound.{sound}
 use Rattle.walks.specs.SoundCall.{verdict, indexed, SoundLeft, sound_left, sound_call}
-use Rattle.walks.specs.SoundParts.{words_sound, none_or}
-use Rattle.walks.specs.declared.sound.Soundness.{Soundness}
-use Rattle.walks.specs.declared.sound.Soundness.TheVariants.{Sound, Unsound, Refused}
-use Rattle.walks.proofs.SoundWords.{numbers_same, sound_words}
+use Rattle.walks.specs.SoundParts.{all_numbers, none_or}
+use Rattle.walks.proofs.SoundWords.{numbers_same, judged, sound_words}
+use Rattle.walks.proofs.ScratchLaws.{all_front}
+use Rattle.std.specs.Prelude.{Result, Ok, Err}
+use Rattle.numbers.specs.declared.refusal.Refusal.{Refusal}
+use Rattle.numbers.specs.declared.refusal.Refusal.TheVariants.{TooShort, AtLimit}
+use Rattle.numbers.specs.declared.refusal.Lent.TheVariants as lent
 
 module _ (m : Memory) (scratch : List ℕ) where
-  pub limit_passed : over_limit m.ynd ≡ true → sound_left (Refused 14 0) scratch ≡ sound_call m scratch
+  pub limit_passed : over_limit m.ynd ≡ true → sound_left (Err AtLimit) scratch ≡ sound_call m scratch
   unfolding sound_call
   limit_passed o = rw o
 
 module _ (m : Memory) (scratch : List ℕ) (within : over_limit m.ynd ≡ false) where
-  pub nodes_short : length m.nodes < m.ynd.node_count → sound_left (Refused 7 0) scratch ≡ sound_call m scratch
+  pub nodes_short : length m.nodes < m.ynd.node_count → sound_left (Err (TooShort lent.Nodes)) scratch ≡ sound_call m scratch
   unfolding sound_call
   nodes_short h = rw (within, lt-ltb _ _ h)
 
   module _ (nodes : m.ynd.node_count ≤ length m.nodes) where
-    pub links_short : length m.links < m.ynd.link_count → sound_left (Refused 7 1) scratch ≡ sound_call m scratch
+    pub links_short : length m.links < m.ynd.link_count → sound_left (Err (TooShort lent.Links)) scratch ≡ sound_call m scratch
     unfolding sound_call
     links_short h = rw (within, le-ltb _ _ nodes, lt-ltb _ _ h)
 
     module _ (links : m.ynd.link_count ≤ length m.links) where
-      pub refs_short : length m.refs < m.ynd.ref_count → sound_left (Refused 7 4) scratch ≡ sound_call m scratch
+      pub refs_short : length m.refs < m.ynd.ref_count → sound_left (Err (TooShort lent.Refs)) scratch ≡ sound_call m scratch
       unfolding sound_call
       refs_short h = rw (within, le-ltb _ _ nodes, le-ltb _ _ links, lt-ltb _ _ h)
 
       module _ (refs : m.ynd.ref_count ≤ length m.refs) where
-        pub scratch_short : length scratch < 65536 → sound_left (Refused 7 6) scratch ≡ sound_call m scratch
+        pub scratch_short : length scratch < 65536 → sound_left (Err (TooShort lent.Scratch)) scratch ≡ sound_call m scratch
         unfolding sound_call
         scratch_short h = rw (within, le-ltb _ _ nodes, le-ltb _ _ links, le-ltb _ _ refs, lt-ltb _ _ h)
 
@@ -49,18 +51,18 @@ module _ (m : Memory) (scratch : List ℕ) (within : over_limit m.ynd ≡ false)
         unfolding sound_call
         says h = rw (within, le-ltb _ _ nodes, le-ltb _ _ links, le-ltb _ _ refs, le-ltb _ _ h)
 
-        pub judged_call : 65536 ≤ length scratch → (a : Soundness) (v : Bool) (s : List ℕ) → a ≡ verdict v
-            → v ≡ none_or m.ynd.node_count (words_sound m.ynd.node_count m.ynd.link_count m.ynd.ref_count m.nodes m.links m.refs)
-            → s ≡ indexed (numbers_in m.ynd.node_count m.nodes) 0 scratch → sound_left a s ≡ sound_call m scratch
+        pub judged_call : 65536 ≤ length scratch → (a : Result Bool Refusal) (v : Bool) (s : List ℕ) → a ≡ verdict v
+            → v ≡ none_or (take m.ynd.node_count m.nodes) (judged m)
+            → s ≡ indexed (all_numbers (take m.ynd.node_count m.nodes)) 0 scratch → sound_left a s ≡ sound_call m scratch
         judged_call h a v s ea ev es =
             let answer : a ≡ verdict (sound (cell_of m)) = ea ∙ ap verdict (ev ∙ sound_words m nodes) in
-            let after : s ≡ indexed (numbers (cell_of m).nodes) 0 scratch = es ∙ ap (λ (ks : List ℕ). indexed ks 0 scratch) (sym (numbers_same m)) in
+            let after : s ≡ indexed (numbers (cell_of m).nodes) 0 scratch = es ∙ ap (λ (ks : List ℕ). indexed ks 0 scratch) (all_front m.ynd.node_count m.nodes ∙ sym (numbers_same m)) in
             (λ i. sound_left (answer i) (after i)) ∙ sym (says h)
 
 module _ (m : Memory) (scratch : List ℕ) where
   -- a refusal says neither yes nor no
-  by_cases : (P : SoundLeft → Type 0) → P (sound_left (Refused 14 0) scratch) → P (sound_left (Refused 7 0) scratch) → P (sound_left (Refused 7 1) scratch) → P (sound_left (Refused 7 4) scratch)
-      → P (sound_left (Refused 7 6) scratch) → P (sound_left (verdict (sound (cell_of m))) (indexed (numbers (cell_of m).nodes) 0 scratch)) → P (sound_call m scratch)
+  by_cases : (P : SoundLeft → Type 0) → P (sound_left (Err AtLimit) scratch) → P (sound_left (Err (TooShort lent.Nodes)) scratch) → P (sound_left (Err (TooShort lent.Links)) scratch) → P (sound_left (Err (TooShort lent.Refs)) scratch)
+      → P (sound_left (Err (TooShort lent.Scratch)) scratch) → P (sound_left (verdict (sound (cell_of m))) (indexed (numbers (cell_of m).nodes) 0 scratch)) → P (sound_call m scratch)
   unfolding sound_call
   by_cases P o a b c d e =
       by_test (over_limit m.ynd) (λ t. rw t o) (λ f₀.
@@ -70,22 +72,22 @@ module _ (m : Memory) (scratch : List ℕ) where
       by_test (ltb (length scratch) 65536) (λ t. rw (f₀, f₁, f₂, f₃, t) d) (λ f₄. rw (f₀, f₁, f₂, f₃, f₄) e)))))
 
   -- a yes means that the cell is sound, and a no that it is not
-  pub says_yes : (sound_call m scratch).answer ≡ Sound → sound (cell_of m) ≡ true
-  says_yes = by_cases (λ x. x.answer ≡ Sound → sound (cell_of m) ≡ true) never never never never never (yes (sound (cell_of m)))
+  pub says_yes : (sound_call m scratch).answer ≡ (Ok true) → sound (cell_of m) ≡ true
+  says_yes = by_cases (λ x. x.answer ≡ (Ok true) → sound (cell_of m) ≡ true) never never never never never (yes (sound (cell_of m)))
     where
-      never : {P : Type 0} {k p : ℕ} → Refused k p ≡ Sound → P
+      never : {P : Type 0} {r : Refusal} → ◌≡◌ {A = Result Bool Refusal} (Err r) (Ok true) → P
       never e = let z : ◌≡◌ {A = ℕ} 0 1 = cc in absurd (omega arith)
 
-      yes : (b : Bool) → verdict b ≡ Sound → b ≡ true
+      yes : (b : Bool) → verdict b ≡ (Ok true) → b ≡ true
       yes true e = refl
       yes false e = let z : ◌≡◌ {A = ℕ} 0 1 = cc in absurd (omega arith)
 
-  pub says_no : (sound_call m scratch).answer ≡ Unsound → sound (cell_of m) ≡ false
-  says_no = by_cases (λ x. x.answer ≡ Unsound → sound (cell_of m) ≡ false) never never never never never (none (sound (cell_of m)))
+  pub says_no : (sound_call m scratch).answer ≡ (Ok false) → sound (cell_of m) ≡ false
+  says_no = by_cases (λ x. x.answer ≡ (Ok false) → sound (cell_of m) ≡ false) never never never never never (none (sound (cell_of m)))
     where
-      never : {P : Type 0} {k p : ℕ} → Refused k p ≡ Unsound → P
+      never : {P : Type 0} {r : Refusal} → ◌≡◌ {A = Result Bool Refusal} (Err r) (Ok false) → P
       never e = let z : ◌≡◌ {A = ℕ} 0 1 = cc in absurd (omega arith)
 
-      none : (b : Bool) → verdict b ≡ Unsound → b ≡ false
+      none : (b : Bool) → verdict b ≡ (Ok false) → b ≡ false
       none true e = let z : ◌≡◌ {A = ℕ} 0 1 = cc in absurd (omega arith)
       none false e = refl

@@ -16,9 +16,10 @@ use Rattle.cells.specs.Renumber.{Renumbered, renumber}
 use Rattle.cells.specs.Blocks.{written}
 use Rattle.cells.specs.Write.{refuse, held, write_call}
 use Rattle.cells.specs.declared.ynd.Ynd.{Ynd}
-use Rattle.cells.specs.declared.write.Written.TheVariants.{Wrote}
 use Rattle.cells.proofs.Worked.Pairs as renumbering
 use Rattle.cells.proofs.Worked.WritePairs.{one_node, links_31, links_32, bare_node, bare_address}
+use Rattle.std.specs.Prelude.{Ok}
+use Rattle.numbers.specs.declared.refusal.Refusal.TheVariants.{TooManyLinks}
 
 -- a node of area 1177 with this number, these flags1 and five unused words from `tag` on; a link or ref
 abbrev node : ℕ → ℕ → ℕ → List ℕ
@@ -70,10 +71,10 @@ pub record Starred : Type 0 where
   pub new_numbers : take 3 renumbered.places ≡ 0 ∷ 2 ∷ 1 ∷ []
   pub new_order : take 3 renumbered.memory.nodes ≡ node 0 0 10 ∷ node 1 0 30 ∷ node 2 80 20 ∷ []
   -- 31 links write, wherever there is room; 32 don't
-  pub links_31 : (section : List ℕ) → 1448 ≤ length section → (write_call (one_node 31) section).answer ≡ Wrote 1448
-  pub links_32 : (section : List ℕ) → write_call (one_node 32) section ≡ refuse 8 0 section
+  pub links_31 : (section : List ℕ) → 1448 ≤ length section → (write_call (one_node 31) section).answer ≡ Ok 1448
+  pub links_32 : (section : List ℕ) → write_call (one_node 32) section ≡ refuse (TooManyLinks 0) section
   -- one bare node writes 1,192 bytes, nodes address 0x50000480
-  pub bare_node : (section : List ℕ) → 1192 ≤ length section → (write_call (one_node 0) section).answer ≡ Wrote 1192
+  pub bare_node : (section : List ℕ) → 1192 ≤ length section → (write_call (one_node 0) section).answer ≡ Ok 1192
   pub bare_address : le64 (written (held (one_node 0))) 16 ≡ 0x50000480
 
 pub starred : Starred

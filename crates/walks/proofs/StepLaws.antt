@@ -8,7 +8,12 @@ use mathlib.Core.List.{List, [], ◌∷◌, map}
 use mathlib.Core.Option.{Option, none, some}
 use lib.ListN.{length, get_or, get_elem?, take, drop, length-map}
 use lib.Seq.{length-take-le, get_or-take}
-use borrow.Author.Tests.{le-ltb}
+use lib.Dec.{ltb}
+use borrow.Author.Tests.{le-ltb, ltb-true, ltb-false}
+use Rattle.std.specs.Prelude.{Some, None}
+use Rattle.std.specs.declared.option.Option as std
+use Rattle.std.proofs.lemmas.Option.{slice_get-get_or, slice_get_past}
+use Rattle.cells.proofs.Sequences.Tests.{by_test}
 use Rattle.cells.specs.Memory.{Memory, over_limit}
 use Rattle.cells.specs.NodeWords.{first_area, link_start, link_count}
 use Rattle.cells.proofs.Lookups.LookupLaws.{area_held}
@@ -17,11 +22,12 @@ use Rattle.cells.specs.Cell.{Link, Node, no_node, node_at, numbers}
 use Rattle.cells.specs.CellOf.{link_of, node_with, nodes_of, cell_of}
 use Rattle.cells.specs.Lookup.{find}
 use Rattle.cells.specs.LookupCall.{numbers_in, place_of, find_in, node_call}
+use Rattle.walks.specs.Parts.{chosen}
 use Rattle.walks.specs.Walk.{next, link_at, arrive}
 use Rattle.walks.specs.WalkParts.{step_of, step_in, step_to}
-use Rattle.walks.specs.declared.walk.Step.TheVariants.{Stop}
 use Rattle.walks.specs.declared.walk.End.TheVariants.{NoLink, Left}
 use Rattle.walks.proofs.SoundWords.{numbers_same}
+use Rattle.std.specs.Prelude.{Ok, Err}
 
 module _ {A : Type 0} where
   pub elem_at : (l : List A) (i : ℕ) (d : A) → i < length l → get_elem? l i ≡ some (get_or l i d)
@@ -55,6 +61,11 @@ pub get_d_map_in : {A B : Type 0} (f : A → B) (l : List A) (i : ℕ) (d : A) (
 get_d_map_in f [] i d e lt = absurd (omega arith)
 get_d_map_in f (x ∷ xs) zero d e lt = refl
 get_d_map_in f (x ∷ xs) (suc i) d e lt = get_d_map_in f xs i d e (omega arith)
+
+-- the link that these words are, if there are any
+abbrev pub linked : std.Option (List ℕ) → Option Link
+linked (Some w) = some (link_of w)
+linked None = none
 
 module _ (m : Memory) where
   abbrev n : ℕ
@@ -91,10 +102,6 @@ module _ (m : Memory) where
     pub link_past : (p b : ℕ) → p < n → count p ≤ b → link_at (nodes_of m) p b ≡ none
     link_past p b lt h = rw (links_in p lt, elem_take_past (count p) (drop (start p) pool) b h)
 
-    pub next_past : (p b : ℕ) → p < n → count p ≤ b → Stop NoLink ≡ step_in m p b
-    unfolding step_in next
-    next_past p b lt h = rw (link_past p b lt h)
-
     module _ (held : l ≤ length m.links) where
       long : length pool ≡ l
       long = length-map (take l m.links) link_of ∙ length-take-le l m.links held
@@ -102,10 +109,6 @@ module _ (m : Memory) where
       -- a range that runs out of the links held
       pub link_out : (p b : ℕ) → p < n → b < count p → l ≤ start p + b → link_at (nodes_of m) p b ≡ none
       link_out p b lt h out = rw (links_in p lt, elem_take (count p) (drop (start p) pool) b h, elem_drop, elem_past pool (start p + b) (rw long out))
-
-      pub next_out : (p b : ℕ) → p < n → b < count p → l ≤ start p + b → Stop NoLink ≡ step_in m p b
-      unfolding step_in next
-      next_out p b lt h out = rw (link_out p b lt h out)
 
       pub link_in : (p b : ℕ) → p < n → b < count p → start p + b < l → link_at (nodes_of m) p b ≡ some (link_of (get_or m.links (start p + b) []))
       link_in p b lt h lq =
@@ -118,18 +121,39 @@ module _ (m : Memory) where
             get_or-take l m.links (start p + b) [] lq,
           )
 
-      -- a link of another area
-      pub next_left : (p b : ℕ) → p < n → b < count p → start p + b < l → belongs (first_area (take n m.nodes)) (get_or (get_or m.links (start p + b) []) 0 0) ≡ false
-          → Stop (Left (get_or (get_or m.links (start p + b) []) 0 0) (get_or (get_or m.links (start p + b) []) 1 0)) ≡ step_in m p b
+      -- what a choice finds among the words
+      abbrev pub found : ℕ → ℕ → std.Option (List ℕ)
+      found p b = chosen (take l m.links) (get_or m.nodes p []) b
+
+      pub link_found : (p b : ℕ) → p < n → link_at (nodes_of m) p b ≡ linked (found p b)
+      unfolding chosen
+      link_found p b lt = by_test (ltb b (count p))
+          (λ t. let h : b < count p = ltb-true _ _ t in
+          by_test (ltb (start p + b) l)
+          (λ u. let lq : start p + b < l = ltb-true _ _ u in
+          let at : start p + b < length (take l m.links) = omega (arith, length-take-le l m.links held) in
+          link_in p b lt h lq ∙ rw (t, slice_get-get_or (take l m.links) (start p + b) [] at, get_or-take l m.links (start p + b) [] lq))
+          (λ f. let out : l ≤ start p + b = ltb-false _ _ f in
+          let past : length (take l m.links) ≤ start p + b = omega (arith, length-take-le l m.links held) in
+          link_out p b lt h out ∙ rw (t, slice_get_past (take l m.links) (start p + b) past)))
+          (λ f. link_past p b lt (ltb-false _ _ f) ∙ rw f)
+
+      pub next_none : (p b : ℕ) → p < n → found p b ≡ None → Err NoLink ≡ step_in m p b
       unfolding step_in next
-      next_left p b lt h lq ne = rw (link_in p b lt h lq, area_held m, ne)
+      next_none p b lt e = rw (link_found p b lt, e)
+
+      -- a link of another area
+      pub next_left : (p b : ℕ) (w : List ℕ) → p < n → found p b ≡ Some w → belongs (first_area (take n m.nodes)) (get_or w 0 0) ≡ false
+          → Err (Left (get_or w 0 0) (get_or w 1 0)) ≡ step_in m p b
+      unfolding step_in next
+      next_left p b w lt e ne = rw (link_found p b lt, e, area_held m, ne)
 
       -- a link of the cell's own area leads to what `node` finds
-      pub next_own : over_limit m.ynd ≡ false → (p b : ℕ) → p < n → b < count p → start p + b < l → belongs (first_area (take n m.nodes)) (get_or (get_or m.links (start p + b) []) 0 0) ≡ true
-          → step_to (node_call m.ynd m.nodes (get_or (get_or m.links (start p + b) []) 1 0)) ≡ step_in m p b
+      pub next_own : over_limit m.ynd ≡ false → (p b : ℕ) (w : List ℕ) → p < n → found p b ≡ Some w
+          → belongs (first_area (take n m.nodes)) (get_or w 0 0) ≡ true → step_to (node_call m.ynd m.nodes (get_or w 1 0)) ≡ step_in m p b
       unfolding step_in next node_call find_in
-      next_own o p b lt h lq e = rw (o, link_in p b lt h lq, area_held m, e, same_numbers, le-ltb _ _ fits) (go (find _ _))
+      next_own o p b w lt e own = rw (o, link_found p b lt, e, area_held m, own, same_numbers, le-ltb _ _ fits) (go (find _ _))
         where
-          go : (o : Option ℕ) → step_to (place_of o) ≡ step_of (arrive o)
+          go : (o : Option ℕ) → step_to (Ok (place_of o)) ≡ step_of (arrive o)
           go (some q) = refl
           go none = refl

@@ -12,10 +12,10 @@ use Rattle.walks.specs.WalkCall.{step_on, route}
 use Rattle.walks.specs.WalkParts.{step_in, route_in, traced, over}
 use Rattle.walks.specs.declared.walk.End.{End}
 use Rattle.walks.specs.declared.walk.End.TheVariants.{Done}
-use Rattle.walks.specs.declared.walk.Step.TheVariants.{To, Stop}
-use Rattle.walks.specs.declared.walk.Traced.{Traced}
+use Rattle.walks.specs.declared.walk.Walked.{Walked}
 use Rattle.walks.proofs.VisitedLaws.{over_step, over_last, over_inside}
 use Rattle.walks.proofs.Reaches.{Reached, reached_start, advance, halt, finish, halt_traced, finish_traced}
+use Rattle.std.specs.Prelude.{Ok, Err}
 
 -- a route begins at its start
 route_head : (ns : List Node) (bs : List ℕ) (p : ℕ) → (rest : List ℕ) × ((route ns bs p).places ≡ p ∷ rest)
@@ -58,7 +58,7 @@ module _ (m : Memory) (holds : m.ynd.node_count ≤ length m.nodes) (bs : List �
   }
 
   module _ (now : List ℕ) (i p : ℕ) (h : Storing m bs s first now i p) where
-    pub storing_step : (q : ℕ) → i < length bs → To q ≡ step_in m p (get_or bs i 0) → Storing m bs s first (set now i p) (i + 1) q
+    pub storing_step : (q : ℕ) → i < length bs → Ok q ≡ step_in m p (get_or bs i 0) → Storing m bs s first (set now i p) (i + 1) q
     storing_step q lt e =
         let a = advance m holds bs s i p h.reached q lt e in
         let r = from_here i p h.reached in
@@ -71,8 +71,8 @@ module _ (m : Memory) (holds : m.ynd.node_count ≤ length m.nodes) (bs : List �
           long = rw (length-set) h.long;
         }
 
-    pub stored_stop : (e : End) → i < length bs → Stop e ≡ step_in m p (get_or bs i 0) → ◌≡◌ {A = Traced} (record { end = e; count = i + 1 }) (traced (route_in m bs s)) × (set now i p ≡ over P first)
+    pub stored_stop : (e : End) → i < length bs → Err e ≡ step_in m p (get_or bs i 0) → ◌≡◌ {A = Walked} (record { end = e; count = i + 1 }) (traced (route_in m bs s)) × (set now i p ≡ over P first)
     stored_stop e lt x = (halt_traced m holds bs s i p h.reached e lt x, rw h.stored (over_last P first fits i p (halt m holds bs s i p h.reached e lt x).1))
 
-    pub stored_end : length bs ≤ i → ◌≡◌ {A = Traced} (record { end = Done; count = i + 1 }) (traced (route_in m bs s)) × (set now i p ≡ over P first)
+    pub stored_end : length bs ≤ i → ◌≡◌ {A = Walked} (record { end = Done; count = i + 1 }) (traced (route_in m bs s)) × (set now i p ≡ over P first)
     stored_end le = (finish_traced m holds bs s i p h.reached le, rw h.stored (over_last P first fits i p (finish m holds bs s i p h.reached le).1))

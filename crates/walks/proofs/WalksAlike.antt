@@ -16,23 +16,23 @@ use Rattle.cells.specs.CellOf.{link_of, node_with, nodes_of, cell_of}
 use Rattle.walks.specs.WalkCall.{Route, route, WalkLeft, walk_call}
 use Rattle.walks.specs.declared.walk.End.{End}
 use Rattle.walks.specs.declared.walk.Walked.{Walked}
-use Rattle.walks.specs.declared.walk.Walked.TheVariants as walked
 use Rattle.cells.specs.Order.{parted}
 use Rattle.cells.specs.NodeWords.{is_ped, reordered, number_from, old_of, relinked}
 use Rattle.cells.specs.Renumber.{renumber_lists, recounted, answer_of, renumber_memory, new_lists, left_by, renumber}
 use Rattle.walks.specs.Calls.{Call, renumbering, write_read, after, run}
 use Rattle.cells.specs.WriteRead.{if_read, if_written, write_read_of}
 use Rattle.cells.specs.Write.{write_call}
-use Rattle.numbers.specs.declared.answer.Answer.{Answer}
-use Rattle.numbers.specs.declared.answer.Answer.TheVariants.{Done, Refused}
-use Rattle.cells.specs.declared.write.Written.{Written}
-use Rattle.cells.specs.declared.write.Written.TheVariants as written
 use Rattle.walks.proofs.Routes.{move_route, alike_route}
 use Rattle.cells.proofs.Forms.Limits.{not_over}
 use Rattle.cells.proofs.Reading.ReadLaws.{length_up_to, length_join_to, length_links}
 use Rattle.cells.proofs.Reading.FileRead.{read_all}
 use Rattle.cells.proofs.Renumbering.CellRenumbered.{parted_length, number_length}
 use Rattle.walks.proofs.CallLists.{Alike}
+use Rattle.std.specs.Prelude.{Result, Ok, Err}
+use Rattle.numbers.specs.Refusals.{Answer}
+use Rattle.numbers.specs.declared.refusal.Refusal.{Refusal}
+use Rattle.numbers.specs.declared.refusal.Refusal.TheVariants.{TooShort}
+use Rattle.numbers.specs.declared.refusal.Lent.TheVariants as lent
 
 -- nodes and links lie whole in the lists, within the limits
 pub record Lies (m : Memory) : Type 0 where
@@ -50,16 +50,16 @@ nodes_long m h =
 abbrev pub route_left : Route → List ℕ → WalkLeft
 route_left r visited =
     cond (ltb (length visited) (length r.places))
-    (record { answer = walked.Refused 7 8; visited = visited })
-    (record { answer = walked.Ended r.ending (length r.places); visited = r.places ++ drop (length r.places) visited })
+    (record { answer = Err (TooShort lent.List); visited = visited })
+    (record { answer = Ok (record { end = r.ending; count = length r.places }); visited = r.places ++ drop (length r.places) visited })
 
 cond_answer : (b : Bool) (x y : WalkLeft) → (cond b x y).answer ≡ cond b x.answer y.answer
 cond_answer true x y = refl
 cond_answer false x y = refl
 
 -- its answer, by the length of the visited list alone
-abbrev answer_by : End → ℕ → ℕ → Walked
-answer_by e count room = cond (ltb room count) (walked.Refused 7 8) (walked.Ended e count)
+abbrev answer_by : End → ℕ → ℕ → Result Walked Refusal
+answer_by e count room = cond (ltb room count) (Err (TooShort lent.List)) (Ok (record { end = e; count = count }))
 
 left_answer : (r : Route) (visited : List ℕ) → (route_left r visited).answer ≡ answer_by r.ending (length r.places) (length visited)
 left_answer r visited = cond_answer (ltb (length visited) (length r.places)) _ _
@@ -94,7 +94,7 @@ module _ (m d : Memory) (f : ℕ → ℕ) (hm : Lies m) (hd : Lies d) (a : Alike
 
 -- ---- the lists hold the cell all along
 
-pub read_lies : (s g : List ℕ) (m : Memory) → (read_of s g m).answer ≡ Done → Lies (read_of s g m).memory
+pub read_lies : (s g : List ℕ) (m : Memory) → (read_of s g m).answer ≡ (Ok tt) → Lies (read_of s g m).memory
 unfolding filled cell_read
 read_lies s g m e = read_all Lies s g m (λ n l j h r held.
     let k = counts_of n j r in
@@ -118,8 +118,8 @@ renumber_lies m ps s h = go (answer_of (over_limit m.ynd) m.ynd.node_count (shor
     ns = take n m.nodes
 
     go : (a : Answer) → Lies (left_by a m ps).memory
-    go (Refused x p) = h
-    go Done = record {
+    go (Err x) = h
+    go (Ok tt) = record {
       within = h.within;
       nodes_lie = omega (arith, length-append (number_from 0 (parted is_ped ns)) (drop n m.nodes), number_length 0 (parted is_ped ns), parted_length ns, length-take-le n m.nodes h.nodes_lie);
       links_lie = omega (arith, length-append (map (relinked (old_of n m.nodes)) (take l m.links)) (drop l m.links), length-map (take l m.links) (relinked (old_of n m.nodes)), length-take-le l m.links h.links_lie);
@@ -133,12 +133,12 @@ write_read_lies m s h = go (write_call m s).answer
     t = (write_call m s).section
 
     reading : (n : ℕ) (c : Answer) → (read_of (take n t) [] m).answer ≡ c → Lies (if_read n t c (read_of (take n t) [] m).memory m s).memory
-    reading n (Refused x y) e = h
-    reading n Done e = read_lies (take n t) [] m e
+    reading n (Err x) e = h
+    reading n (Ok tt) e = read_lies (take n t) [] m e
 
-    go : (a : Written) → Lies (if_written a t m s).memory
-    go (written.Refused x y) = h
-    go (written.Wrote n) = reading n (read_of (take n t) [] m).answer refl
+    go : (a : Result ℕ Refusal) → Lies (if_written a t m s).memory
+    go (Err x) = h
+    go (Ok n) = reading n (read_of (take n t) [] m).answer refl
 
 pub run_lies : (m : Memory) (ks : List Call) → Lies m → Lies (run m ks)
 unfolding run after

@@ -6,8 +6,8 @@ use Rattle.cells.specs.Memory.{Memory}
 use Rattle.cells.specs.CellOf.{cell_of}
 use Rattle.cells.specs.Renumber.{renumber}
 use Rattle.cells.specs.WriteRead.{write_read_of}
-use Rattle.numbers.specs.declared.answer.Answer.{Answer}
-use Rattle.numbers.specs.declared.answer.Answer.TheVariants.{Done, Refused}
+use Rattle.std.specs.Prelude.{Ok, Err}
+use Rattle.numbers.specs.Refusals.{Answer}
 
 -- One call, with what is lent to it, of any length and content: a renumbering with scratch and a list for the new
 -- places, a write-then-read with section memory.
@@ -27,8 +27,8 @@ run m [] = m
 run m (k ∷ ks) = run (after m k) ks
 
 abbrev pub is_done : Answer → Bool
-is_done Done = true
-is_done (Refused cause place) = false
+is_done (Ok tt) = true
+is_done (Err cause) = false
 
 -- This call is a renumbering, and it is accepted.
 unfoldable pub renumbers : Memory → Call → Bool

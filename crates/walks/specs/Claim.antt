@@ -1,7 +1,6 @@
 -- Demand 3: nobody who sees only what walks of a sound cell show can find out what it has been through.
 use Rattle.std.specs.Prelude.{ℕ, ◌-◌, ◌<◌, ◌≡◌, true, List, map, length}
 use Rattle.std.proofs.Math.Option.{Option}
-use Rattle.numbers.specs.declared.answer.Answer.TheVariants.{Done}
 use Rattle.cells.specs.Memory.{Memory}
 use Rattle.cells.specs.Read.{read_of}
 use Rattle.cells.specs.Cell.{LinkBody, Cell, node_at}
@@ -11,6 +10,7 @@ use Rattle.walks.specs.Sound.{sound}
 use Rattle.walks.specs.Walk.{Seen, Visit, Trail, walk}
 use Rattle.walks.specs.WalkCall.{walk_call}
 use Rattle.walks.specs.Calls.{Call, run, moved, any_renumbers}
+use Rattle.std.specs.Prelude.{Ok}
 
 -- The words of the claim:
 --   read_of system graphics lent     what reading two sections answers, and the memory that it leaves of the memory
@@ -71,6 +71,6 @@ pub record Unnoticed (first : Cell) (m : Memory) (calls : List Call) : Type 0 wh
 -- the one that document 01 defines for the two sections, is sound, for every list of calls.
 abbrev pub Demand3 : Type 0
 Demand3 =
-    (system graphics : List ℕ) (lent : Memory) → (read_of system graphics lent).answer ≡ Done
+    (system graphics : List ℕ) (lent : Memory) → (read_of system graphics lent).answer ≡ (Ok tt)
     → sound (file_cell system graphics) ≡ true
     → (calls : List Call) → Unnoticed (file_cell system graphics) (read_of system graphics lent).memory calls

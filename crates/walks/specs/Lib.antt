@@ -1,5 +1,6 @@
 pub mod Sound
 pub mod SoundCall
+pub mod Parts
 pub mod SoundParts
 pub mod Walk
 pub mod WalkCall

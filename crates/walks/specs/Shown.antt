@@ -2,7 +2,7 @@
 -- the link chosen. Causes of refusal: 13 no such place; 14 a struct over a limit; 7 at 0 to 4 a list shorter than its
 -- count.
 use Rattle.std.specs.Prelude.{ℕ, cond, List, [], leb, ltb, length}
-use Rattle.std.proofs.Math.Option.{Option, none, some}
+use Rattle.std.proofs.Math.Option.{Option as Found, none, some}
 use Rattle.std.proofs.Math.ListN.{get_elem?}
 use Rattle.records.specs.Put.{put}
 use Rattle.cells.specs.Memory.{Memory, over_limit}
@@ -10,33 +10,28 @@ use Rattle.cells.specs.Cell.{LinkBody, NodeBody, Junction, Cell, node_at, first_
 use Rattle.cells.specs.CellOf.{cell_of}
 use Rattle.cells.specs.Lookup.{ref_of}
 use Rattle.cells.specs.LookupCall.{place_of}
-use Rattle.cells.specs.declared.lookup.Place.{Place}
 use Rattle.walks.specs.Walk.{link_at, see, body_of}
 use Rattle.walks.specs.declared.shown.SeenNode.{SeenNode}
 use Rattle.walks.specs.declared.shown.SeenJunction.{SeenJunction}
 use Rattle.walks.specs.declared.shown.SeenLink.{SeenLink}
-use Rattle.walks.specs.declared.shown.ShownNode.{ShownNode}
-use Rattle.walks.specs.declared.shown.ShownNode.TheVariants as node
-use Rattle.walks.specs.declared.shown.ShownJunction.{ShownJunction}
-use Rattle.walks.specs.declared.shown.ShownJunction.TheVariants as junction
-use Rattle.walks.specs.declared.shown.ShownValues.{ShownValues}
-use Rattle.walks.specs.declared.shown.ShownValues.TheVariants as values
-use Rattle.walks.specs.declared.shown.ShownLink.{ShownLink}
-use Rattle.walks.specs.declared.shown.ShownLink.TheVariants as link
+use Rattle.std.specs.Prelude.{Option, Result, Ok, Err, Some, None}
+use Rattle.numbers.specs.declared.refusal.Refusal.{Refusal}
+use Rattle.numbers.specs.declared.refusal.Refusal.TheVariants.{TooShort, NoSuchPlace, AtLimit}
+use Rattle.numbers.specs.declared.refusal.Lent.TheVariants as lent
 
 -- ---- a node
 
-abbrev pub inside : ℕ → Option ℕ → Option ℕ
+abbrev pub inside : ℕ → Found ℕ → Found ℕ
 inside count (some j) = cond (ltb j count) (some j) none
 inside count none = none
 
 -- The place of the junction that `junction_of` gives to a node of the area a with the number k. Law `junction_shown`:
 -- it is the junction that the walk shows.
-unfoldable pub junction_place : Cell → ℕ → ℕ → Option ℕ
+unfoldable pub junction_place : Cell → ℕ → ℕ → Found ℕ
 junction_place c a k = inside (length c.junctions) (ref_of (first_of c.nodes) c.refs a k)
 
 -- what is shown of a node of this area and body, with so many links and its junction at a place
-abbrev pub seen_by : ℕ → NodeBody → ℕ → Place → SeenNode
+abbrev pub seen_by : ℕ → NodeBody → ℕ → Option ℕ → SeenNode
 seen_by area b count junction = record {
   area_id = area;
   street_name = b.marks.street;
@@ -61,33 +56,33 @@ unfoldable pub seen_node : Cell → ℕ → SeenNode
 seen_node c p = seen_by (see c p).area (see c p).body (see c p).count
     (place_of (junction_place c (see c p).area (node_at c.nodes p).number))
 
-unfoldable pub shown_node : Memory → ℕ → ShownNode
+unfoldable pub shown_node : Memory → ℕ → Result SeenNode Refusal
 shown_node m p =
-    cond (leb m.ynd.node_count p) (node.Refused 13 0)
-    (cond (over_limit m.ynd) (node.Refused 14 0)
-    (cond (ltb (length m.nodes) m.ynd.node_count) (node.Refused 7 0)
-    (cond (ltb (length m.links) m.ynd.link_count) (node.Refused 7 1)
-    (cond (ltb (length m.junctions) m.ynd.junction_count) (node.Refused 7 2)
-    (cond (ltb (length m.refs) m.ynd.ref_count) (node.Refused 7 4)
-    (node.Node (seen_node (cell_of m) p)))))))
+    cond (leb m.ynd.node_count p) (Err NoSuchPlace)
+    (cond (over_limit m.ynd) (Err AtLimit)
+    (cond (ltb (length m.nodes) m.ynd.node_count) (Err (TooShort lent.Nodes))
+    (cond (ltb (length m.links) m.ynd.link_count) (Err (TooShort lent.Links))
+    (cond (ltb (length m.junctions) m.ynd.junction_count) (Err (TooShort lent.Junctions))
+    (cond (ltb (length m.refs) m.ynd.ref_count) (Err (TooShort lent.Refs))
+    (Ok (seen_node (cell_of m) p)))))))
 
 -- ---- a junction: corner and heights by their bits, width and height; and its heightmap values
 
 abbrev pub seen_junction : Junction → SeenJunction
 seen_junction j = record { x = j.x; y = j.y; min_z = j.low; max_z = j.high; width = j.width; height = j.height }
 
-abbrev pub or_none : Option Junction → ShownJunction
-or_none (some j) = junction.Junction (seen_junction j)
-or_none none = junction.Refused 13 0
+abbrev pub or_none : Found Junction → Result SeenJunction Refusal
+or_none (some j) = Ok (seen_junction j)
+or_none none = Err NoSuchPlace
 
-unfoldable pub shown_junction : Memory → ℕ → ShownJunction
+unfoldable pub shown_junction : Memory → ℕ → Result SeenJunction Refusal
 shown_junction m p =
-    cond (leb m.ynd.junction_count p) (junction.Refused 13 0)
-    (cond (over_limit m.ynd) (junction.Refused 14 0)
-    (cond (ltb (length m.junctions) m.ynd.junction_count) (junction.Refused 7 2)
+    cond (leb m.ynd.junction_count p) (Err NoSuchPlace)
+    (cond (over_limit m.ynd) (Err AtLimit)
+    (cond (ltb (length m.junctions) m.ynd.junction_count) (Err (TooShort lent.Junctions))
     (or_none (get_elem? (cell_of m).junctions p))))
 
-abbrev pub values_of : Option Junction → List ℕ
+abbrev pub values_of : Found Junction → List ℕ
 values_of (some j) = j.values
 values_of none = []
 
@@ -97,36 +92,36 @@ values_at m p = values_of (get_elem? (cell_of m).junctions p)
 
 -- what the call answers, and the list lent for the values after it
 pub record ValuesLeft : Type 0 where
-  pub answer : ShownValues
+  pub answer : Result ℕ Refusal
   pub values : List ℕ
 
-abbrev pub values_left : ShownValues → List ℕ → ValuesLeft
+abbrev pub values_left : Result ℕ Refusal → List ℕ → ValuesLeft
 values_left a v = record { answer = a; values = v }
 
 -- The values are copied to the front of a lent list: how many they are. 7 at 3 also where that list is shorter than
 -- they are. A refusal leaves it as it was.
 unfoldable pub shown_values : Memory → ℕ → List ℕ → ValuesLeft
 shown_values m p old =
-    cond (leb m.ynd.junction_count p) (values_left (values.Refused 13 0) old)
-    (cond (over_limit m.ynd) (values_left (values.Refused 14 0) old)
-    (cond (ltb (length m.junctions) m.ynd.junction_count) (values_left (values.Refused 7 2) old)
-    (cond (ltb (length m.heights) m.ynd.heightmap_count) (values_left (values.Refused 7 3) old)
-    (cond (ltb (length old) (length (values_at m p))) (values_left (values.Refused 7 3) old)
-    (values_left (values.Copied (length (values_at m p))) (put old 0 (values_at m p)))))))
+    cond (leb m.ynd.junction_count p) (values_left (Err NoSuchPlace) old)
+    (cond (over_limit m.ynd) (values_left (Err AtLimit) old)
+    (cond (ltb (length m.junctions) m.ynd.junction_count) (values_left (Err (TooShort lent.Junctions)) old)
+    (cond (ltb (length m.heights) m.ynd.heightmap_count) (values_left (Err (TooShort lent.Heightmap)) old)
+    (cond (ltb (length old) (length (values_at m p))) (values_left (Err (TooShort lent.Heightmap)) old)
+    (values_left (Ok (length (values_at m p))) (put old 0 (values_at m p)))))))
 
 -- ---- the link chosen by the byte b at place p
 
 abbrev pub seen_link : LinkBody → SeenLink
 seen_link l = record { flags0 = l.flags0; flags1 = l.flags1; flags2 = l.flags2; length = l.len }
 
-abbrev pub or_no_link : Option LinkBody → ShownLink
-or_no_link (some l) = link.Link (seen_link l)
-or_no_link none = link.NoLink
+abbrev pub or_no_link : Found LinkBody → Result (Option SeenLink) Refusal
+or_no_link (some l) = Ok (Some (seen_link l))
+or_no_link none = Ok None
 
-unfoldable pub shown_link : Memory → ℕ → ℕ → ShownLink
+unfoldable pub shown_link : Memory → ℕ → ℕ → Result (Option SeenLink) Refusal
 shown_link m p b =
-    cond (leb m.ynd.node_count p) (link.Refused 13 0)
-    (cond (over_limit m.ynd) (link.Refused 14 0)
-    (cond (ltb (length m.nodes) m.ynd.node_count) (link.Refused 7 0)
-    (cond (ltb (length m.links) m.ynd.link_count) (link.Refused 7 1)
+    cond (leb m.ynd.node_count p) (Err NoSuchPlace)
+    (cond (over_limit m.ynd) (Err AtLimit)
+    (cond (ltb (length m.nodes) m.ynd.node_count) (Err (TooShort lent.Nodes))
+    (cond (ltb (length m.links) m.ynd.link_count) (Err (TooShort lent.Links))
     (or_no_link (body_of (link_at (cell_of m).nodes p b))))))

@@ -1,12 +1,16 @@
 -- What the parts of the call `sound` go by, over the words in memory. No public function's contract cites them.
-use Rattle.std.specs.Prelude.{ℕ, zero, suc, ◌≤◌, Bool, true, not, ◌&&◌, ◌||◌, List, eqb, length, get_or, take, drop}
+use Rattle.std.specs.Prelude.{ℕ, ◌≤◌, Bool, true, not, ◌&&◌, ◌||◌, List, [], ◌∷◌, eqb, length, get_or, take, drop}
 use Rattle.cells.specs.Lists.{every}
 use Rattle.cells.specs.Area.{belongs}
-use Rattle.cells.specs.NodeWords.{area_of, first_area, link_start, link_count}
+use Rattle.cells.specs.NodeWords.{area_of, link_start, link_count}
 use Rattle.cells.specs.Lookup.{first_with, is_some}
 use Rattle.cells.specs.LookupCall.{numbers_in}
 use Rattle.cells.specs.RenumberParts.{Indexed}
 use Rattle.walks.specs.Sound.{differing}
+
+-- the numbers of all these nodes
+abbrev pub all_numbers : List (List ℕ) → List ℕ
+all_numbers nodes = numbers_in (length nodes) nodes
 
 -- the first n nodes, and a scratch that leads from each number that one has to the last that has it
 pub record Ready (n : ℕ) (nodes : List (List ℕ)) (scratch : List ℕ) : Type 0 where
@@ -23,13 +27,13 @@ unfoldable pub word_sound : List ℕ → ℕ → List (List ℕ) → List ℕ �
 word_sound ks own links w =
     eqb (area_of w) own && every (word_named ks own) (take (link_count w) (drop (link_start w) links))
 
--- the first n nodes, l links and r refs, where there is a node
-unfoldable pub words_sound : ℕ → ℕ → ℕ → List (List ℕ) → List (List ℕ) → List (List ℕ) → Bool
-words_sound n l r nodes links refs =
-    every (word_sound (numbers_in n nodes) (first_area (take n nodes)) (take l links)) (take n nodes)
-    && differing (numbers_in n nodes)
-    && every (word_named (numbers_in n nodes) (first_area (take n nodes))) (take r refs)
+-- nodes of the area own, with these links and refs
+unfoldable pub words_sound : List (List ℕ) → ℕ → List (List ℕ) → List (List ℕ) → Bool
+words_sound nodes own links refs =
+    every (word_sound (all_numbers nodes) own links) nodes
+    && differing (all_numbers nodes)
+    && every (word_named (all_numbers nodes) own) refs
 
-abbrev pub none_or : ℕ → Bool → Bool
-none_or zero b = true
-none_or (suc n) b = b
+abbrev pub none_or : List (List ℕ) → Bool → Bool
+none_or [] b = true
+none_or (w ∷ ws) b = b

@@ -1,11 +1,11 @@
 -- Once a cell was read, reading back what was written is never what refuses a write-then-read.
 use Rattle.std.specs.Prelude.{◌≡◌, ℕ, List}
-use Rattle.numbers.specs.declared.answer.Answer.TheVariants.{Done}
 use Rattle.cells.specs.Memory.{Memory}
 use Rattle.cells.specs.Read.{read_of}
 use Rattle.cells.specs.Write.{write_call}
 use Rattle.cells.specs.WriteRead.{write_read_of}
 use Rattle.walks.specs.Calls.{Call, run}
+use Rattle.std.specs.Prelude.{Ok}
 
 -- The cell in m, written then read, and only written, with the same section memory.
 pub record AsWriting (m : Memory) (section : List ℕ) : Type 0 where
@@ -18,5 +18,5 @@ pub record AsWriting (m : Memory) (section : List ℕ) : Type 0 where
 -- with section memory of any length and content. The cell need not be sound.
 abbrev pub WritesAlike : Type 0
 WritesAlike =
-    (system graphics : List ℕ) (lent : Memory) → (read_of system graphics lent).answer ≡ Done
+    (system graphics : List ℕ) (lent : Memory) → (read_of system graphics lent).answer ≡ (Ok tt)
     → (calls : List Call) (section : List ℕ) → AsWriting (run (read_of system graphics lent).memory calls) section

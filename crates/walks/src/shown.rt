@@ -1,20 +1,21 @@
 // What a walk shows: of a node, of a junction with its heightmap values, of the link chosen.
-ghost use Rattle.std.specs.Prelude.{◌≡◌, List, ℕ, ◌<◌, length, take, drop};
+ghost use Rattle.std.specs.Prelude.{◌≡◌, List, ℕ, ◌<◌, ◌≤◌, length};
 ghost use Rattle.cells.specs.Memory.{memory};
 ghost use Rattle.cells.specs.CellOf.{link_of, junction_with};
 ghost use Rattle.walks.specs.Shown.{shown_node, seen_junction, shown_junction, values_at, values_left, shown_values};
 ghost use Rattle.walks.specs.Shown.{seen_link, shown_link};
 ghost use Rattle.walks.specs.ShownParts.{seen_of};
 
+use crate::part::{chosen, part};
 use cells::junction::JunctionWords;
 use cells::link::{LinkWords, link_of};
-use cells::lookup::{Place, junction_of};
+use cells::lookup::junction_of;
 use cells::node::{NodeWords, node_of};
 use cells::node_words::{area_of, number_of};
 use cells::range::{cut, link_count, link_start, value_count, value_start};
 use cells::room::over_limit;
 use cells::ynd::Ynd;
-use records::put::put_bytes;
+use numbers::refusal::{Lent, Refusal};
 
 // The bits of three f32.
 #[derive(Clone, Copy)]
@@ -42,13 +43,7 @@ pub struct SeenNode {
     pub unused3: u32,
     pub unused4: u16,
     pub link_count: usize,
-    pub junction: Place,
-}
-
-#[derive(Clone, Copy)]
-pub enum ShownNode {
-    Node(SeenNode),
-    Refused(u32, usize),
+    pub junction: Option<usize>,
 }
 
 // Corner and heights by their bits.
@@ -63,19 +58,6 @@ pub struct SeenJunction {
 }
 
 #[derive(Clone, Copy)]
-pub enum ShownJunction {
-    Junction(SeenJunction),
-    Refused(u32, usize),
-}
-
-// How many values were copied.
-#[derive(Clone, Copy)]
-pub enum ShownValues {
-    Copied(usize),
-    Refused(u32, usize),
-}
-
-#[derive(Clone, Copy)]
 pub struct SeenLink {
     pub flags0: u8,
     pub flags1: u8,
@@ -83,14 +65,7 @@ pub struct SeenLink {
     pub length: u8,
 }
 
-#[derive(Clone, Copy)]
-pub enum ShownLink {
-    Link(SeenLink),
-    NoLink,
-    Refused(u32, usize),
-}
-
-fn seen_of(w: NodeWords, count: usize, junction: Place) -> SeenNode
+fn seen_of(w: NodeWords, count: usize, junction: Option<usize>) -> SeenNode
     ensures { result ≡ seen_of w count junction }
 {
     let n = node_of(w);
@@ -127,91 +102,81 @@ pub fn shown_node(
     junctions: &[JunctionWords],
     refs: &[LinkWords],
     place: usize,
-) -> ShownNode
+) -> Result<SeenNode, Refusal>
     ensures { (heights : List ℕ) → result
         ≡ shown_node (memory ynd nodes.now links.now junctions.now heights refs.now) place }
 {
     if ynd.node_count as usize <= place {
-        return ShownNode::Refused(13, 0);
+        return Err(Refusal::NoSuchPlace);
     }
     if over_limit(ynd) {
-        return ShownNode::Refused(14, 0);
+        return Err(Refusal::AtLimit);
     }
     if nodes.len() < ynd.node_count as usize {
-        return ShownNode::Refused(7, 0);
+        return Err(Refusal::TooShort(Lent::Nodes));
     }
     if links.len() < ynd.link_count as usize {
-        return ShownNode::Refused(7, 1);
+        return Err(Refusal::TooShort(Lent::Links));
     }
     if junctions.len() < ynd.junction_count as usize {
-        return ShownNode::Refused(7, 2);
+        return Err(Refusal::TooShort(Lent::Junctions));
     }
     if refs.len() < ynd.ref_count as usize {
-        return ShownNode::Refused(7, 4);
+        return Err(Refusal::TooShort(Lent::Refs));
     }
     let w = nodes[place];
     let start = link_start(w) as usize;
     let count = cut(start, link_count(w) as usize, ynd.link_count as usize);
-    let junction = junction_of(ynd, nodes, refs, area_of(w), number_of(w));
-    ShownNode::Node(seen_of(w, count, junction))
+    let junction = junction_of(ynd, nodes, refs, area_of(w), number_of(w))?;
+    Ok(seen_of(w, count, junction))
 }
 
 fn seen_junction(w: JunctionWords) -> SeenJunction
     ensures { (heights : List ℕ) → result ≡ seen_junction (junction_with heights w) }
 {
+    let [width, height, _, _] = w[4].to_le_bytes();
     SeenJunction {
         x: w[0],
         y: w[1],
         min_z: w[2],
         max_z: w[3],
-        width: (w[4] % 256) as u8,
-        height: (w[4] / 256 % 256) as u8,
+        width,
+        height,
     }
 }
 
 // The junction at a place, whatever the other lists. Its values are those of `shown_values`.
-pub fn shown_junction(ynd: Ynd, junctions: &[JunctionWords], place: usize) -> ShownJunction
+pub fn shown_junction(
+    ynd: Ynd,
+    junctions: &[JunctionWords],
+    place: usize,
+) -> Result<SeenJunction, Refusal>
     ensures { (nodes : List (List ℕ)) (links : List (List ℕ)) (heights : List ℕ) (refs : List (List ℕ))
         → result
         ≡ shown_junction (memory ynd nodes links junctions.now heights refs) place }
 {
     if ynd.junction_count as usize <= place {
-        return ShownJunction::Refused(13, 0);
+        return Err(Refusal::NoSuchPlace);
     }
     if over_limit(ynd) {
-        return ShownJunction::Refused(14, 0);
+        return Err(Refusal::AtLimit);
     }
     if junctions.len() < ynd.junction_count as usize {
-        return ShownJunction::Refused(7, 2);
+        return Err(Refusal::TooShort(Lent::Junctions));
     }
-    ShownJunction::Junction(seen_junction(junctions[place]))
-}
-
-// The range of the first l values, cut where they end.
-fn part_held(heights: &[u8], l: usize, start: usize, count: usize) -> &[u8]
-    ensures { result.now ≡ take count (drop start (take l heights.now)) }
-{
-    let end = cut(0, l, heights.len());
-    let n = cut(start, count, end);
-    if end <= start {
-        return &heights[0..0];
-    }
-    &heights[start..start + n]
+    Ok(seen_junction(junctions[place]))
 }
 
 // The heightmap values of the junction at a place.
 fn values_at<'a>(ynd: Ynd, junctions: &[JunctionWords], heights: &'a [u8], place: usize) -> &'a [u8]
-    requires { (place < ynd.junction_count) × (place < length junctions.now) }
+    requires { (place < ynd.junction_count) × (place < length junctions.now)
+        × (ynd.heightmap_count ≤ length heights.now) }
     ensures { (nodes : List (List ℕ)) (links : List (List ℕ)) (refs : List (List ℕ)) → result.now
         ≡ values_at (memory ynd nodes links junctions.now heights.now refs) place }
 {
     let w = junctions[place];
-    part_held(
-        heights,
-        ynd.heightmap_count as usize,
-        value_start(w) as usize,
-        value_count(w),
-    )
+    let held = &heights[..ynd.heightmap_count as usize];
+    part(held, value_start(w) as usize, value_count(w))
 }
 
 // The heightmap values of the junction at a place, copied to the front of `values`, whatever the lists that are not
@@ -222,29 +187,29 @@ pub fn shown_values(
     heights: &[u8],
     place: usize,
     values: &mut [u8],
-) -> ShownValues
+) -> Result<usize, Refusal>
     ensures { (nodes : List (List ℕ)) (links : List (List ℕ)) (refs : List (List ℕ))
         → values_left result values.new
         ≡ shown_values (memory ynd nodes links junctions.now heights.now refs) place values.old }
 {
     if ynd.junction_count as usize <= place {
-        return ShownValues::Refused(13, 0);
+        return Err(Refusal::NoSuchPlace);
     }
     if over_limit(ynd) {
-        return ShownValues::Refused(14, 0);
+        return Err(Refusal::AtLimit);
     }
     if junctions.len() < ynd.junction_count as usize {
-        return ShownValues::Refused(7, 2);
+        return Err(Refusal::TooShort(Lent::Junctions));
     }
     if heights.len() < ynd.heightmap_count as usize {
-        return ShownValues::Refused(7, 3);
+        return Err(Refusal::TooShort(Lent::Heightmap));
     }
     let v = values_at(ynd, junctions, heights, place);
     if values.len() < v.len() {
-        return ShownValues::Refused(7, 3);
+        return Err(Refusal::TooShort(Lent::Heightmap));
     }
-    put_bytes(values, 0, v);
-    ShownValues::Copied(v.len())
+    values[..v.len()].copy_from_slice(v);
+    Ok(v.len())
 }
 
 fn seen_link(w: LinkWords) -> SeenLink
@@ -266,30 +231,22 @@ pub fn shown_link(
     links: &[LinkWords],
     place: usize,
     choice: u8,
-) -> ShownLink
+) -> Result<Option<SeenLink>, Refusal>
     ensures { (junctions : List (List ℕ)) (heights : List ℕ) (refs : List (List ℕ)) → result
         ≡ shown_link (memory ynd nodes.now links.now junctions heights refs) place choice }
 {
     if ynd.node_count as usize <= place {
-        return ShownLink::Refused(13, 0);
+        return Err(Refusal::NoSuchPlace);
     }
     if over_limit(ynd) {
-        return ShownLink::Refused(14, 0);
+        return Err(Refusal::AtLimit);
     }
     if nodes.len() < ynd.node_count as usize {
-        return ShownLink::Refused(7, 0);
+        return Err(Refusal::TooShort(Lent::Nodes));
     }
     if links.len() < ynd.link_count as usize {
-        return ShownLink::Refused(7, 1);
+        return Err(Refusal::TooShort(Lent::Links));
     }
-    let w = nodes[place];
-    let b = choice as usize;
-    if link_count(w) as usize <= b {
-        return ShownLink::NoLink;
-    }
-    let at = link_start(w) as usize + b;
-    if ynd.link_count as usize <= at {
-        return ShownLink::NoLink;
-    }
-    ShownLink::Link(seen_link(links[at]))
+    let held = &links[..ynd.link_count as usize];
+    Ok(chosen(held, nodes[place], choice).map(seen_link))
 }

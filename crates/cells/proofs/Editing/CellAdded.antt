@@ -9,7 +9,6 @@ use lib.ListN.{length, get_or, set, take, drop, length-append, length-drop}
 use lib.Seq.{take-suc-set, take-append-le, drop-append-le, take_at, drop_at, take_all, length-take-le, get_or-take}
 use Rattle.numbers.specs.Positions.{quantised, dequantised}
 use Rattle.numbers.specs.declared.math.Vec3.{Vec3}
-use Rattle.numbers.specs.declared.answer.Answer.TheVariants.{Done}
 use Rattle.records.specs.Put.{put}
 use Rattle.records.specs.declared.junction_ref.NodeJunctionRef.{NodeJunctionRef}
 use Rattle.cells.specs.declared.link.PathLink.{PathLink}
@@ -29,6 +28,8 @@ use Rattle.cells.proofs.Editing.EditLaws.{low_byte, high_byte}
 use Rattle.cells.proofs.Editing.AddLaws.{done_memory, room_inside, junction_room}
 use Rattle.cells.proofs.Editing.Inserted.{accepted}
 use Rattle.cells.proofs.Editing.LinkAdded.{link_added}
+use Rattle.std.specs.Prelude.{Ok}
+use Rattle.numbers.specs.declared.refusal.Lent.TheVariants as lent
 
 -- one entry more behind n
 more_held : {A B : Type 0} (f : A → B) (n : ℕ) (l : List A) (x : A) → n < length l → map f (take (n + 1) (set l n x)) ≡ map f (take n l) ++ (f x ∷ [])
@@ -52,11 +53,11 @@ module _ (m : Memory) (area : ℕ) (at : Vec3) (fits : area < 65536) where
   abbrev node_memory : Memory
   node_memory = memory (more_nodes m.ynd) (set m.nodes m.ynd.node_count (node_words (new_node area m.ynd.node_count (dequantised (quantised at))))) m.links m.junctions m.heights m.refs
 
-  pub node_added : (add_node m area at).answer ≡ Done → cell_of (add_node m area at).memory ≡ with_nodes ((cell_of m).nodes ++ (new ∷ [])) (cell_of m)
+  pub node_added : (add_node m area at).answer ≡ (Ok tt) → cell_of (add_node m area at).memory ≡ with_nodes ((cell_of m).nodes ++ (new ∷ [])) (cell_of m)
   unfolding add_node cell_of nodes_of junctions_of refs_of with_counts
   node_added e =
-      let d = done_memory (room_for (over_limit m.ynd) 65536 m.ynd.node_count (length m.nodes) 0) m node_memory e in
-      let r = room_inside (over_limit m.ynd) 65536 m.ynd.node_count (length m.nodes) 0 d.0 in
+      let d = done_memory (room_for (over_limit m.ynd) 65536 m.ynd.node_count (length m.nodes) lent.Nodes) m node_memory e in
+      let r = room_inside (over_limit m.ynd) 65536 m.ynd.node_count (length m.nodes) lent.Nodes d.0 in
       let ls = map link_of (take m.ynd.link_count m.links) in
       let f = node_with ls in
       let w = node_words (new_node area m.ynd.node_count (dequantised (quantised at))) in
@@ -70,17 +71,17 @@ module _ (m : Memory) (r : NodeJunctionRef) where
   abbrev ref_memory : Memory
   ref_memory = memory (more_refs m.ynd) m.nodes m.links m.junctions m.heights (set m.refs m.ynd.ref_count (ref_words r))
 
-  pub ref_added : (add_ref m r).answer ≡ Done → cell_of (add_ref m r).memory ≡ with_refs ((cell_of m).refs ++ (ref_from r ∷ [])) (cell_of m)
+  pub ref_added : (add_ref m r).answer ≡ (Ok tt) → cell_of (add_ref m r).memory ≡ with_refs ((cell_of m).refs ++ (ref_from r ∷ [])) (cell_of m)
   unfolding add_ref cell_of nodes_of junctions_of refs_of with_counts ref_words
   ref_added e =
-      let d = done_memory (room_for (over_limit m.ynd) 4294967295 m.ynd.ref_count (length m.refs) 4) m ref_memory e in
-      let h = room_inside (over_limit m.ynd) 4294967295 m.ynd.ref_count (length m.refs) 4 d.0 in
+      let d = done_memory (room_for (over_limit m.ynd) 4294967295 m.ynd.ref_count (length m.refs) lent.Refs) m ref_memory e in
+      let h = room_inside (over_limit m.ynd) 4294967295 m.ynd.ref_count (length m.refs) lent.Refs d.0 in
       let g = more_held ref_of m.ynd.ref_count m.refs (ref_words r) h.1 in
       ap cell_of d.1 ∙ (λ i. with_refs (g i) (cell_of m))
 
 -- ---- a link
 
-pub link_call : (m : Memory) (p : ℕ) (x : PathLink) → Apart m.ynd.node_count m.ynd.link_count p m.nodes → (add_link m p x).answer ≡ Done
+pub link_call : (m : Memory) (p : ℕ) (x : PathLink) → Apart m.ynd.node_count m.ynd.link_count p m.nodes → (add_link m p x).answer ≡ (Ok tt)
     → cell_of (add_link m p x).memory ≡ link_to p (link_of (link_words x)) (cell_of m)
 unfolding add_link cell_of nodes_of junctions_of refs_of with_counts
 link_call m p x apart e =
@@ -153,7 +154,7 @@ module _ (m : Memory) (j : PathJunction) (values : List ℕ) (wide : j.width < 2
       rw w (ap (with_values (get_or m.junctions q []))
       (part_kept (value_start (get_or m.junctions q [])) (value_count (get_or m.junctions q [])) pool values (λ some. rw (length-take-le h m.heights fits) (inside.inside q less some)))))
 
-  pub junction_added : Inside n h m.junctions → (add_junction m j values).answer ≡ Done
+  pub junction_added : Inside n h m.junctions → (add_junction m j values).answer ≡ (Ok tt)
       → cell_of (add_junction m j values).memory ≡ with_junctions ((cell_of m).junctions ++ (junction_from values j ∷ [])) (cell_of m)
   unfolding add_junction cell_of nodes_of junctions_of refs_of with_counts
   junction_added inside e =

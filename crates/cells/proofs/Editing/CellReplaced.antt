@@ -6,7 +6,6 @@ use mathlib.Core.Path.{◌≡◌, refl, ap, sym, ◌∙◌}
 use mathlib.Core.List.{List, [], map}
 use lib.ListN.{length, get_or, set, take, length-map}
 use lib.Seq.{take-take, length-take-le}
-use Rattle.numbers.specs.declared.answer.Answer.TheVariants.{Done}
 use Rattle.cells.specs.NodeWords.{link_start, link_count, value_start, value_count}
 use Rattle.cells.specs.Cell.{Link, no_node, node_at}
 use Rattle.cells.specs.CellOf.{link_of, ref_of, node_with, junction_with, nodes_of, junctions_of, refs_of}
@@ -32,6 +31,7 @@ use Rattle.cells.proofs.Editing.CellAdded.{with_values}
 use Rattle.cells.proofs.Editing.CellStored.{held_at_law}
 use Rattle.cells.proofs.Editing.Replacing.{fewer_room, links_room, map_room, pool_grows}
 use Rattle.cells.proofs.Editing.RangePut.{pool_replaced, map_put, replaced}
+use Rattle.std.specs.Prelude.{Ok}
 
 -- ---- the cell's own words
 
@@ -58,7 +58,7 @@ shorter : {A B : Type 0} (f : A → B) (k n : ℕ) (xs : List A) → k ≤ n →
 shorter f k n xs h = sym (map_take f k (take n xs) ∙ ap (map f) (take-take k n xs h))
 
 module _ (m : Memory) (k : ℕ) where
-  pub nodes_truncated : (truncate_nodes m k).answer ≡ Done → cell_of (truncate_nodes m k).memory
+  pub nodes_truncated : (truncate_nodes m k).answer ≡ (Ok tt) → cell_of (truncate_nodes m k).memory
       ≡ with_nodes (take k (cell_of m).nodes) (cell_of m)
   unfolding truncate_nodes cell_of nodes_of junctions_of refs_of with_counts
   nodes_truncated e =
@@ -68,7 +68,7 @@ module _ (m : Memory) (k : ℕ) where
       (fewer_room (over_limit m.ynd) n k d.0) in
       ap cell_of d.1 ∙ (λ i. with_nodes (g i) (cell_of m))
 
-  pub junctions_truncated : (truncate_junctions m k).answer ≡ Done → cell_of (truncate_junctions m k).memory
+  pub junctions_truncated : (truncate_junctions m k).answer ≡ (Ok tt) → cell_of (truncate_junctions m k).memory
       ≡ with_junctions (take k (cell_of m).junctions) (cell_of m)
   unfolding truncate_junctions cell_of nodes_of junctions_of refs_of with_counts
   junctions_truncated e =
@@ -78,7 +78,7 @@ module _ (m : Memory) (k : ℕ) where
       (fewer_room (over_limit m.ynd) n k d.0) in
       ap cell_of d.1 ∙ (λ i. with_junctions (g i) (cell_of m))
 
-  pub refs_truncated : (truncate_refs m k).answer ≡ Done → cell_of (truncate_refs m k).memory
+  pub refs_truncated : (truncate_refs m k).answer ≡ (Ok tt) → cell_of (truncate_refs m k).memory
       ≡ with_refs (take k (cell_of m).refs) (cell_of m)
   unfolding truncate_refs cell_of nodes_of junctions_of refs_of with_counts
   refs_truncated e =
@@ -107,7 +107,7 @@ node_linked_law s c w ls h = ap (node_linked ls) (node_ranged [] s c w h)
 
 pub links_put_law : (m : Memory) (p : ℕ) (new : List (List ℕ))
     → Beside link_start link_count m.ynd.node_count m.ynd.link_count p m.nodes
-    → (put_links m p new).answer ≡ Done → cell_of (put_links m p new).memory ≡ links_put p (map link_of new) (cell_of m)
+    → (put_links m p new).answer ≡ (Ok tt) → cell_of (put_links m p new).memory ≡ links_put p (map link_of new) (cell_of m)
 unfolding put_links cell_of nodes_of junctions_of refs_of with_counts
 links_put_law m p new beside e =
     let n = m.ynd.node_count in
@@ -159,7 +159,7 @@ junction_mapped_law width height s w vs hw hh = λ i. record {
 
 pub heightmap_put_law : (m : Memory) (p width height : ℕ) (values : List ℕ) → width < 256 → height < 256
     → Beside value_start value_count m.ynd.junction_count m.ynd.heightmap_count p m.junctions
-    → (put_heightmap m p width height values).answer ≡ Done
+    → (put_heightmap m p width height values).answer ≡ (Ok tt)
     → cell_of (put_heightmap m p width height values).memory ≡ heightmap_put p width height values (cell_of m)
 unfolding put_heightmap cell_of nodes_of junctions_of refs_of with_counts
 heightmap_put_law m p width height values hw hh beside e =

@@ -10,7 +10,6 @@ use lib.Seq.{take-set-lt, length-take-le, get_or-take}
 use borrow.Author.Tests.{ltb-false, leb-false, eqb-true}
 use Rattle.numbers.specs.Positions.{quantised, dequantised}
 use Rattle.numbers.specs.declared.math.Vec3.{Vec3}
-use Rattle.numbers.specs.declared.answer.Answer.TheVariants.{Done}
 use Rattle.records.specs.declared.junction_ref.NodeJunctionRef.{NodeJunctionRef}
 use Rattle.cells.specs.declared.node.PathNode.{PathNode}
 use Rattle.cells.specs.declared.junction.PathJunction.{PathJunction}
@@ -29,6 +28,9 @@ use Rattle.cells.proofs.Editing.EditLaws.{lent_false}
 use Rattle.cells.proofs.Editing.AddLaws.{not_done}
 use Rattle.cells.proofs.Forms.Entries.{node_again, byte0, byte1, byte2, word}
 use Rattle.cells.proofs.Editing.CellAdded.{junction_words_law}
+use Rattle.std.specs.Prelude.{Ok}
+use Rattle.numbers.specs.declared.refusal.Lent.{Lent}
+use Rattle.numbers.specs.declared.refusal.Lent.TheVariants as lent
 
 -- ---- an entry stored
 
@@ -44,8 +46,8 @@ pub held_at_law : {A B : Type 0} (f : A → B) (n : ℕ) (l : List A) (p : ℕ) 
 held_at_law f n l p d e h fits = mapped_at f (take n l) p d e (omega (arith, length-take-le n l fits)) ∙ ap f (get_or-take n l p d h)
 
 -- what an accepted call has stored
-entry_done : {A : Type 0} (over : Bool) (n list p : ℕ) (f : A → A) (d : A) (l : List A)
-    → (change_at (entry_at over n (length l) list p) f d l).answer ≡ Done
+entry_done : {A : Type 0} (over : Bool) (n : ℕ) (list : Lent) (p : ℕ) (f : A → A) (d : A) (l : List A)
+    → (change_at (entry_at over n (length l) list p) f d l).answer ≡ (Ok tt)
     → (p < n) × (n ≤ length l) × ((change_at (entry_at over n (length l) list p) f d l).list ≡ set l p (f (get_or l p d)))
 unfolding entry_at
 entry_done over n list p f d l e =
@@ -55,7 +57,7 @@ entry_done over n list p f d l e =
     (leb-false n p f₀, ltb-false (length l) n f₁, rw (f₀, o, f₁)))))
 
 sized_done : (over : Bool) (n p values held : ℕ) (f : List ℕ → List ℕ) (l : List (List ℕ))
-    → (change_at (sized_entry over n (length l) p values held) f [] l).answer ≡ Done
+    → (change_at (sized_entry over n (length l) p values held) f [] l).answer ≡ (Ok tt)
     → (p < n) × (values ≡ held) × (n ≤ length l)
     × ((change_at (sized_entry over n (length l) p values held) f [] l).list ≡ set l p (f (get_or l p [])))
 unfolding sized_entry
@@ -131,23 +133,23 @@ module _ (m : Memory) (p : ℕ) (start : link_start (get_or m.nodes p []) < 4294
   unfolding nodes_of
   nodes_stored x new lt e = set_held (node_with ls) n m.nodes p x lt ∙ ap (set (map (node_with ls) (take n m.nodes)) p) e
 
-  pub node_put : (x : PathNode) → to_node (node_words x) ≡ x → (put_node m.ynd m.nodes p x).answer ≡ Done
+  pub node_put : (x : PathNode) → to_node (node_words x) ≡ x → (put_node m.ynd m.nodes p x).answer ≡ (Ok tt)
       → cell_of (memory m.ynd (put_node m.ynd m.nodes p x).list m.links m.junctions m.heights m.refs)
       ≡ with_nodes (set (cell_of m).nodes p (node_from (node_at (cell_of m).nodes p).links x)) (cell_of m)
   unfolding put_node node_entry cell_of nodes_of junctions_of refs_of range_kept changed
   node_put x h e =
-      let d = entry_done (over_limit m.ynd) n 0 p (λ v. node_words (range_kept x v)) [] m.nodes e in
+      let d = entry_done (over_limit m.ynd) n lent.Nodes p (λ v. node_words (range_kept x v)) [] m.nodes e in
       let k = node_words_law ls (range_kept x w) x.position (kept_back x w h start) ∙ ap (λ (l : List Link). node_from l x) (own_links d.0 d.1) in
       let g = ap (λ (l : List (List ℕ)). map (node_with ls) (take n l)) d.2 ∙ nodes_stored (node_words (range_kept x w)) (node_from (node_at (nodes_of m) p).links x) d.0 k in
       λ i. with_nodes (g i) (cell_of m)
 
-  pub position_set : (at : Vec3) → (set_position m.ynd m.nodes p at).answer ≡ Done
+  pub position_set : (at : Vec3) → (set_position m.ynd m.nodes p at).answer ≡ (Ok tt)
       → cell_of (memory m.ynd (set_position m.ynd m.nodes p at).list m.links m.junctions m.heights m.refs)
       ≡ with_nodes (set (cell_of m).nodes p (node_moved (dequantised (quantised at)) (node_at (cell_of m).nodes p))) (cell_of m)
   unfolding set_position node_entry cell_of nodes_of junctions_of refs_of changed to_node area_of number_of body_of
   position_set at e =
       let to = dequantised (quantised at) in
-      let d = entry_done (over_limit m.ynd) n 0 p (λ v. node_words (with_position (to_node v) to)) [] m.nodes e in
+      let d = entry_done (over_limit m.ynd) n lent.Nodes p (λ v. node_words (with_position (to_node v) to)) [] m.nodes e in
       let s : get_or w 7 0 % 4294967296 ≡ get_or w 7 0 = omega (arith, start) in
       let k = node_words_law ls (to_node w) to (node_again w)
       ∙ ap (λ (x : ℕ). record { area = area_of w; number = number_of w; links = take (link_count w) (drop x ls); body = (node_moved to (node_with ls w)).body }) s
@@ -157,12 +159,12 @@ module _ (m : Memory) (p : ℕ) (start : link_start (get_or m.nodes p []) < 4294
 
 -- ---- refs
 
-pub ref_put : (m : Memory) (p : ℕ) (r : NodeJunctionRef) → (put_ref m.ynd m.refs p r).answer ≡ Done
+pub ref_put : (m : Memory) (p : ℕ) (r : NodeJunctionRef) → (put_ref m.ynd m.refs p r).answer ≡ (Ok tt)
     → cell_of (memory m.ynd m.nodes m.links m.junctions m.heights (put_ref m.ynd m.refs p r).list)
     ≡ with_refs (set (cell_of m).refs p (ref_from r)) (cell_of m)
 unfolding put_ref ref_entry cell_of nodes_of junctions_of refs_of ref_words
 ref_put m p r e =
-    let d = entry_done (over_limit m.ynd) m.ynd.ref_count 4 p (λ v. ref_words r) [] m.refs e in
+    let d = entry_done (over_limit m.ynd) m.ynd.ref_count lent.Refs p (λ v. ref_words r) [] m.refs e in
     let g = ap (λ (l : List (List ℕ)). map ref_of (take m.ynd.ref_count l)) d.2 ∙ set_held ref_of m.ynd.ref_count m.refs p (ref_words r) d.0 in
     λ i. with_refs (g i) (cell_of m)
 
@@ -172,7 +174,7 @@ ref_put m p r e =
 abbrev values_at : Memory → ℕ → List ℕ
 values_at m p = (junction_with (take m.ynd.heightmap_count m.heights) (get_or m.junctions p [])).values
 
-pub junction_put : (m : Memory) (p : ℕ) (j : PathJunction) → j.width < 256 → j.height < 256 → (put_junction m.ynd m.junctions p j).answer ≡ Done
+pub junction_put : (m : Memory) (p : ℕ) (j : PathJunction) → j.width < 256 → j.height < 256 → (put_junction m.ynd m.junctions p j).answer ≡ (Ok tt)
     → cell_of (memory m.ynd m.nodes m.links (put_junction m.ynd m.junctions p j).list m.heights m.refs)
     ≡ with_junctions (set (cell_of m).junctions p (junction_from (values_at m p) j)) (cell_of m)
 unfolding put_junction cell_of nodes_of junctions_of refs_of

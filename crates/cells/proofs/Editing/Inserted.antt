@@ -1,21 +1,23 @@
--- An entry put in at a place of the first l, by a loop that carries the entry that is next.
-use Prim.Native.Nat.{ℕ, suc, ◌+◌, ◌-◌, ◌≤◌, ◌<◌}
+-- An entry put in at a place of the first l.
+use Prim.Native.Nat.{ℕ, ◌+◌, ◌-◌, ◌≤◌, ◌<◌}
 use native.Mathlib.Omega.{arith}
+use native.Mathlib.Numerals.{add-one}
 use mathlib.Core.Path.{◌≡◌, ap, sym, ◌∙◌}
 use mathlib.Core.Bool.{Bool}
-use mathlib.Core.List.{List, [], ◌∷◌, ◌++◌}
+use mathlib.Core.List.{List, [], ◌∷◌, ◌++◌, append_assoc}
 use lib.Dec.{eqb, ltb, leb}
-use lib.ListN.{length, get_or, set, take, drop, length-append, length-drop, take-append-drop}
-use lib.Seq.{take-take, take_at, get_or_at, get_or-append-add, get_or-drop, get_or-take, length-take-le}
+use lib.ListN.{length, get_or, set, take, drop, length-append, length-drop}
+use lib.Seq.{paste, take-take, set_at, take-suc, length-take-le}
+use borrow.Author.Rules.{rules}
+use Rattle.std.proofs.lemmas.Slice.{between_is}
 use borrow.Author.Tests.{ltb-false, leb-false, eqb-false}
 use Rattle.cells.specs.NodeWords.{link_start}
 use Rattle.cells.specs.Edit.{link_range}
 use Rattle.cells.specs.AddLink.{inserted, held_at, behind, room_for_link, LinkRoom}
-use Rattle.numbers.specs.declared.answer.Answer.TheVariants.{Done}
 use Rattle.cells.proofs.Sequences.Tests.{by_test}
 use Rattle.cells.proofs.Editing.EditLaws.{held_bound}
 use Rattle.cells.proofs.Editing.AddLaws.{not_done}
-use Rattle.cells.proofs.Sequences.Filled.{fill_turn, fill_ahead, fill_end}
+use Rattle.std.specs.Prelude.{Ok}
 
 module _ {A : Type 0} (at l : ℕ) (x : A) (xs : List A) (d : A) (inside : at ≤ l) (fits : l < length xs) where
   -- the first l + 1 entries afterwards
@@ -28,33 +30,22 @@ module _ {A : Type 0} (at l : ℕ) (x : A) (xs : List A) (d : A) (inside : at �
   pub front_long : length front ≡ l + 1
   front_long = length-append (take at (take l xs)) (x ∷ drop at (take l xs)) ∙ omega (arith, short, length-drop at (take l xs), length-take-le l xs (omega arith))
 
-  pub insert_start : (xs ≡ take at front ++ drop at xs) × (x ≡ get_or front at d)
-  insert_start = (
-    sym (ap (λ (t : List A). t ++ drop at xs) (take_at (take at (take l xs)) (x ∷ drop at (take l xs)) at short ∙ take-take at l xs inside) ∙ take-append-drop at xs),
-    sym (get_or_at (take at (take l xs)) x (drop at (take l xs)) d at short),
-  )
-
-  front_later : (i : ℕ) → at ≤ i → i < l → get_or front (i + 1) d ≡ get_or xs i d
-  front_later i h lt =
-      let e : i + 1 ≡ length (take at (take l xs)) + suc (i - at) = omega (arith, short) in
-      let e' : at + (i - at) ≡ i = omega arith in
-      ap (λ (k : ℕ). get_or front k d) e
-      ∙ get_or-append-add (take at (take l xs)) (x ∷ drop at (take l xs)) (suc (i - at)) d
-      ∙ get_or-drop at (take l xs) (i - at) d ∙ ap (λ (k : ℕ). get_or (take l xs) k d) e' ∙ get_or-take l xs i d lt
-
-  module _ (now : List A) (carry : A) (i : ℕ) (from : at ≤ i) (filled : now ≡ take i front ++ drop i xs) (carried : carry ≡ get_or front i d) where
-    pub insert_turn : i < l → (set now i carry ≡ take (i + 1) front ++ drop (i + 1) xs) × (get_or now i d ≡ get_or front (i + 1) d)
-    insert_turn lt = (
-      ap (λ (t : List A). set t i carry) filled ∙ fill_turn xs front i d carry (omega arith) (omega (arith, front_long)) (sym carried),
-      ap (λ (t : List A). get_or t i d) filled ∙ fill_ahead xs front i d (omega arith) (omega (arith, front_long)) ∙ sym (front_later i from lt),
-    )
-
-    pub insert_end : i ≡ l → set now l carry ≡ inserted at l x xs
-    unfolding inserted
-    insert_end e =
-        ap (λ (k : ℕ). set now k carry) (sym e)
-        ∙ ap (λ (t : List A). set t i carry) filled ∙ fill_turn xs front i d carry (omega arith) (omega (arith, front_long)) (sym carried)
-        ∙ ap (λ (k : ℕ). take (k + 1) front ++ drop (k + 1) xs) e ∙ fill_end xs front (l + 1) front_long
+-- the entries from `at` to l, copied one place up, and the new one stored over the first of them
+pub insert_moved : {A : Type 0} (at l : ℕ) (x : A) (xs : List A) (d : A) → at ≤ l → l < length xs
+    → set (paste xs (at + 1) (drop at xs) (l - at)) at x ≡ inserted at l x xs
+unfolding inserted
+insert_moved {A = A} at l x xs d inside fits =
+    let y = get_or xs at d in
+    let M = drop at (take l xs) in
+    let T = drop (l + 1) xs in
+    let t : take (at + 1) xs ≡ take at xs ++ (y ∷ []) = rw add-one (take-suc xs at d (omega arith)) in
+    let m : take (l - at) (drop at xs) ≡ M = search (rules, between_is) in
+    let n : at + 1 + (l - at) ≡ l + 1 = omega arith in
+    ap (λ (z : List A). set z at x)
+    ((λ i. (t i ++ m i) ++ drop (n i) xs) ∙ append_assoc (take at xs ++ (y ∷ [])) M T ∙ append_assoc (take at xs) (y ∷ []) (M ++ T))
+    ∙ set_at (take at xs) y (M ++ T) x at (length-take-le at xs (omega arith))
+    ∙ sym (append_assoc (take at xs) (x ∷ M) T)
+    ∙ ap (λ (z : List A). (z ++ (x ∷ M)) ++ T) (sym (take-take at l xs inside))
 
 -- ---- where the new link goes, and the room that an accepted call has
 
@@ -63,7 +54,7 @@ unfolding behind
 behind_bound s e l h = by_test (eqb e 0) (λ t. rw t (omega arith, omega arith)) (λ f. let ne = eqb-false e 0 f in rw f (omega arith, omega arith))
 
 -- an accepted call has room
-pub accepted : (over : Bool) (n l p e a b : ℕ) → room_for_link over n l p e a b ≡ Done → LinkRoom n l p e a b
+pub accepted : (over : Bool) (n l p e a b : ℕ) → room_for_link over n l p e a b ≡ (Ok tt) → LinkRoom n l p e a b
 unfolding room_for_link
 accepted over n l p e a b d =
     by_test (leb n p) (λ t. not_done (rw t at d)) (λ f₀.

@@ -9,7 +9,6 @@ use lib.Dec.{ltb, leb}
 use lib.ListN.{length, get_or, set, take, drop}
 use lib.Seq.{take-set-le, take-set-lt, length-take-le, get_or-take}
 use borrow.Author.Tests.{ltb-false, leb-false}
-use Rattle.numbers.specs.declared.answer.Answer.TheVariants.{Done}
 use Rattle.cells.specs.declared.range.Range.{Range}
 use Rattle.cells.specs.declared.link.PathLink.{PathLink}
 use Rattle.cells.specs.NodeWords.{link_start, link_count, value_start, value_count}
@@ -25,6 +24,9 @@ use Rattle.cells.proofs.Editing.AddLaws.{not_done}
 use Rattle.cells.proofs.Editing.LinkAdded.{with_links}
 use Rattle.cells.proofs.Editing.CellAdded.{with_values}
 use Rattle.cells.proofs.Editing.CellStored.{set_held, held_at_law}
+use Rattle.std.specs.Prelude.{Ok}
+use Rattle.numbers.specs.declared.refusal.Lent.{Lent}
+use Rattle.numbers.specs.declared.refusal.Lent.TheVariants as lent
 
 module _ {A : Type 0} where
   part_before : (s c i : ℕ) (y : A) (P : List A) → s + c ≤ i → take c (drop s (set P i y)) ≡ take c (drop s P)
@@ -80,8 +82,8 @@ module _ {B C : Type 0} (start count : List ℕ → ℕ) (make : List ℕ → Li
       (rw (get_or-take n owners p [] lt) (ap (make (get_or owners p [])) (part_own (start (get_or owners p [])) (count (get_or owners p [])) k i y P at less)))
 
 -- what an accepted call has stored
-range_done : {A : Type 0} (over : Bool) (n len list l values p k : ℕ) (r : Range) (f : A → A) (d : A) (xs : List A)
-    → (change_at (range_entry over n len list l (length xs) values p r k) f d xs).answer ≡ Done
+range_done : {A : Type 0} (over : Bool) (n len : ℕ) (list : Lent) (l : ℕ) (values : Lent) (p k : ℕ) (r : Range) (f : A → A) (d : A) (xs : List A)
+    → (change_at (range_entry over n len list l (length xs) values p r k) f d xs).answer ≡ (Ok tt)
     → (p < n) × (n ≤ len) × (k < r.count) × (r.start + k < l)
     × ((change_at (range_entry over n len list l (length xs) values p r k) f d xs).list ≡ set xs (r.start + k) (f (get_or xs (r.start + k) d)))
 unfolding range_entry
@@ -97,7 +99,7 @@ range_done over n len list l values p k r f d xs e =
     (leb-false n p f₀, ltb-false len n f₂, omega (arith, b.1), omega (arith, b.0), rw (f₀, f₁, o, f₂, f₃)))))))
 
 pub link_put : (m : Memory) (p k : ℕ) (x : PathLink) → Alone link_start link_count m.ynd.node_count (link_start (get_or m.nodes p []) + k) p m.nodes
-    → (put_link m.ynd m.nodes m.links p k x).answer ≡ Done
+    → (put_link m.ynd m.nodes m.links p k x).answer ≡ (Ok tt)
     → cell_of (memory m.ynd m.nodes (put_link m.ynd m.nodes m.links p k x).list m.junctions m.heights m.refs)
     ≡ with_nodes (set (cell_of m).nodes p (link_changed k (link_of (link_words x)) (node_at (cell_of m).nodes p))) (cell_of m)
 unfolding put_link link_entry cell_of nodes_of junctions_of refs_of
@@ -107,7 +109,7 @@ link_put m p k x alone e =
     let w = get_or m.nodes p [] in
     let i = link_start w + k in
     let ls = map link_of (take l m.links) in
-    let d = range_done (over_limit m.ynd) n (length m.nodes) 0 l 1 p k (link_range m.nodes p) (λ v. link_words x) [] m.links e in
+    let d = range_done (over_limit m.ynd) n (length m.nodes) lent.Nodes l lent.Links p k (link_range m.nodes p) (λ v. link_words x) [] m.links e in
     let pool = ap (λ (t : List (List ℕ)). map link_of (take l t)) d.4 ∙ set_held link_of l m.links i (link_words x) d.3 in
     let g = ap (λ (t : List Link). map (node_with t) (take n m.nodes)) pool
     ∙ pool_stored link_start link_count with_links n m.nodes ls p k i (link_of (link_words x)) d.0 d.1 refl d.2 alone.alone
@@ -119,7 +121,7 @@ abbrev junction_was : Memory → ℕ → Junction
 junction_was m p = junction_with (take m.ynd.heightmap_count m.heights) (get_or m.junctions p [])
 
 pub height_put : (m : Memory) (p k v : ℕ) → Alone value_start value_count m.ynd.junction_count (value_start (get_or m.junctions p []) + k) p m.junctions
-    → (put_height m.ynd m.junctions m.heights p k v).answer ≡ Done
+    → (put_height m.ynd m.junctions m.heights p k v).answer ≡ (Ok tt)
     → cell_of (memory m.ynd m.nodes m.links m.junctions (put_height m.ynd m.junctions m.heights p k v).list m.refs)
     ≡ with_junctions (set (cell_of m).junctions p (height_changed k v (junction_was m p))) (cell_of m)
 unfolding put_height height_entry cell_of nodes_of junctions_of refs_of
@@ -127,7 +129,7 @@ height_put m p k v alone e =
     let n = m.ynd.junction_count in
     let h = m.ynd.heightmap_count in
     let i = value_start (get_or m.junctions p []) + k in
-    let d = range_done (over_limit m.ynd) n (length m.junctions) 2 h 3 p k (value_range m.junctions p) (λ t. v) 0 m.heights e in
+    let d = range_done (over_limit m.ynd) n (length m.junctions) lent.Junctions h lent.Heightmap p k (value_range m.junctions p) (λ t. v) 0 m.heights e in
     let pool = ap (take h) d.4 ∙ take-set-lt h m.heights i v d.3 in
     let g = ap (λ (t : List ℕ). map (junction_with t) (take n m.junctions)) pool
     ∙ pool_stored value_start value_count with_values n m.junctions (take h m.heights) p k i v d.0 d.1 refl d.2 alone.alone in

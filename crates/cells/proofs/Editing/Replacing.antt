@@ -7,26 +7,20 @@ use mathlib.Core.List.{[], ◌∷◌}
 use lib.Dec.{eqb, ltb, leb}
 use borrow.Author.Tests.{le-leb, lt-leb, ne_eqb, leb-true, leb-false, ltb-false, eqb-true, not-false}
 use Rattle.numbers.specs.Refusals.{when}
-use Rattle.numbers.specs.declared.answer.Answer.TheVariants.{Done}
 use Rattle.numbers.proofs.Refusing.{passed}
 use Rattle.cells.specs.Truncate.{fewer}
 use Rattle.cells.specs.Replace.{place_for, pool_after}
-use Rattle.cells.specs.PutLinks.{links_causes, room_for_links}
-use Rattle.cells.specs.PutHeightmap.{map_causes, room_for_map}
+use Rattle.cells.specs.PutLinks.{links_causes, room_for_links, LinksRoom}
+use Rattle.cells.specs.PutHeightmap.{map_causes, room_for_map, MapRoom}
 use Rattle.cells.proofs.Sequences.Tests.{by_test}
+use Rattle.std.specs.Prelude.{Ok}
+use Rattle.numbers.specs.declared.refusal.Refusal.TheVariants.{NoSuchPlace, AtLimit}
 
-pub fewer_room : (over : Bool) (n k : ℕ) → fewer over n k ≡ Done → k ≤ n
+pub fewer_room : (over : Bool) (n k : ℕ) → fewer over n k ≡ (Ok tt) → k ≤ n
 unfolding fewer
-fewer_room over n k e = ltb-false n k (passed (when (ltb n k) 13 0 ∷ when over 14 0 ∷ []) 0 e)
+fewer_room over n k e = ltb-false n k (passed (when (ltb n k) NoSuchPlace ∷ when over AtLimit ∷ []) 0 e)
 
-pub record LinksRoom (n p c after nodes links : ℕ) : Type 0 where
-  pub place : p < n
-  pub few : c ≤ 255
-  pub all_few : after ≤ 4294967295
-  pub nodes_fit : n ≤ nodes
-  pub links_fit : after ≤ links
-
-pub links_room : (over : Bool) (n p c after nodes links : ℕ) → room_for_links over n p c after nodes links ≡ Done
+pub links_room : (over : Bool) (n p c after nodes links : ℕ) → room_for_links over n p c after nodes links ≡ (Ok tt)
     → LinksRoom n p c after nodes links
 unfolding room_for_links
 links_room over n p c after nodes links e =
@@ -39,15 +33,8 @@ links_room over n p c after nodes links e =
       links_fit = ltb-false links after (passed cs 5 e);
     }
 
-pub record MapRoom (n p c size after junctions heights : ℕ) : Type 0 where
-  pub place : p < n
-  pub all_few : after ≤ 4294967295
-  pub sized : c ≡ size
-  pub junctions_fit : n ≤ junctions
-  pub heights_fit : after ≤ heights
-
 pub map_room : (over : Bool) (n p c size after junctions heights : ℕ)
-    → room_for_map over n p c size after junctions heights ≡ Done → MapRoom n p c size after junctions heights
+    → room_for_map over n p c size after junctions heights ≡ (Ok tt) → MapRoom n p c size after junctions heights
 unfolding room_for_map
 map_room over n p c size after junctions heights e =
     let cs = map_causes over n p c size after junctions heights in

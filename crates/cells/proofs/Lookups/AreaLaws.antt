@@ -32,6 +32,8 @@ own_of_none zero nodes e = refl
 own_of_none (suc n) [] e = refl
 own_of_none (suc n) (w ∷ ws) e = absurd (omega arith)
 
+pub ruleset own_areas = (own_first, own_none, own_of_none)
+
 -- ---- what belongs
 
 -- the own area always does

@@ -1,23 +1,26 @@
 -- What a search that goes up through nodes or refs has found, and that lookups in the lent lists are lookups in the cell that they hold.
 use Prim.Native.Nat.{ℕ, zero, suc, ◌+◌, ◌<◌, ◌≤◌}
 use native.Mathlib.Omega.{arith}
-use native.Mathlib.Numerals.{add-one}
 use mathlib.Core.Path.{◌≡◌, refl, ap, sym, ◌∙◌}
-use mathlib.Core.Bool.{true, false}
+use mathlib.Core.Bool.{Bool, true, false}
 use mathlib.Core.List.{List, [], ◌∷◌, map}
 use mathlib.Core.Option.{Option, none, some}
 use lib.Dec.{ltb}
-use lib.ListN.{length, get_or, get_elem?, take, drop, length-map, get_or-map}
-use lib.Seq.{length-take-le, get_or-take, drop-cons}
+use lib.ListN.{length, get_or, get_elem?, take, length-map, get_or-map}
+use lib.Seq.{take_all, length-take-le, get_or-take}
 use borrow.Author.Tests.{eq-eqb, ne_eqb, lt-ltb, le-ltb, ltb-false}
 use Rattle.cells.specs.NodeWords.{number_of, first_area}
 use Rattle.cells.specs.Cell.{numbers, first_of}
 use Rattle.cells.specs.Memory.{Memory, over_limit}
 use Rattle.cells.specs.CellOf.{link_of, ref_of as to_ref, node_with, junction_with, nodes_of, junctions_of, refs_of, cell_of}
-use Rattle.cells.specs.Lookup.{first_with, find, ref_matches, ref_of, junction_at, junction_of}
+use Rattle.cells.specs.Lookup.{first_with, find, ref_matches, ref_of, or_later, or_else_ref, junction_at, junction_of}
 use Rattle.cells.specs.LookupCall.{numbers_in, first_in, find_in, node_call, place_of, ref_in, below, junction_of_call, at_place}
 use Rattle.cells.proofs.Sequences.Tests.{by_test}
-use Rattle.cells.specs.declared.lookup.Place.TheVariants.{At, Nothing}
+use Rattle.std.specs.Prelude.{Ok, Some, None, cond, ◌==◌, Option as Answered}
+use Rattle.std.specs.List.{position, position_from, find as find_one}
+use Rattle.std.specs.Option.{option_map}
+use Rattle.std.proofs.lemmas.Iterator.Adapters.{position_from-zero}
+use native.Mathlib.Nat.{zero-add, add-zero}
 
 first_found : (xs : List ℕ) (k i : ℕ) → i < length xs → get_or xs i 0 ≡ k → ((j : ℕ) → j < i → get_or xs j 0 ≡ k → ⊥) → first_with xs k ≡ some i
 unfolding first_with
@@ -38,28 +41,21 @@ number_in : (n : ℕ) (ws : List (List ℕ)) (i : ℕ) → i < n → get_or (num
 unfolding numbers_in number_of
 number_in n ws i lt = get_or-map number_of (take n ws) i [] ∙ ap number_of (get_or-take n ws i [] lt)
 
--- ---- the first node
-
-pub first_node : (n : ℕ) (ws : List (List ℕ)) → (n ≡ 0 → ⊥) → n ≤ length ws → take n ws ≡ get_or ws 0 [] ∷ drop 1 (take n ws)
-first_node zero ws ne h = absurd (ne refl)
-first_node (suc n) [] ne h = absurd (omega arith)
-first_node (suc n) (w ∷ ws) ne h = refl
-
 -- ---- a node by its number
 
 module _ (ws : List (List ℕ)) (n k : ℕ) (fits : n ≤ length ws) where
   long : length (numbers_in n ws) ≡ n
   long = numbers_length n ws fits
 
-  pub first_at : (i : ℕ) → i < n → number_of (get_or ws i []) ≡ k → ((j : ℕ) → j < i → number_of (get_or ws j []) ≡ k → ⊥) → At i ≡ first_in n ws k
+  pub first_at : (i : ℕ) → i < n → number_of (get_or ws i []) ≡ k → ((j : ℕ) → j < i → number_of (get_or ws j []) ≡ k → ⊥) → Some i ≡ first_in n ws k
   unfolding first_in
   first_at i lt e h = rw (first_found (numbers_in n ws) k i (rw long lt) (number_in n ws i lt ∙ e) (λ j l q. h j l (sym (number_in n ws j (omega arith)) ∙ q)))
 
-  pub first_no : ((j : ℕ) → j < n → number_of (get_or ws j []) ≡ k → ⊥) → Nothing ≡ first_in n ws k
+  pub first_no : ((j : ℕ) → j < n → number_of (get_or ws j []) ≡ k → ⊥) → None ≡ first_in n ws k
   unfolding first_in
   first_no h = rw (first_none (numbers_in n ws) k (λ j l q. h j (rw long at l) (sym (number_in n ws j (rw long at l)) ∙ q)))
 
-  pub find_at : k < n → number_of (get_or ws k []) ≡ k → At k ≡ find_in n ws k
+  pub find_at : k < n → number_of (get_or ws k []) ≡ k → Some k ≡ find_in n ws k
   unfolding find_in find
   find_at lt e = rw (long, number_in n ws k lt, lt-ltb k n lt, eq-eqb _ _ e)
 
@@ -71,33 +67,50 @@ module _ (ws : List (List ℕ)) (n k : ℕ) (fits : n ≤ length ws) where
   unfolding find_in find first_in
   find_other lt ne = rw (long, number_in n ws k lt, lt-ltb k n lt, ne_eqb _ _ ne)
 
--- ---- a junction by the refs: the refs from i on are yet to be looked at
-
-module _ (own a k : ℕ) (rs : List (List ℕ)) (r i : ℕ) (inside : i < r) (fits : r ≤ length rs) where
-  next_ref : drop i (take r rs) ≡ get_or rs i [] ∷ drop (i + 1) (take r rs)
-  next_ref =
-      drop-cons (take r rs) i [] (omega (arith, length-take-le r rs fits))
-      ∙ (λ j. get_or-take r rs i [] inside j ∷ drop (sym (add-one i) j) (take r rs))
-
-  pub ref_here : ref_matches own a k (to_ref (get_or rs i [])) ≡ true → ref_in own (drop i (take r rs)) a k ≡ some (get_or (get_or rs i []) 2 0)
-  unfolding ref_in ref_of
-  ref_here t = rw (next_ref, t)
-
-  pub ref_later : ref_matches own a k (to_ref (get_or rs i [])) ≡ false → ref_in own (drop i (take r rs)) a k ≡ ref_in own (drop (i + 1) (take r rs)) a k
-  unfolding ref_in ref_of
-  ref_later f = rw (next_ref, f)
-
-pub refs_passed : (own a k r i : ℕ) (rs : List (List ℕ)) → r ≤ i → ref_in own (drop i (take r rs)) a k ≡ none
-unfolding ref_in ref_of
-refs_passed own a k r i rs h = rw (none_left rs r i h)
+-- std's `position` finds the first
+pub first_is : (ws : List (List ℕ)) (k : ℕ) → position (λ w. number_of w == k) ws ≡ first_in (length ws) ws k
+unfolding first_in numbers_in first_with
+first_is ws k =
+    position_from-zero (λ w. number_of w == k) ws ∙ from 0 ws ∙ at_zero (first_with (map number_of ws) k)
+    ∙ ap (λ (l : List (List ℕ)). place_of (first_with (map number_of l) k)) (sym (take_all (length ws) ws (omega arith)))
   where
-    none_left : (l : List (List ℕ)) (r i : ℕ) → r ≤ i → drop i (take r l) ≡ []
-    none_left l zero zero h = refl
-    none_left l zero (suc i) h = refl
-    none_left [] (suc r) zero h = refl
-    none_left [] (suc r) (suc i) h = refl
-    none_left (x ∷ xs) (suc r) zero h = absurd (omega arith)
-    none_left (x ∷ xs) (suc r) (suc i) h = none_left xs r i (omega arith)
+    at : ℕ → Option ℕ → Answered ℕ
+    at i none = None
+    at i (some j) = Some (i + j)
+
+    later : (i : ℕ) (b : Bool) (o : Option ℕ) (rest : Answered ℕ) → rest ≡ at (i + 1) o → cond b (Some i) rest ≡ at i (or_later b o)
+    later i true o rest e = ap {B = Answered ℕ} Some (sym (add-zero i))
+    later i false none rest e = e
+    later i false (some j) rest e = e ∙ ap {B = Answered ℕ} Some (omega arith)
+
+    from : (i : ℕ) (l : List (List ℕ)) → position_from (λ w. number_of w == k) i l ≡ at i (first_with (map number_of l) k)
+    from i [] = refl
+    from i (w ∷ ws) = later i (number_of w == k) (first_with (map number_of ws) k) _ (from (i + 1) ws)
+
+    at_zero : (o : Option ℕ) → at 0 o ≡ place_of o
+    at_zero none = refl
+    at_zero (some j) = ap {B = Answered ℕ} Some (zero-add j)
+
+-- the front of a list, as a list of its own
+pub find_front : (n k : ℕ) (ws : List (List ℕ)) → n ≤ length ws → find_in (length (take n ws)) (take n ws) k ≡ find_in n ws k
+unfolding find_in numbers_in
+find_front n k ws h = ap (λ (l : List (List ℕ)). place_of (find (map number_of l) k)) (take_all (length (take n ws)) (take n ws) (omega arith))
+
+-- ---- a junction by the refs
+
+pub mapped_twice : {A B C : Type 0} (f : B → C) (g : A → B) (o : Answered A) → option_map (λ x. f (g x)) o ≡ option_map f (option_map g o)
+mapped_twice f g None = refl
+mapped_twice f g (Some x) = refl
+
+pub ref_found : (own a k : ℕ) (rs : List (List ℕ)) → option_map (λ w. get_or w 2 0) (find_one (λ w. ref_matches own a k (to_ref w)) rs) ≡ place_of (ref_in own rs a k)
+unfolding ref_in ref_of
+ref_found own a k [] = refl
+ref_found own a k (r ∷ rs) = go (ref_matches own a k (to_ref r)) (ref_found own a k rs)
+  where
+    go : (b : Bool) → option_map (λ w. get_or w 2 0) (find_one (λ w. ref_matches own a k (to_ref w)) rs) ≡ place_of (ref_in own rs a k)
+        → option_map (λ w. get_or w 2 0) (cond b (Some r) (find_one (λ w. ref_matches own a k (to_ref w)) rs)) ≡ place_of (or_else_ref b (get_or r 2 0) (ref_in own rs a k))
+    go true e = refl
+    go false e = e
 
 -- ---- in the cell that the lists hold
 
@@ -119,9 +132,9 @@ area_held m = first (take m.ynd.node_count m.nodes)
 
 -- `node` finds what the cell's nodes have
 pub node_held : (m : Memory) (k : ℕ) → over_limit m.ynd ≡ false → m.ynd.node_count ≤ length m.nodes
-    → node_call m.ynd m.nodes k ≡ place_of (find (numbers (nodes_of m)) k)
+    → node_call m.ynd m.nodes k ≡ Ok (place_of (find (numbers (nodes_of m)) k))
 unfolding node_call find_in
-node_held m k o h = rw (o, le-ltb _ _ h) (ap (λ (ns : List ℕ). place_of (find ns k)) (sym (numbers_held m)))
+node_held m k o h = rw (o, le-ltb _ _ h) (ap (λ (ns : List ℕ). Ok (place_of (find ns k))) (sym (numbers_held m)))
 
 past_none : {A : Type 0} (l : List A) (j : ℕ) → length l ≤ j → get_elem? l j ≡ none
 past_none [] j h = refl
@@ -147,7 +160,7 @@ junction_held m a k o hn hr =
     (ap (λ (own : ℕ). junction_at (junctions_of m) (ref_of own (map to_ref (take m.ynd.ref_count m.refs)) a k)) (area_held m)
     ∙ go (ref_of (first_area (take m.ynd.node_count m.nodes)) (map to_ref (take m.ynd.ref_count m.refs)) a k))
   where
-    go : (o : Option ℕ) → junction_at (junctions_of m) o ≡ at_place (junctions_of m) (below m.ynd.junction_count (place_of o))
+    go : (o : Option ℕ) → junction_at (junctions_of m) o ≡ at_place (junctions_of m) (Ok (below m.ynd.junction_count (place_of o)))
     go none = refl
     go (some j) = by_test (ltb j m.ynd.junction_count) (λ t. rw t)
         (λ f. rw f (past_none (junctions_of m) j (omega (arith, ltb-false j m.ynd.junction_count f, junctions_few m))))

@@ -27,17 +27,15 @@ use Rattle.cells.proofs.Forms.Entries.{unstep_fits, byte0, byte1, byte2, byte3, 
 use Rattle.cells.specs.FileCell.{file_link_of, file_ref_of, file_body, file_node_of, file_junction_of, file_nodes, file_junctions, file_refs, cell_from, cell_by, file_cell}
 use Rattle.records.specs.declared.root.Root.{Root}
 use Rattle.records.specs.declared.section.Part.{Part}
-use Rattle.records.specs.declared.section.Located.{Located}
-use Rattle.records.specs.declared.section.Located.TheVariants.{At, Bad}
-use Rattle.numbers.specs.declared.answer.Answer.{Answer}
-use Rattle.numbers.specs.declared.answer.Answer.TheVariants.{Done, Refused}
-use Rattle.cells.specs.declared.arrays.Found.TheVariants as found
 use Rattle.cells.specs.declared.count.Counts.{Counts}
-use Rattle.cells.specs.declared.count.Counted.{Counted}
-use Rattle.cells.specs.declared.count.Counted.TheVariants as counted
 use Rattle.records.specs.declared.node.Node as raw-node
 use Rattle.cells.proofs.Sequences.Tests.{map_take, map_drop, map_append}
 use Rattle.cells.proofs.Reading.ReadLaws.{length_up_to, length_join_to, own_part, length_links, length_values, Holds, holds}
+use Rattle.std.specs.Prelude.{Result, Ok, Err, Option, Some, None}
+use Rattle.numbers.specs.Refusals.{Answer}
+use Rattle.numbers.specs.declared.refusal.Refusal.{Refusal}
+use Rattle.numbers.proofs.Refusing.{not_refused}
+use Rattle.numbers.specs.declared.refusal.Array.TheVariants as array
 
 -- ---- lists by place
 
@@ -225,10 +223,7 @@ module _ (root : Root) (n l j h r : List ℕ) (m : Memory) where
     words = root.unknowns;
   }
 
-refused : {P : Type 0} {a b : ℕ} → Refused a b ≡ Done → P
-refused e = let z : ◌≡◌ {A = ℕ} 0 1 = cc in absurd (omega arith)
-
-arrays_cell : (root : Root) (n l j h r : List ℕ) (m : Memory) → (read_arrays root n l j h r m).answer ≡ Done → cell_of (read_arrays root n l j h r m).memory ≡ cell_from root n l j h r
+arrays_cell : (root : Root) (n l j h r : List ℕ) (m : Memory) → (read_arrays root n l j h r m).answer ≡ (Ok tt) → cell_of (read_arrays root n l j h r m).memory ≡ cell_from root n l j h r
 unfolding read_arrays
 arrays_cell root n l j h r m e = go (arrays_check n l j h r) refl e
   where
@@ -236,18 +231,18 @@ arrays_cell root n l j h r m e = go (arrays_check n l j h r) refl e
     short k = room_check k (length m.nodes) (length m.links) (length m.junctions) (length m.heights) (length m.refs)
 
     fill : Counts → Left
-    fill k = record { answer = Done; memory = filled root k n l j h r m }
+    fill k = record { answer = (Ok tt); memory = filled root k n l j h r m }
 
-    inner : (k : Counts) (c : Answer) → k ≡ counts_of n j r → (unless c m (fill k)).answer ≡ Done → cell_of (unless c m (fill k)).memory ≡ cell_from root n l j h r
-    inner k (Refused a b) q t = refused t
-    inner k Done q t = ap (λ (x : Counts). cell_of (filled root x n l j h r m)) q ∙ filled_cell root n l j h r m
+    inner : (k : Counts) (c : Answer) → k ≡ counts_of n j r → (unless c m (fill k)).answer ≡ (Ok tt) → cell_of (unless c m (fill k)).memory ≡ cell_from root n l j h r
+    inner k (Err a) q t = not_refused t
+    inner k (Ok tt) q t = ap (λ (x : Counts). cell_of (filled root x n l j h r m)) q ∙ filled_cell root n l j h r m
 
-    go : (c : Counted) → arrays_check n l j h r ≡ c → (if_held c m (λ k. unless (short k) m (fill k))).answer ≡ Done → cell_of (if_held c m (λ k. unless (short k) m (fill k))).memory ≡ cell_from root n l j h r
-    go (counted.Refused a b) d t = refused t
-    go (counted.Held k) d t = inner k (short k) (holds n l j h r k d).counts t
+    go : (c : Result Counts Refusal) → arrays_check n l j h r ≡ c → (if_held c m (λ k. unless (short k) m (fill k))).answer ≡ (Ok tt) → cell_of (if_held c m (λ k. unless (short k) m (fill k))).memory ≡ cell_from root n l j h r
+    go (Err a) d t = not_refused t
+    go (Ok k) d t = inner k (short k) (holds n l j h r k d).counts t
 
 -- the first cell: what an accepted reading of two sections leaves in the memory lent to it
-pub read_cell : (s g : List ℕ) (m : Memory) → (read_of s g m).answer ≡ Done → cell_of (read_of s g m).memory ≡ file_cell s g
+pub read_cell : (s g : List ℕ) (m : Memory) → (read_of s g m).answer ≡ (Ok tt) → cell_of (read_of s g m).memory ≡ file_cell s g
 unfolding read_of arrays_found file_cell cell_by array_at
 read_cell s g m e = sizes (sizes_check (length s) (length g)) e
   where
@@ -257,29 +252,29 @@ read_cell s g m e = sizes (sizes_check (length s) (length g)) e
     reading : Part → Part → Part → Part → Part → Left
     reading n l j h r = read_arrays root (bytes_of n s g) (bytes_of l s g) (bytes_of j s g) (bytes_of h s g) (bytes_of r s g) m
 
-    by : Located → Located → Located → Located → Located → Left
+    by : Option Part → Option Part → Option Part → Option Part → Option Part → Left
     by a b c d f =
-        if_found (opened 0 a λ n. opened 1 b λ l. opened 2 c λ j. opened 3 d λ h. opened 4 f λ r. found.Arrays (record { nodes = n; links = l; junctions = j; heights = h; refs = r })) m reading
+        if_found (opened array.Nodes a λ n. opened array.Links b λ l. opened array.Junctions c λ j. opened array.Heightmap d λ h. opened array.Refs f λ r. Ok (record { nodes = n; links = l; junctions = j; heights = h; refs = r })) m reading
 
-    arrays : (a b c d f : Located) → (by a b c d f).answer ≡ Done → cell_of (by a b c d f).memory ≡ cell_from root (part_bytes a s g) (part_bytes b s g) (part_bytes c s g) (part_bytes d s g) (part_bytes f s g)
-    arrays Bad b c d f t = refused t
-    arrays (At n) Bad c d f t = refused t
-    arrays (At n) (At l) Bad d f t = refused t
-    arrays (At n) (At l) (At j) Bad f t = refused t
-    arrays (At n) (At l) (At j) (At h) Bad t = refused t
-    arrays (At n) (At l) (At j) (At h) (At r) t = arrays_cell root (bytes_of n s g) (bytes_of l s g) (bytes_of j s g) (bytes_of h s g) (bytes_of r s g) m t
+    arrays : (a b c d f : Option Part) → (by a b c d f).answer ≡ (Ok tt) → cell_of (by a b c d f).memory ≡ cell_from root (part_bytes a s g) (part_bytes b s g) (part_bytes c s g) (part_bytes d s g) (part_bytes f s g)
+    arrays None b c d f t = not_refused t
+    arrays (Some n) None c d f t = not_refused t
+    arrays (Some n) (Some l) None d f t = not_refused t
+    arrays (Some n) (Some l) (Some j) None f t = not_refused t
+    arrays (Some n) (Some l) (Some j) (Some h) None t = not_refused t
+    arrays (Some n) (Some l) (Some j) (Some h) (Some r) t = arrays_cell root (bytes_of n s g) (bytes_of l s g) (bytes_of j s g) (bytes_of h s g) (bytes_of r s g) m t
 
-    sizes : (c : Answer) → (unless c m (if_found (arrays_found (root_read s) (length s) (length g)) m reading)).answer ≡ Done
+    sizes : (c : Answer) → (unless c m (if_found (arrays_found (root_read s) (length s) (length g)) m reading)).answer ≡ (Ok tt)
         → cell_of (unless c m (if_found (arrays_found (root_read s) (length s) (length g)) m reading)).memory ≡ file_cell s g
-    sizes (Refused a b) t = refused t
-    sizes Done t =
+    sizes (Err a) t = not_refused t
+    sizes (Ok tt) t =
         arrays (located root.nodes root.node_count 40 (length s) (length g)) (located root.links root.link_count 8 (length s) (length g))
         (located root.junctions root.junction_count 12 (length s) (length g)) (located root.heightmap root.heightmap_count 1 (length s) (length g))
         (located root.refs root.ref_count 8 (length s) (length g)) t
 
 -- what holds of whatever five arrays, within the limits of 6, fill the memory with holds after an accepted reading
 module _ (P : Memory → Type 0) (s g : List ℕ) (m : Memory) (each : (n l j h r : List ℕ) → Holds n j r (counts_of n j r) → P (filled (root_read s) (counts_of n j r) n l j h r m)) where
-  arrays_all : (n l j h r : List ℕ) → (read_arrays (root_read s) n l j h r m).answer ≡ Done → P (read_arrays (root_read s) n l j h r m).memory
+  arrays_all : (n l j h r : List ℕ) → (read_arrays (root_read s) n l j h r m).answer ≡ (Ok tt) → P (read_arrays (root_read s) n l j h r m).memory
   unfolding read_arrays
   arrays_all n l j h r e = go (arrays_check n l j h r) refl e
     where
@@ -287,38 +282,38 @@ module _ (P : Memory → Type 0) (s g : List ℕ) (m : Memory) (each : (n l j h 
       short k = room_check k (length m.nodes) (length m.links) (length m.junctions) (length m.heights) (length m.refs)
 
       fill : Counts → Left
-      fill k = record { answer = Done; memory = filled (root_read s) k n l j h r m }
+      fill k = record { answer = (Ok tt); memory = filled (root_read s) k n l j h r m }
 
-      inner : (k : Counts) (c : Answer) → Holds n j r k → (unless c m (fill k)).answer ≡ Done → P (unless c m (fill k)).memory
-      inner k (Refused a b) q t = refused t
-      inner k Done q t = subst (λ (x : Counts). P (filled (root_read s) x n l j h r m)) (sym q.counts) (each n l j h r (record { few_nodes = q.few_nodes; few_junctions = q.few_junctions; counts = refl }))
+      inner : (k : Counts) (c : Answer) → Holds n j r k → (unless c m (fill k)).answer ≡ (Ok tt) → P (unless c m (fill k)).memory
+      inner k (Err a) q t = not_refused t
+      inner k (Ok tt) q t = subst (λ (x : Counts). P (filled (root_read s) x n l j h r m)) (sym q.counts) (each n l j h r (record { few_nodes = q.few_nodes; few_junctions = q.few_junctions; counts = refl }))
 
-      go : (c : Counted) → arrays_check n l j h r ≡ c → (if_held c m (λ k. unless (short k) m (fill k))).answer ≡ Done → P (if_held c m (λ k. unless (short k) m (fill k))).memory
-      go (counted.Refused a b) d t = refused t
-      go (counted.Held k) d t = inner k (short k) (holds n l j h r k d) t
+      go : (c : Result Counts Refusal) → arrays_check n l j h r ≡ c → (if_held c m (λ k. unless (short k) m (fill k))).answer ≡ (Ok tt) → P (if_held c m (λ k. unless (short k) m (fill k))).memory
+      go (Err a) d t = not_refused t
+      go (Ok k) d t = inner k (short k) (holds n l j h r k d) t
 
-  pub read_all : (read_of s g m).answer ≡ Done → P (read_of s g m).memory
+  pub read_all : (read_of s g m).answer ≡ (Ok tt) → P (read_of s g m).memory
   unfolding read_of arrays_found
   read_all e = sizes (sizes_check (length s) (length g)) e
     where
       reading : Part → Part → Part → Part → Part → Left
       reading n l j h r = read_arrays (root_read s) (bytes_of n s g) (bytes_of l s g) (bytes_of j s g) (bytes_of h s g) (bytes_of r s g) m
 
-      by : Located → Located → Located → Located → Located → Left
+      by : Option Part → Option Part → Option Part → Option Part → Option Part → Left
       by a b c d f =
-          if_found (opened 0 a λ n. opened 1 b λ l. opened 2 c λ j. opened 3 d λ h. opened 4 f λ r. found.Arrays (record { nodes = n; links = l; junctions = j; heights = h; refs = r })) m reading
+          if_found (opened array.Nodes a λ n. opened array.Links b λ l. opened array.Junctions c λ j. opened array.Heightmap d λ h. opened array.Refs f λ r. Ok (record { nodes = n; links = l; junctions = j; heights = h; refs = r })) m reading
 
-      arrays : (a b c d f : Located) → (by a b c d f).answer ≡ Done → P (by a b c d f).memory
-      arrays Bad b c d f t = refused t
-      arrays (At n) Bad c d f t = refused t
-      arrays (At n) (At l) Bad d f t = refused t
-      arrays (At n) (At l) (At j) Bad f t = refused t
-      arrays (At n) (At l) (At j) (At h) Bad t = refused t
-      arrays (At n) (At l) (At j) (At h) (At r) t = arrays_all (bytes_of n s g) (bytes_of l s g) (bytes_of j s g) (bytes_of h s g) (bytes_of r s g) t
+      arrays : (a b c d f : Option Part) → (by a b c d f).answer ≡ (Ok tt) → P (by a b c d f).memory
+      arrays None b c d f t = not_refused t
+      arrays (Some n) None c d f t = not_refused t
+      arrays (Some n) (Some l) None d f t = not_refused t
+      arrays (Some n) (Some l) (Some j) None f t = not_refused t
+      arrays (Some n) (Some l) (Some j) (Some h) None t = not_refused t
+      arrays (Some n) (Some l) (Some j) (Some h) (Some r) t = arrays_all (bytes_of n s g) (bytes_of l s g) (bytes_of j s g) (bytes_of h s g) (bytes_of r s g) t
 
-      sizes : (c : Answer) → (unless c m (if_found (arrays_found (root_read s) (length s) (length g)) m reading)).answer ≡ Done → P (unless c m (if_found (arrays_found (root_read s) (length s) (length g)) m reading)).memory
-      sizes (Refused a b) t = refused t
-      sizes Done t =
+      sizes : (c : Answer) → (unless c m (if_found (arrays_found (root_read s) (length s) (length g)) m reading)).answer ≡ (Ok tt) → P (unless c m (if_found (arrays_found (root_read s) (length s) (length g)) m reading)).memory
+      sizes (Err a) t = not_refused t
+      sizes (Ok tt) t =
           arrays (located (root_read s).nodes (root_read s).node_count 40 (length s) (length g)) (located (root_read s).links (root_read s).link_count 8 (length s) (length g))
           (located (root_read s).junctions (root_read s).junction_count 12 (length s) (length g)) (located (root_read s).heightmap (root_read s).heightmap_count 1 (length s) (length g))
           (located (root_read s).refs (root_read s).ref_count 8 (length s) (length g)) t

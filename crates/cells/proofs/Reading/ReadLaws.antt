@@ -6,51 +6,50 @@ use mathlib.Core.List.{List, [], ◌∷◌, ◌++◌, append_assoc, append-nil}
 use native.Mathlib.Numerals.{add-one}
 use native.Mathlib.Nat.{suc-mul, mul-le-mul}
 use native.Mathlib.Omega.{arith}
-use lib.ListN.{length, get_or, set, take, drop, length-append, length-take, length-drop, take-append-drop}
+use lib.ListN.{length, get_or, set, take, drop, length-append, length-take, length-drop}
 use lib.Seq.{length-take-le, drop-cons, set_at, append_snoc, take_at, drop_at, drop-append-add, drop-drop}
 use Rattle.cells.specs.Lists.{up_to, join_to, sum_to}
-use borrow.Author.Tests.{le-ltb, ltb-false}
+use Rattle.std.proofs.lemmas.List.{drop_all}
+pub use Rattle.cells.specs.RangedParts.{length_up_to, length_links, length_values}
+use borrow.Author.Tests.{ltb-false}
 use lib.Dec.{ltb, leb}
 use Rattle.records.specs.declared.section.Section.{Section}
 use Rattle.records.specs.declared.section.Section.TheVariants.{System, Graphics}
 use Rattle.records.specs.declared.section.Part.{Part}
 use Rattle.records.specs.Sections.{extent, section_of, bytes_of}
 use Rattle.cells.specs.declared.count.Counts.{Counts}
+use Rattle.cells.specs.Checks.{too_few, sizes_check}
 use Rattle.cells.specs.Read.{room_check}
-use Rattle.cells.specs.Checks.{refuse_more, too_few, sizes_check}
 use Rattle.records.specs.Bytes.{byte_at}
-use Rattle.records.specs.Records.{node_at, link_at, junction_at}
-use Rattle.cells.specs.Words.{link_words, path_link}
-use Rattle.cells.specs.Read.{links_from, values_from, links_in, values_in}
+use Rattle.records.specs.Records.{node_at, junction_at}
 use Prim.Native.Nat.{◌/◌}
-use Rattle.cells.specs.Checks.{scan, refuse_if, total_of, handed_on, after, arrays_check, nodes_scan, junctions_scan, counts_of, links_at, values_at}
-use Rattle.cells.specs.declared.count.Total.{Total}
-use Rattle.cells.specs.declared.count.Total.TheVariants as total
-use Rattle.cells.specs.declared.count.Counted.{Counted}
-use Rattle.cells.specs.declared.count.Counted.TheVariants.{Held}
-use Rattle.numbers.specs.declared.answer.Answer.{Answer}
-use Rattle.numbers.specs.declared.answer.Answer.TheVariants.{Done, Refused}
+use Rattle.cells.specs.Checks.{scan, arrays_check, nodes_scan, junctions_scan, counts_of, links_at, values_at}
+use Rattle.std.specs.Prelude.{Result, Ok, Err}
+use Rattle.numbers.specs.Refusals.{Answer, refuse_if, unless}
+use Rattle.numbers.specs.declared.refusal.Refusal.{Refusal}
+use Rattle.numbers.specs.declared.refusal.Lent.TheVariants as lent
+use Rattle.numbers.specs.declared.refusal.Refusal.TheVariants.{TooShort, SystemTooShort, SystemTooLong, GraphicsTooLong, TooManyNodes, TooManyJunctions}
 
 -- ---- a scan of n places, at place i
 
-pub scan_hit : (cause : ℕ) (bad : ℕ → Bool) (i n : ℕ) → i < n → bad i ≡ true → scan cause bad i (n - i) ≡ Refused cause i
+pub scan_hit : (cause : ℕ → Refusal) (bad : ℕ → Bool) (i n : ℕ) → i < n → bad i ≡ true → scan cause bad i (n - i) ≡ Err (cause i)
 unfolding scan
 scan_hit cause bad i n h t =
     ap (scan cause bad i) (let e : n - i ≡ suc (n - (i + 1)) = omega arith in e)
-    ∙ ap (λ (b : Bool). refuse_if b cause i (scan cause bad (suc i) (n - (i + 1)))) t
+    ∙ ap (λ (b : Bool). refuse_if b (cause i) (scan cause bad (suc i) (n - (i + 1)))) t
 
-pub scan_on : (cause : ℕ) (bad : ℕ → Bool) (i n : ℕ) → i < n → bad i ≡ false → scan cause bad i (n - i) ≡ scan cause bad (i + 1) (n - (i + 1))
+pub scan_on : (cause : ℕ → Refusal) (bad : ℕ → Bool) (i n : ℕ) → i < n → bad i ≡ false → scan cause bad i (n - i) ≡ scan cause bad (i + 1) (n - (i + 1))
 unfolding scan
 scan_on cause bad i n h t =
     ap (scan cause bad i) (let e : n - i ≡ suc (n - (i + 1)) = omega arith in e)
-    ∙ ap (λ (b : Bool). refuse_if b cause i (scan cause bad (suc i) (n - (i + 1)))) t
+    ∙ ap (λ (b : Bool). refuse_if b (cause i) (scan cause bad (suc i) (n - (i + 1)))) t
     ∙ ap (λ (k : ℕ). scan cause bad k (n - (i + 1))) (sym (add-one i))
 
-pub scan_end : (cause : ℕ) (bad : ℕ → Bool) (i n : ℕ) → n ≤ i → scan cause bad i (n - i) ≡ Done
+pub scan_end : (cause : ℕ → Refusal) (bad : ℕ → Bool) (i n : ℕ) → n ≤ i → scan cause bad i (n - i) ≡ Ok tt
 unfolding scan
 scan_end cause bad i n h = ap (scan cause bad i) (let e : n - i ≡ 0 = omega arith in e)
 
-pub scan_start : (cause : ℕ) (bad : ℕ → Bool) (n : ℕ) → scan cause bad 0 n ≡ scan cause bad 0 (n - 0)
+pub scan_start : (cause : ℕ → Refusal) (bad : ℕ → Bool) (n : ℕ) → scan cause bad 0 n ≡ scan cause bad 0 (n - 0)
 scan_start cause bad n = ap (scan cause bad 0) (omega arith)
 
 -- ---- one place more
@@ -66,11 +65,6 @@ up_to_next f i = rw add-one
 pub join_to_next : {A : Type 0} (f : ℕ → List A) (i : ℕ) → join_to f (i + 1) ≡ join_to f i ++ f i
 unfolding join_to
 join_to_next f i = rw add-one
-
-pub length_up_to : {A : Type 0} (f : ℕ → A) (n : ℕ) → length (up_to f n) ≡ n
-unfolding up_to
-length_up_to f zero = refl
-length_up_to f (suc n) = omega (arith, length-append (up_to f n) (f n ∷ []), length_up_to f n)
 
 -- the joined lists are as long as their lengths say
 pub length_join_to : {A : Type 0} (f : ℕ → List A) (g : ℕ → ℕ) → ((i : ℕ) → length (f i) ≡ g i) → (n : ℕ) → length (join_to f n) ≡ sum_to g n
@@ -107,50 +101,25 @@ fill_turn {A = A} f l₀ l i w z h is-l e =
     ∙ add_one_entry (up_to f i) l₀ l i (f i) z (length_up_to f i) h is-l
     ∙ ap (λ (y : List A). y ++ drop (i + 1) l₀) (sym (up_to_next f i))
 
--- ---- a total, taken apart
+-- the same, with the element that stands there for the one past the end
+pub fill_turn_here : {A : Type 0} (f : ℕ → A) (l₀ l : List A) (i : ℕ) (w : A) → i < length l₀ → l ≡ up_to f i ++ drop i l₀ → w ≡ f i → set l i w ≡ up_to f (i + 1) ++ drop (i + 1) l₀
+fill_turn_here f l₀ l i w h is-l e = fill_turn f l₀ l i w w h is-l e
 
-pub after_refused : (x : Answer) (n : ℕ) (next : Counted) (t : Total) (cause place : ℕ) → t ≡ total_of x n → t ≡ total.Refused cause place → handed_on t ≡ after x next
-after_refused (Refused a b) n next t cause place e f = ap handed_on e
-after_refused Done n next t cause place e f = let z : ◌≡◌ {A = ℕ} 0 1 = cc in absurd (omega arith)
+-- ---- a part of a list stored over, and a whole one
 
-pub after_sum : (x : Answer) (n : ℕ) (next : Counted) (t : Total) (m : ℕ) → t ≡ total_of x n → t ≡ total.Sum m → after x next ≡ next
-after_sum (Refused a b) n next t m e f = let z : ◌≡◌ {A = ℕ} 0 1 = cc in absurd (omega arith)
-after_sum Done n next t m e f = refl
+pub part_stored : {A : Type 0} (f : ℕ → ℕ → List A) (ps new : List A) (held s c from count : ℕ) → s ≡ from → c ≡ count → held + count ≤ length ps
+    → new ≡ f s (length (take (held + c - held) (drop held ps)))
+    → take held ps ++ (new ++ drop (held + c - held) (drop held ps)) ≡ take held ps ++ f from count ++ drop (held + count) ps
+part_stored {A = A} f ps new held s c from count es ec h en =
+    let e : held + c - held ≡ count = omega arith in
+    let left : count ≤ length (drop held ps) = simp length-drop (omega arith) in
+    let long : length (take (held + c - held) (drop held ps)) ≡ count = rw e (length-take-le count (drop held ps) left) in
+    (λ i. take held ps ++ ((en ∙ (λ q. f (es q) (long q))) i ++ drop (e i) (drop held ps)))
+    ∙ ap (λ (x : List A). take held ps ++ (f from count ++ x)) (drop-drop count held ps)
+    ∙ sym (append_assoc (take held ps) (f from count) (drop (held + count) ps))
 
-pub sum_is : (x : Answer) (n : ℕ) (t : Total) (m : ℕ) → t ≡ total_of x n → t ≡ total.Sum m → m ≡ n
-sum_is (Refused a b) n t m e f = let z : ◌≡◌ {A = ℕ} 0 1 = cc in absurd (omega arith)
-sum_is Done n t m e f = cc
-
-pub within_limits : (n l j h r : List ℕ) → length n / 40 ≤ 65536 → length j / 12 ≤ 4096
-    → arrays_check n l j h r ≡ after (nodes_scan n l) (after (junctions_scan j h) (Held (counts_of n j r)))
-unfolding arrays_check
-within_limits n l j h r few fewer = rw (le-ltb _ _ few, le-ltb _ _ fewer)
-
--- ---- a loop that fills the places from `to` on
-
-pub copy_start : {A : Type 0} (f : ℕ → A) (l : List A) (to : ℕ) → l ≡ take to l ++ up_to f 0 ++ drop (to + 0) l
-unfolding up_to
-copy_start {A = A} f l to =
-    sym (take-append-drop to l)
-    ∙ (λ i. sym (append-nil (take to l)) i ++ drop ((let e : to ≡ to + 0 = omega arith in e) i) l)
-
-pub copy_turn : {A : Type 0} (f : ℕ → A) (l₀ l : List A) (to k : ℕ) (w z : A) → to + k < length l₀ → l ≡ take to l₀ ++ up_to f k ++ drop (to + k) l₀ → w ≡ f k
-    → set l (to + k) w ≡ take to l₀ ++ up_to f (k + 1) ++ drop (to + (k + 1)) l₀
-copy_turn {A = A} f l₀ l to k w z h is-l e =
-    ap (set l (to + k)) e
-    ∙ add_one_entry (take to l₀ ++ up_to f k) l₀ l (to + k) (f k) z
-    (length-append (take to l₀) (up_to f k) ∙ (λ i. length-take-le to l₀ (let q : to ≤ length l₀ = omega arith in q) i + length_up_to f k i)) h is-l
-    ∙ (λ i. (append_assoc (take to l₀) (up_to f k) (f k ∷ []) ∙ ap (◌++◌ (take to l₀)) (sym (up_to_next f k))) i ++ drop ((let q : to + k + 1 ≡ to + (k + 1) = omega arith in q) i) l₀)
-
--- ---- how many links and values a record has
-
-pub length_links : (n l : List ℕ) (i : ℕ) → length (links_in n l i) ≡ links_at n i
-unfolding links_in links_from
-length_links n l i = length_up_to (λ k. link_words (path_link (link_at l (((node_at n (i * 40)).link_id + k) * 8)))) (links_at n i)
-
-pub length_values : (j h : List ℕ) (i : ℕ) → length (values_in j h i) ≡ values_at j i
-unfolding values_in values_from
-length_values j h i = length_up_to (λ k. byte_at h ((junction_at j (i * 12)).heightmap_ptr + k)) (values_at j i)
+pub all_stored : {A : Type 0} (x l l₀ : List A) (i : ℕ) → length l₀ ≤ i → l ≡ x ++ drop i l₀ → l ≡ x
+all_stored {A = A} x l l₀ i h e = e ∙ ap (λ (y : List A). x ++ y) (drop_all i l₀ h) ∙ append-nil x
 
 -- a turn of a loop that adds several entries: x after those of the places before
 pub join_turn : {A : Type 0} (f : ℕ → List A) (g : ℕ → ℕ) → ((i : ℕ) → length (f i) ≡ g i) → (l₀ l : List A) (i held r : ℕ)
@@ -161,31 +130,30 @@ join_turn f g len l₀ l i held r is_held_lem is-l is-r =
 
 -- ---- what an accepted answer tells
 
-more_told : (b : Bool) (cause place : ℕ) (next : Counted) (k : Counts) → refuse_more b cause place next ≡ Held k → (b ≡ false) × (next ≡ Held k)
-more_told true cause place next k e = let z : ◌≡◌ {A = ℕ} 0 1 = cc in absurd (omega arith)
-more_told false cause place next k e = (refl, e)
+if_told : {A : Type 0} (b : Bool) (cause : Refusal) (next : Result A Refusal) (x : A) → refuse_if b cause next ≡ Ok x → (b ≡ false) × (next ≡ Ok x)
+if_told true cause next x e = let z : ◌≡◌ {A = ℕ} 0 1 = cc in absurd (omega arith)
+if_told false cause next x e = (refl, e)
 
-after_told : (x : Answer) (next : Counted) (k : Counts) → after x next ≡ Held k → next ≡ Held k
-after_told (Refused a b) next k e = let z : ◌≡◌ {A = ℕ} 0 1 = cc in absurd (omega arith)
-after_told Done next k e = e
-
-if_told : (b : Bool) (cause place : ℕ) (next : Answer) → refuse_if b cause place next ≡ Done → (b ≡ false) × (next ≡ Done)
-if_told true cause place next e = let z : ◌≡◌ {A = ℕ} 0 1 = cc in absurd (omega arith)
-if_told false cause place next e = (refl, e)
+after_told : {A : Type 0} (a : Answer) (next : Result A Refusal) (x : A) → unless a next ≡ Ok x → next ≡ Ok x
+after_told (Err r) next x e = let z : ◌≡◌ {A = ℕ} 0 1 = cc in absurd (omega arith)
+after_told (Ok tt) next x e = e
 
 pub record Holds (n j r : List ℕ) (k : Counts) : Type 0 where
   pub few_nodes : length n / 40 ≤ 65536
   pub few_junctions : length j / 12 ≤ 4096
   pub counts : k ≡ counts_of n j r
 
-pub holds : (n l j h r : List ℕ) (k : Counts) → arrays_check n l j h r ≡ Held k → Holds n j r k
+pub holds : (n l j h r : List ℕ) (k : Counts) → arrays_check n l j h r ≡ Ok k → Holds n j r k
 unfolding arrays_check
 holds n l j h r k e =
-    let one = more_told (ltb 65536 (length n / 40)) 6 0 (refuse_more (ltb 4096 (length j / 12)) 6 1 (after (nodes_scan n l) (after (junctions_scan j h) (Held (counts_of n j r))))) k e in
-    let two = more_told (ltb 4096 (length j / 12)) 6 1 (after (nodes_scan n l) (after (junctions_scan j h) (Held (counts_of n j r)))) k one.1 in
-    let last = after_told (junctions_scan j h) (Held (counts_of n j r)) k (after_told (nodes_scan n l) (after (junctions_scan j h) (Held (counts_of n j r))) k two.1) in
+    let all = Ok (counts_of n j r) in
+    let scanned = unless (nodes_scan n l) (unless (junctions_scan j h) all) in
+    let one = if_told (ltb 65536 (length n / 40)) TooManyNodes (refuse_if (ltb 4096 (length j / 12)) TooManyJunctions scanned) k e in
+    let two = if_told (ltb 4096 (length j / 12)) TooManyJunctions scanned k one.1 in
+    let last = after_told (junctions_scan j h) all k (after_told (nodes_scan n l) (unless (junctions_scan j h) all) k two.1) in
     record { few_nodes = ltb-false 65536 (length n / 40) one.0; few_junctions = ltb-false 4096 (length j / 12) two.0; counts = cc }
 
+-- lists that an accepted reading was lent hold what it reads
 pub record Room (k : Counts) (nodes links junctions heights refs : ℕ) : Type 0 where
   pub nodes_fit : k.nodes ≤ nodes
   pub links_fit : k.links ≤ links
@@ -193,18 +161,18 @@ pub record Room (k : Counts) (nodes links junctions heights refs : ℕ) : Type 0
   pub heights_fit : k.heights ≤ heights
   pub refs_fit : k.refs ≤ refs
 
-pub room : (k : Counts) (nodes links junctions heights refs : ℕ) → room_check k nodes links junctions heights refs ≡ Done → Room k nodes links junctions heights refs
+pub room : (k : Counts) (nodes links junctions heights refs : ℕ) → room_check k nodes links junctions heights refs ≡ Ok tt → Room k nodes links junctions heights refs
 unfolding room_check
 room k nodes links junctions heights refs e =
-    let t5 = refuse_if (ltb refs k.refs) 7 4 Done in
-    let t4 = refuse_if (ltb heights k.heights) 7 3 t5 in
-    let t3 = refuse_if (ltb junctions k.junctions) 7 2 t4 in
-    let t2 = refuse_if (ltb links k.links) 7 1 t3 in
-    let e1 = if_told (ltb nodes k.nodes) 7 0 t2 e in
-    let e2 = if_told (ltb links k.links) 7 1 t3 e1.1 in
-    let e3 = if_told (ltb junctions k.junctions) 7 2 t4 e2.1 in
-    let e4 = if_told (ltb heights k.heights) 7 3 t5 e3.1 in
-    let e5 = if_told (ltb refs k.refs) 7 4 Done e4.1 in
+    let t5 = refuse_if (ltb refs k.refs) (TooShort lent.Refs) (Ok tt) in
+    let t4 = refuse_if (ltb heights k.heights) (TooShort lent.Heightmap) t5 in
+    let t3 = refuse_if (ltb junctions k.junctions) (TooShort lent.Junctions) t4 in
+    let t2 = refuse_if (ltb links k.links) (TooShort lent.Links) t3 in
+    let e1 = if_told (ltb nodes k.nodes) (TooShort lent.Nodes) t2 tt e in
+    let e2 = if_told (ltb links k.links) (TooShort lent.Links) t3 tt e1.1 in
+    let e3 = if_told (ltb junctions k.junctions) (TooShort lent.Junctions) t4 tt e2.1 in
+    let e4 = if_told (ltb heights k.heights) (TooShort lent.Heightmap) t5 tt e3.1 in
+    let e5 = if_told (ltb refs k.refs) (TooShort lent.Refs) (Ok tt) tt e4.1 in
     record {
       nodes_fit = ltb-false nodes k.nodes e1.0;
       links_fit = ltb-false links k.links e2.0;
@@ -213,11 +181,11 @@ room k nodes links junctions heights refs e =
       refs_fit = ltb-false refs k.refs e5.0;
     }
 
-pub small : (s g : ℕ) → sizes_check s g ≡ Done → (s ≤ 16777216) × (g ≤ 16777216)
+pub small : (s g : ℕ) → sizes_check s g ≡ Ok tt → (s ≤ 16777216) × (g ≤ 16777216)
 unfolding sizes_check
 small s g e =
-    let e1 = if_told (ltb 16777216 s) 2 0 (refuse_if (ltb 16777216 g) 2 1 (refuse_if (too_few s) 1 0 Done)) e in
-    let e2 = if_told (ltb 16777216 g) 2 1 (refuse_if (too_few s) 1 0 Done) e1.1 in
+    let e1 = if_told (ltb 16777216 s) SystemTooLong (refuse_if (ltb 16777216 g) GraphicsTooLong (refuse_if (too_few s) SystemTooShort (Ok tt))) tt e in
+    let e2 = if_told (ltb 16777216 g) GraphicsTooLong (refuse_if (too_few s) SystemTooShort (Ok tt)) tt e1.1 in
     (ltb-false 16777216 s e1.0, ltb-false 16777216 g e2.0)
 
 -- a part is no longer than both sections

@@ -6,7 +6,6 @@ use mathlib.Core.Path.{◌≡◌, refl}
 use mathlib.Core.List.{List, [], map}
 use lib.ListN.{length}
 use borrow.Author.Tests.{le-ltb, lt-ltb}
-use Rattle.numbers.specs.declared.answer.Answer.TheVariants.{Done}
 use Rattle.records.specs.Put.{joined}
 use Rattle.records.specs.Layout.{gap_for, total}
 use Rattle.records.proofs.Laid.{section_length}
@@ -19,11 +18,13 @@ use Rattle.cells.specs.Read.{room_check, cell_read, filled, read_arrays, read_of
 use Rattle.cells.specs.Blocks.{laid, arrays, blocks, root_for, written}
 use Rattle.cells.specs.Write.{held}
 use Rattle.cells.specs.FileCell.{file_nodes, file_junctions, file_refs, cell_from, cell_by, file_cell}
+use Rattle.std.specs.Prelude.{Ok}
+use Rattle.numbers.specs.declared.refusal.Refusal.TheVariants.{GraphicsTooLong}
 
 module _ (g : List ℕ) (m : Memory) where
   pub undrawn_read : length g ≤ 16777216
       → read_of [] g m
-      ≡ record { answer = Done; memory = memory new_ynd m.nodes m.links m.junctions m.heights m.refs }
+      ≡ record { answer = (Ok tt); memory = memory new_ynd m.nodes m.links m.junctions m.heights m.refs }
   unfolding read_of sizes_check arrays_found located new_root new_ynd read_arrays arrays_check scan room_check filled cell_read
       up_to join_to sum_to bytes_of extent
   undrawn_read h =
@@ -37,7 +38,7 @@ module _ (g : List ℕ) (m : Memory) where
       )
 
   -- graphics over its limit is still 2
-  pub undrawn_refused : 16777216 < length g → read_of [] g m ≡ refuse 2 1 m
+  pub undrawn_refused : 16777216 < length g → read_of [] g m ≡ refuse GraphicsTooLong m
   unfolding read_of sizes_check
   undrawn_refused h = rw (lt-ltb 16777216 (length g) h)
 

@@ -12,8 +12,6 @@ use Rattle.cells.specs.Order.{keep, parted, Old, new_place, new_places}
 use Rattle.cells.specs.NodeWords.{area_of, number_of, is_ped, numbered, number_from, reordered, first_area, old_of, relinked}
 use Rattle.cells.specs.Renumber.{over, vehicles, peds, renumber_lists, recounted, new_lists, renumber_memory, answer_of, left_by, renumber}
 use Rattle.cells.specs.RenumberParts.{Room}
-use Rattle.numbers.specs.declared.answer.Answer.{Answer}
-use Rattle.numbers.specs.declared.answer.Answer.TheVariants.{Done, Refused}
 use lib.Dec.{ltb}
 use borrow.Author.Tests.{ltb-false}
 use Rattle.cells.proofs.Sequences.Tests.{by_test, map_take, map_drop, map_append, map_keep}
@@ -25,6 +23,10 @@ use Rattle.cells.specs.Cell.{Link, Node, is_ped_node, is_vehicle_node, first_of,
 use Rattle.cells.specs.Memory.{Memory, over_limit, short}
 use Rattle.cells.specs.CellOf.{link_of, ref_of, body_of, node_with, nodes_of, junctions_of, refs_of, cell_of}
 use Rattle.cells.specs.Words.{to_node}
+use Rattle.std.specs.Prelude.{Ok, Err}
+use Rattle.numbers.specs.Refusals.{Answer, unless}
+use Rattle.numbers.specs.declared.refusal.Refusal.{Refusal}
+use Rattle.numbers.proofs.Refusing.{not_refused}
 
 pub parted_length : (ns : List (List ℕ)) → length (parted is_ped ns) ≡ length ns
 parted_length ns = any.parted_length is_ped ns
@@ -35,18 +37,19 @@ number_length k [] = refl
 number_length k (w ∷ ws) = ap suc (number_length (suc k) ws)
 
 -- what an accepted call has room for
-pub accepted : (m : Memory) (scratch places : ℕ) → answer_of (over_limit m.ynd) m.ynd.node_count (short m) scratch places ≡ Done → Room m scratch places
+pub accepted : (m : Memory) (scratch places : ℕ) → answer_of (over_limit m.ynd) m.ynd.node_count (short m) scratch places ≡ (Ok tt) → Room m scratch places
 unfolding answer_of
 accepted m scratch places e =
-    by_test (over_limit m.ynd) (λ t. refused (rw t at e)) (λ f₀.
-    by_test (ltb (short m) 5) (λ t. refused (rw (f₀, t) at e)) (λ f₁.
-    by_test (ltb scratch 65536) (λ t. refused (rw (f₀, f₁, t) at e)) (λ f₄.
-    by_test (ltb places m.ynd.node_count) (λ t. refused (rw (f₀, f₁, f₄, t) at e)) (λ f₅.
-    let w = whole m (ltb-false _ _ f₁) in
+    by_test (over_limit m.ynd) (λ t. not_refused (rw t at e)) (λ f₀.
+    lists _ (short m) refl (rw f₀ at e) (λ f₁.
+    by_test (ltb scratch 65536) (λ t. not_refused (rw (f₀, f₁, t) at e)) (λ f₄.
+    by_test (ltb places m.ynd.node_count) (λ t. not_refused (rw (f₀, f₁, f₄, t) at e)) (λ f₅.
+    let w = whole m f₁ in
     record { few = (within m.ynd f₀).0; nodes_fit = w.nodes_fit; links_fit = w.links_fit; refs_fit = w.refs_fit; scratch_fits = ltb-false _ _ f₄; places_fit = ltb-false _ _ f₅ }))))
   where
-    refused : {P : Type 0} {a b : ℕ} → Refused a b ≡ Done → P
-    refused d = let z : ◌≡◌ {A = ℕ} 0 1 = cc in absurd (omega arith)
+    lists : {P : Type 0} (next lack : Answer) → short m ≡ lack → unless (short m) next ≡ Ok tt → (short m ≡ Ok tt → P) → P
+    lists next (Ok _) q d k = k q
+    lists next (Err r) q d k = not_refused (rw q at d)
 
 -- what is read of each entry after a change of each
 map_map : {A B C D : Type 0} (f : A → B) (g : C → A) (h : C → D) (k : D → B) → ((x : C) → f (g x) ≡ k (h x)) → (l : List C) → map f (map g l) ≡ map k (map h l)
@@ -173,37 +176,37 @@ abbrev pub answer_for : Memory → List ℕ → ℕ → Answer
 answer_for m ps s = answer_of (over_limit m.ynd) m.ynd.node_count (short m) s (length ps)
 
 -- a call that is done renumbers the cell, and one that is refused leaves the memory as it was
-pub done_call : (m : Memory) (ps : List ℕ) (s : ℕ) → (renumber m s ps).answer ≡ Done → cell_of (renumber m s ps).memory ≡ renumber_cell (cell_of m)
+pub done_call : (m : Memory) (ps : List ℕ) (s : ℕ) → (renumber m s ps).answer ≡ (Ok tt) → cell_of (renumber m s ps).memory ≡ renumber_cell (cell_of m)
 unfolding renumber
 done_call m ps s e = go (answer_for m ps s) refl e
   where
-    go : (a : Answer) → answer_for m ps s ≡ a → (left_by a m ps).answer ≡ Done → cell_of (left_by a m ps).memory ≡ renumber_cell (cell_of m)
-    go Done d t = renumber_memory_law m ps (accepted m s (length ps) d)
-    go (Refused x p) d t = let z : ◌≡◌ {A = ℕ} 0 1 = cc in absurd (omega arith)
+    go : (a : Answer) → answer_for m ps s ≡ a → (left_by a m ps).answer ≡ (Ok tt) → cell_of (left_by a m ps).memory ≡ renumber_cell (cell_of m)
+    go (Ok tt) d t = renumber_memory_law m ps (accepted m s (length ps) d)
+    go (Err x) d t = let z : ◌≡◌ {A = ℕ} 0 1 = cc in absurd (omega arith)
 
-pub refused_call : (m : Memory) (ps : List ℕ) (s x p : ℕ) → (renumber m s ps).answer ≡ Refused x p → (renumber m s ps).memory ≡ m
+pub refused_call : (m : Memory) (ps : List ℕ) (s : ℕ) (x : Refusal) → (renumber m s ps).answer ≡ Err x → (renumber m s ps).memory ≡ m
 unfolding renumber
-refused_call m ps s x p e = go (answer_for m ps s) e
+refused_call m ps s x e = go (answer_for m ps s) e
   where
-    go : (a : Answer) → (left_by a m ps).answer ≡ Refused x p → (left_by a m ps).memory ≡ m
-    go Done t = let z : ◌≡◌ {A = ℕ} 0 1 = cc in absurd (omega arith)
-    go (Refused y q) t = refl
+    go : (a : Answer) → (left_by a m ps).answer ≡ Err x → (left_by a m ps).memory ≡ m
+    go (Ok tt) t = let z : ◌≡◌ {A = ℕ} 0 1 = cc in absurd (omega arith)
+    go (Err y) t = refl
 
 -- an accepted renumbering is of at most 65,536 nodes
-pub done_few : (m : Memory) (ps : List ℕ) (s : ℕ) → (renumber m s ps).answer ≡ Done → length (cell_of m).nodes ≤ 65536
+pub done_few : (m : Memory) (ps : List ℕ) (s : ℕ) → (renumber m s ps).answer ≡ (Ok tt) → length (cell_of m).nodes ≤ 65536
 unfolding renumber cell_of nodes_of
 done_few m ps s e = go (answer_for m ps s) refl e
   where
-    go : (a : Answer) → answer_for m ps s ≡ a → (left_by a m ps).answer ≡ Done → length (map (node_with (map link_of (take m.ynd.link_count m.links))) (take m.ynd.node_count m.nodes)) ≤ 65536
-    go Done d t =
+    go : (a : Answer) → answer_for m ps s ≡ a → (left_by a m ps).answer ≡ (Ok tt) → length (map (node_with (map link_of (take m.ynd.link_count m.links))) (take m.ynd.node_count m.nodes)) ≤ 65536
+    go (Ok tt) d t =
         let r = accepted m s (length ps) d in
         omega (arith, length-map (take m.ynd.node_count m.nodes) (node_with (map link_of (take m.ynd.link_count m.links))), length-take-le m.ynd.node_count m.nodes r.nodes_fit, r.few)
-    go (Refused x p) d t = let z : ◌≡◌ {A = ℕ} 0 1 = cc in absurd (omega arith)
+    go (Err x) d t = let z : ◌≡◌ {A = ℕ} 0 1 = cc in absurd (omega arith)
 
 -- ---- the lent list of new places
 
 -- an accepted call fills it with where each node goes, as lists of calls move it
-pub places_tell : (m : Memory) (ps : List ℕ) (s : ℕ) → (renumber m s ps).answer ≡ Done → (p : ℕ) → p < length (cell_of m).nodes
+pub places_tell : (m : Memory) (ps : List ℕ) (s : ℕ) → (renumber m s ps).answer ≡ (Ok tt) → (p : ℕ) → p < length (cell_of m).nodes
     → get_or (renumber m s ps).places p 0 ≡ new_place (ped_flags (cell_of m).nodes) p
 unfolding renumber new_lists renumber_lists cell_of nodes_of old_of
 places_tell m ps s e p lt = go (answer_for m ps s) refl e
@@ -214,9 +217,9 @@ places_tell m ps s e p lt = go (answer_for m ps s) refl e
     flags : List Bool
     flags = map is_ped (take n m.nodes)
 
-    go : (a : Answer) → answer_for m ps s ≡ a → (left_by a m ps).answer ≡ Done → get_or (left_by a m ps).places p 0 ≡ new_place (ped_flags (cell_of m).nodes) p
-    go (Refused x y) d t = let z : ◌≡◌ {A = ℕ} 0 1 = cc in absurd (omega arith)
-    go Done d t =
+    go : (a : Answer) → answer_for m ps s ≡ a → (left_by a m ps).answer ≡ (Ok tt) → get_or (left_by a m ps).places p 0 ≡ new_place (ped_flags (cell_of m).nodes) p
+    go (Err x) d t = let z : ◌≡◌ {A = ℕ} 0 1 = cc in absurd (omega arith)
+    go (Ok tt) d t =
         let same : flags ≡ ped_flags (nodes_of m) = ap (λ (o : Old). o.peds) (old_same (map link_of (take m.ynd.link_count m.links)) n m.nodes) in
         let long : length (ped_flags (nodes_of m)) ≡ length (nodes_of m) = length-map (nodes_of m) is_ped_node in
         let inside : p < length flags = omega (arith, ap length same, long, lt) in

@@ -2,50 +2,64 @@
 -- Assumes nothing.
 use Prim.Native.Nat.{ℕ, ◌<◌}
 use native.Mathlib.Omega.{arith}
-use mathlib.Core.Path.{◌≡◌, ap, sym, ◌∙◌}
+use mathlib.Core.Path.{◌≡◌, refl, ap, sym, ◌∙◌}
 use mathlib.Core.Bool.{true, false}
-use mathlib.Core.List.{List, [], map}
+use mathlib.Core.List.{List, [], ◌∷◌, map}
 use mathlib.Core.Option.{Option}
-use lib.ListN.{length, get_or, take, length-map, get_or-map}
-use lib.Seq.{length-take-le, get_or-take}
+use lib.ListN.{length, get_or, take, length-map}
+use lib.Seq.{take_all}
 use Rattle.cells.specs.Area.{belongs}
-use Rattle.cells.specs.Order.{new_number, place_or, renamed}
+use Rattle.cells.specs.Order.{new_number, new_place, place_or, renamed}
 use Rattle.cells.specs.NodeWords.{number_of, is_ped, first_area, old_of}
 use Rattle.cells.specs.RenumberParts.{Ready}
 use Rattle.cells.proofs.Renumbering.Placed.{new_at}
+use Rattle.cells.proofs.Renumbering.Parted.{places_length, places_at}
+use Rattle.cells.proofs.Sequences.Filled.{mapped_at}
 use Rattle.cells.proofs.Renumbering.Named.{named, unnamed}
 
-number_in : (n : ℕ) (nodes : List (List ℕ)) (t : ℕ) → t < n → get_or (map number_of (take n nodes)) t 0 ≡ number_of (get_or nodes t [])
-unfolding number_of
-number_in n nodes t lt = get_or-map number_of (take n nodes) t [] ∙ ap number_of (get_or-take n nodes t [] lt)
+all : (nodes : List (List ℕ)) → take (length nodes) nodes ≡ nodes
+all nodes = take_all (length nodes) nodes (omega arith)
 
-module _ (n : ℕ) (nodes : List (List ℕ)) (scratch places : List ℕ) (r : Ready n nodes scratch places) where
-  pub place_below : (t : ℕ) → t < n → get_or places t 0 < n
-  place_below t lt =
-      let long : length (take n nodes) ≡ n = length-take-le n nodes r.nodes_fit in
-      omega (arith, r.placed t lt, (new_at (take n nodes) t (omega arith)).0)
+module _ (nodes : List (List ℕ)) (scratch places : List ℕ) (r : Ready nodes scratch places) where
+  long : length (map is_ped nodes) ≡ length nodes
+  long = length-map nodes is_ped
+
+  place_at : (t : ℕ) → t < length nodes → get_or places t 0 ≡ new_place (map is_ped nodes) t
+  place_at t lt = rw r.placed (places_at (map is_ped nodes) t (omega (arith, long)))
+
+  pub places_long : length places ≡ length nodes
+  places_long = rw r.placed (places_length (map is_ped nodes) ∙ long)
+
+  pub place_below : (t : ℕ) → t < length nodes → get_or places t 0 < length nodes
+  place_below t lt = omega (arith, place_at t lt, (new_at nodes t lt).0)
 
   module _ (k t : ℕ) (is-t : get_or scratch k 0 ≡ t) where
-    long : length (map number_of (take n nodes)) ≡ n
-    long = length-map (take n nodes) number_of ∙ length-take-le n nodes r.nodes_fit
-
-    pub looked_up : t < n → number_of (get_or nodes t []) ≡ k → get_or places t 0 ≡ new_number (old_of n nodes) k
+    pub looked_up : t < length nodes → number_of (get_or nodes t []) ≡ k → get_or places t 0 ≡ new_number (old_of (length nodes) nodes) k
     unfolding new_number old_of
     looked_up lt e =
-        r.placed t lt
-        ∙ sym (ap (λ (o : Option ℕ). place_or (map is_ped (take n nodes)) o k) (named (map number_of (take n nodes)) scratch r.indexed k t is-t (omega (arith, long)) (number_in n nodes t lt ∙ e)))
+        place_at t lt
+        ∙ rw (all nodes) (sym (ap (λ (o : Option ℕ). place_or (map is_ped nodes) o k) (named (map number_of nodes) scratch r.indexed k t is-t (omega (arith, length-map nodes number_of)) (mapped_at number_of nodes t [] 0 lt ∙ e))))
 
-    pub left_alone : (t < n → number_of (get_or nodes t []) ≡ k → ⊥) → k ≡ new_number (old_of n nodes) k
+    pub left_alone : (t < length nodes → number_of (get_or nodes t []) ≡ k → ⊥) → k ≡ new_number (old_of (length nodes) nodes) k
     unfolding new_number old_of
     left_alone nowhere =
-        sym (ap (λ (o : Option ℕ). place_or (map is_ped (take n nodes)) o k) (unnamed (map number_of (take n nodes)) scratch r.indexed k t is-t
-        (λ lt e. let below : t < n = omega (arith, long) in nowhere below (sym (number_in n nodes t below) ∙ e))))
+        rw (all nodes) (sym (ap (λ (o : Option ℕ). place_or (map is_ped nodes) o k) (unnamed (map number_of nodes) scratch r.indexed k t is-t
+        (λ lt e. let below : t < length nodes = omega (arith, length-map nodes number_of) in nowhere below (sym (mapped_at number_of nodes t [] 0 below) ∙ e)))))
 
 -- a link or a ref, by whether it belongs to the cell
-pub relinked_own : (n : ℕ) (nodes : List (List ℕ)) (own x k : ℕ) → own ≡ first_area (take n nodes) → belongs own x ≡ true → renamed (old_of n nodes) x k ≡ new_number (old_of n nodes) k
+pub relinked_own : (nodes : List (List ℕ)) (own x k : ℕ) → own ≡ first_area nodes → belongs own x ≡ true → renamed (old_of (length nodes) nodes) x k ≡ new_number (old_of (length nodes) nodes) k
 unfolding renamed old_of
-relinked_own n nodes own x k e t = rw (← e, t)
+relinked_own nodes own x k e t = rw (all nodes, ← e, t)
 
-pub relinked_other : (n : ℕ) (nodes : List (List ℕ)) (own x k : ℕ) → own ≡ first_area (take n nodes) → belongs own x ≡ false → renamed (old_of n nodes) x k ≡ k
+pub relinked_other : (nodes : List (List ℕ)) (own x k : ℕ) → own ≡ first_area nodes → belongs own x ≡ false → renamed (old_of (length nodes) nodes) x k ≡ k
 unfolding renamed old_of
-relinked_other n nodes own x k e t = rw (← e, t)
+relinked_other nodes own x k e t = rw (all nodes, ← e, t)
+
+-- a link or a ref has four words
+pub four : (w : List ℕ) → length w ≡ 4 → w ≡ get_or w 0 0 ∷ get_or w 1 0 ∷ get_or w 2 0 ∷ get_or w 3 0 ∷ []
+four [] e = absurd (omega arith)
+four (a ∷ []) e = absurd (omega arith)
+four (a ∷ b ∷ []) e = absurd (omega arith)
+four (a ∷ b ∷ c ∷ []) e = absurd (omega arith)
+four (a ∷ b ∷ c ∷ d ∷ []) e = refl
+four (a ∷ b ∷ c ∷ d ∷ x ∷ xs) e = absurd (omega arith)

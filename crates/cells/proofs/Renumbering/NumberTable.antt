@@ -9,10 +9,8 @@ use mathlib.Core.List.{List, [], ◌∷◌, ◌++◌, map}
 use mathlib.Core.Option.{Option, none, some}
 use lib.Dec.{eqb}
 use lib.ListN.{length, get_or, set, take, drop, length-map, get_or-append}
-use lib.Seq.{take-suc, length-take-le, get_or-set_same, get_or-set_other, get_or-take, ext_get_or}
-use Rattle.std.proofs.lemmas.List.{take-append-drop}
+use lib.Seq.{take_all, take-suc, length-take-le, get_or-set_same, get_or-set_other, ext_get_or}
 use borrow.Author.Tests.{eqb-true, eqb-false, le-ltb}
-use Rattle.numbers.specs.declared.answer.Answer.TheVariants.{Done}
 use Rattle.cells.specs.Order.{Old, last_with, place_or, new_place, new_number, new_places, listed}
 use Rattle.cells.specs.NodeWords.{number_of, is_ped, old_of}
 use Rattle.cells.specs.NewNumbers.{new_numbers, numbers_left, numbers_call, numbers_causes}
@@ -20,6 +18,12 @@ use Rattle.cells.proofs.Sequences.Tests.{by_test}
 use Rattle.cells.proofs.Sequences.Ranks.{listed_length, listed_at}
 use Rattle.cells.proofs.Renumbering.Named.{pick, last_snoc, map_snoc, last_inside}
 use Rattle.cells.proofs.Renumbering.Placed.{new_at}
+use Rattle.std.specs.Prelude.{Ok}
+
+-- the first n nodes, as a list of their own
+pub old_front : (n : ℕ) (nodes : List (List ℕ)) → old_of (length (take n nodes)) (take n nodes) ≡ old_of n nodes
+unfolding old_of
+old_front n nodes = rw (take_all (length (take n nodes)) (take n nodes) (omega arith))
 
 -- the new number by the first i nodes, of all of which these are the ped flags
 abbrev pub so_far : List Bool → List (List ℕ) → ℕ → ℕ → ℕ
@@ -57,39 +61,30 @@ table_turn peds nodes i x q t lt e hx is h k hk =
     ∙ sym (ap (λ (o : Option ℕ). place_or peds o k) found))
 
 -- all nodes
-pub table_done : (n i : ℕ) (nodes : List (List ℕ)) → i ≡ n → (k : ℕ)
-    → so_far (map is_ped (take n nodes)) nodes i k ≡ new_number (old_of n nodes) k
+pub table_all : (nodes : List (List ℕ)) (i : ℕ) → i ≡ length nodes → (k : ℕ)
+    → so_far (map is_ped nodes) nodes i k ≡ new_number (old_of (length nodes) nodes) k
 unfolding new_number old_of
-table_done n i nodes e k = ap (λ (m : ℕ). so_far (map is_ped (take n nodes)) nodes m k) e
+table_all nodes i e k =
+    ap (λ (m : ℕ). so_far (map is_ped nodes) nodes m k) e
+    ∙ ap (λ (l : List (List ℕ)). place_or (map is_ped l) (last_with (map number_of (take (length nodes) nodes)) k) k) (sym (take_all (length nodes) nodes (omega arith)))
 
--- a list whose first n elements are told is those, and what is behind them
-pub front_told : (f : ℕ → ℕ) (n : ℕ) (l : List ℕ) → n ≤ length l → ((k : ℕ) → k < n → get_or l k 0 ≡ f k)
-    → l ≡ listed f 0 n ++ drop n l
-front_told f n l h told =
-    let long : length (take n l) ≡ n = length-take-le n l h in
-    let front : take n l ≡ listed f 0 n =
-    ext_get_or 0 (take n l) (listed f 0 n) (long ∙ sym (listed_length f 0 n))
-    (λ k lt. let hk : k < n = omega arith in
-    get_or-take n l k 0 hk ∙ told k hk ∙ sym (listed_at f 0 n k 0 hk ∙ ap f (zero-add k))) in
-    sym (ap (λ (t : List ℕ). t ++ drop n l) (sym front) ∙ take-append-drop n l)
-
-pub table_filled : (o : Old) (t t₀ : List ℕ) → 65536 ≤ length t
-    → ((k : ℕ) → k < 65536 → get_or t k 0 ≡ new_number o k)
-    → drop 65536 t ≡ drop 65536 t₀ → t ≡ new_numbers o ++ drop 65536 t₀
-unfolding new_numbers
-table_filled o t t₀ h told e =
-    front_told (new_number o) 65536 t h told ∙ ap (λ (r : List ℕ). listed (new_number o) 0 65536 ++ r) e
+-- a list whose elements are told
+told_all : (f : ℕ → ℕ) (n : ℕ) (l : List ℕ) → length l ≡ n → ((k : ℕ) → k < n → get_or l k 0 ≡ f k) → l ≡ listed f 0 n
+told_all f n l h told =
+    ext_get_or 0 l (listed f 0 n) (h ∙ sym (listed_length f 0 n))
+    (λ k lt. let hk : k < n = omega arith in told k hk ∙ sym (listed_at f 0 n k 0 hk ∙ ap f (zero-add k)))
 
 -- an accepted call
 pub call_done : (n : ℕ) (nodes : List (List ℕ)) (table places t p : List ℕ)
     → n ≤ 65536 → n ≤ length nodes → 65536 ≤ length table → n ≤ length places
-    → t ≡ new_numbers (old_of n nodes) ++ drop 65536 table
-    → p ≡ new_places (map is_ped (take n nodes)) ++ drop n places
-    → numbers_left Done t p ≡ numbers_call n nodes table places
-unfolding numbers_call numbers_causes
-call_done n nodes table places t p few h₀ h₆ h₇ et ep =
-    rw (le-ltb 65536 n few, le-ltb (length nodes) n h₀, le-ltb (length table) 65536 h₆, le-ltb (length places) n h₇)
-    (λ i. numbers_left Done (et i) (ep i))
+    → length t ≡ 65536 → ((k : ℕ) → k < 65536 → get_or t k 0 ≡ new_number (old_of (length (take n nodes)) (take n nodes)) k)
+    → p ≡ new_places (map is_ped (take n nodes))
+    → numbers_left (Ok tt) (t ++ drop 65536 table) (p ++ drop n places) ≡ numbers_call n nodes table places
+unfolding numbers_call numbers_causes new_numbers
+call_done n nodes table places t p few h₀ h₆ h₇ long told ep =
+    let et = told_all (new_number (old_of (length (take n nodes)) (take n nodes))) 65536 t long told in
+    rw (le-ltb 65536 n few, le-ltb (length nodes) n h₀, le-ltb (length table) 65536 h₆, le-ltb (length places) n h₇, ← old_front n nodes)
+    (λ i. numbers_left (Ok tt) (et i ++ drop 65536 table) (ep i ++ drop n places))
 
 pub table_long : (o : Old) → length (new_numbers o) ≡ 65536
 unfolding new_numbers

@@ -5,12 +5,12 @@ use native.Mathlib.Omega.{arith}
 use mathlib.Core.Path.{◌≡◌, refl, ap, sym, ◌∙◌}
 use mathlib.Core.Bool.{true, false, not, cond}
 use mathlib.Core.List.{List, [], ◌++◌, map}
-use lib.ListN.{length, get_or, set, take, drop, length-map, get_or-append}
+use lib.ListN.{length, get_or, set, take, drop, length-map}
 use lib.Seq.{length-take-le}
 use Rattle.cells.specs.Order.{keep, rank, parted, new_place, new_places}
 use Rattle.cells.specs.NodeWords.{is_ped, is_vehicle}
 use Rattle.cells.specs.Renumber.{vehicles, peds}
-use Rattle.cells.proofs.Sequences.Filled.{fill_turn}
+use Rattle.cells.proofs.Sequences.Filled.{fill_turn, fill_all}
 use Rattle.cells.proofs.Sequences.Tests.{keep_lengths}
 use Rattle.cells.proofs.Sequences.Ranks.{rank_zero, rank_yes, rank_no}
 use Rattle.cells.proofs.Renumbering.Parted.{places_length, places_at}
@@ -64,18 +64,15 @@ module _ (ns : List (List ℕ)) (places₀ places : List ℕ) (i v p : ℕ) (hi 
 pub placed : {ns : List (List ℕ)} {places₀ places places' : List ℕ} {i v v' p p' : ℕ} → places' ≡ places → v' ≡ v → p' ≡ p → Placing ns places₀ places i v p → Placing ns places₀ places' i v' p'
 placed a b c g = rw (a, b, c) g
 
--- the places filled in
-pub filled_at : (n : ℕ) (nodes : List (List ℕ)) (places places₁ : List ℕ) → n ≤ length nodes → places₁ ≡ new_places (map is_ped (take n nodes)) ++ drop n places
-    → (p : ℕ) → p < n → get_or places₁ p 0 ≡ new_place (map is_ped (take n nodes)) p
-filled_at n nodes places places₁ hn e p lt =
-    let ps = map is_ped (take n nodes) in
-    let long : length ps ≡ n = length-map (take n nodes) is_ped ∙ length-take-le n nodes hn in
-    ap (λ (x : List ℕ). get_or x p 0) e ∙ get_or-append (new_places ps) (drop n places) 0 p (omega (arith, places_length ps)) ∙ places_at ps p (omega arith)
+-- all filled in
+pub all_placed : (ns : List (List ℕ)) (places₀ places : List ℕ) (i v p : ℕ) → i ≡ length ns → length places₀ ≡ length ns → Placing ns places₀ places i v p
+    → places ≡ new_places (map is_ped ns)
+all_placed ns places₀ places i v p e h g =
+    g.filled ∙ fill_all places₀ (new_places (map is_ped ns)) i (places_length (map is_ped ns) ∙ length-map ns is_ped ∙ sym h) (e ∙ sym h)
 
 -- those that are no ped nodes are no more than all
-pub vehicles_few : (n : ℕ) (nodes : List (List ℕ)) → n ≤ length nodes → vehicles n nodes ≤ n
-unfolding vehicles
-vehicles_few n nodes h = omega (arith, keep_lengths is_ped is_vehicle (λ x. refl) (take n nodes), length-take-le n nodes h)
+pub vehicles_all : (nodes : List (List ℕ)) → length (keep is_vehicle nodes) ≤ length nodes
+vehicles_all nodes = omega (arith, keep_lengths is_ped is_vehicle (λ x. refl) nodes)
 
 -- the ped nodes are the others
 pub peds_are : (n : ℕ) (nodes : List (List ℕ)) → n ≤ length nodes → n - vehicles n nodes ≡ peds n nodes

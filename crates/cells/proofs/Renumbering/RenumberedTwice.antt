@@ -15,12 +15,12 @@ use Rattle.cells.specs.Cell.{Link, Node, Ref, Cell, node_at, no_node, is_ped_nod
 use Rattle.cells.specs.Memory.{Memory}
 use Rattle.cells.specs.CellOf.{cell_of}
 use Rattle.cells.specs.Renumber.{renumber}
-use Rattle.numbers.specs.declared.answer.Answer.TheVariants.{Done}
 use Rattle.cells.proofs.Sequences.Tests.{map_keep}
 use Rattle.cells.proofs.Renumbering.PartedTwice.{others_again, passing_again, new_again, parted_same}
 use Rattle.cells.proofs.Renumbering.Named.{last_inside}
 use Rattle.cells.proofs.Renumbering.CellRenumbered.{done_call}
 use Rattle.cells.proofs.Renumbering.NewCell.{none_ped, number_is, number_length, number_at, new_length, new_number_law}
+use Rattle.std.specs.Prelude.{Ok}
 
 map_same : {A : Type 0} (f : A → A) → ((x : A) → f x ≡ x) → (l : List A) → map f l ≡ l
 map_same f e [] = refl
@@ -102,7 +102,7 @@ module _ (c : Cell) where
   }
 
 -- a second call that is done leaves the cell as the first one left it
-pub call_again : (m : Memory) (ps qs : List ℕ) (s t : ℕ) → (renumber m s ps).answer ≡ Done → (renumber (renumber m s ps).memory t qs).answer ≡ Done
+pub call_again : (m : Memory) (ps qs : List ℕ) (s t : ℕ) → (renumber m s ps).answer ≡ (Ok tt) → (renumber (renumber m s ps).memory t qs).answer ≡ (Ok tt)
     → cell_of (renumber (renumber m s ps).memory t qs).memory ≡ cell_of (renumber m s ps).memory
 call_again m ps qs s t d e =
     let first = done_call m ps s d in

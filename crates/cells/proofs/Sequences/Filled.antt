@@ -4,8 +4,9 @@ use Prim.Native.Nat.{ℕ, zero, suc, ◌+◌, ◌≤◌, ◌<◌}
 use native.Mathlib.Omega.{arith}
 use native.Mathlib.Numerals.{add-one}
 use mathlib.Core.Path.{◌≡◌, refl, ap, sym, ◌∙◌}
-use mathlib.Core.List.{List, [], ◌∷◌, ◌++◌, map}
+use mathlib.Core.List.{List, [], ◌∷◌, ◌++◌, map, append-nil}
 use lib.ListN.{length, get_or, set, take, drop}
+use Rattle.std.proofs.lemmas.List.{drop_all}
 use lib.Seq.{drop-cons, set_at, append_snoc, take-suc, length-take-le, take_all, get_or_at}
 
 module _ {A : Type 0} (l D : List A) (i : ℕ) where
@@ -21,6 +22,10 @@ module _ {A : Type 0} (l D : List A) (i : ℕ) where
 
   pub fill_end : length D ≡ i → take i D ++ drop i l ≡ D ++ drop i l
   fill_end e = ap (λ (x : List A). x ++ drop i l) (take_all i D (omega arith))
+
+-- all stored
+pub fill_all : {A : Type 0} (l D : List A) (i : ℕ) → length D ≡ length l → i ≡ length l → take i D ++ drop i l ≡ D
+fill_all l D i e h = rw (take_all i D (omega arith), drop_all i l (omega arith), append-nil)
 
 pub mapped_at : {A B : Type 0} (f : A → B) (l : List A) (i : ℕ) (d : A) (e : B) → i < length l → get_or (map f l) i e ≡ f (get_or l i d)
 mapped_at f [] i d e lt = absurd (omega arith)

@@ -3,13 +3,15 @@
 use Prim.Native.Nat.{ℕ, zero, suc, ◌+◌, ◌≤◌, ◌<◌}
 use mathlib.Core.Path.{◌≡◌, refl, sym, ap, ◌∙◌}
 use mathlib.Core.Bool.{Bool, true, false, cond}
-use mathlib.Core.List.{List, [], ◌++◌}
+use mathlib.Core.List.{List, [], ◌∷◌, ◌++◌, append-nil}
 use native.Mathlib.Numerals.{lt_of_le_of_ne}
 use native.Mathlib.Omega.{arith}
 use lib.Dec.{eqb}
 use lib.ListN.{length, get_or, set, take, drop, length-set, take-append-drop}
 use lib.Seq.{get_or-set_same, get_or-set_other, get_or-take, drop-set-lt, ext_get_or, length-take-le}
 use borrow.Author.Tests.{eqb-true, eqb-false, eq-eqb, ne_eqb}
+use Rattle.std.specs.List.{swap}
+use Rattle.std.proofs.lemmas.List.{drop_all}
 use Rattle.cells.specs.Moves.{Places, swapped}
 
 -- a is b, or it is not
@@ -191,3 +193,20 @@ arrived n nodes₀ to₀ nodes to hn m f long e =
 
 pub carried : {n i : ℕ} {nodes₀ : List (List ℕ)} {to₀ : List ℕ} {nodes nodes' : List (List ℕ)} {to to' : List ℕ} → nodes' ≡ nodes → to' ≡ to → Moving n i nodes₀ to₀ nodes to → Moving n i nodes₀ to₀ nodes' to'
 carried p q m = rw (p, q) m
+
+-- std's `swap`
+pub swap_is : {A : Type 0} (d : A) (l : List A) (i j : ℕ) → i < length l → j < length l → swap l i j ≡ swapped d l i j
+swap_is d [] i j hi hj = absurd (omega arith)
+swap_is d (x ∷ xs) i j hi hj = rw (get_or-default (x ∷ xs) i x d hi, get_or-default (x ∷ xs) j x d hj)
+  where
+    get_or-default : {A : Type 0} (l : List A) (i : ℕ) (a b : A) → i < length l → get_or l i a ≡ get_or l i b
+    get_or-default [] i a b h = absurd (omega arith)
+    get_or-default (x ∷ xs) zero a b h = refl
+    get_or-default (x ∷ xs) (suc i) a b h = get_or-default xs i a b (omega arith)
+
+-- the same where all move
+pub all_arrived : (nodes₀ : List (List ℕ)) (to₀ : List ℕ) (nodes : List (List ℕ)) (to : List ℕ) (n i : ℕ) → i ≡ n → n ≡ length nodes → n ≡ length nodes₀
+    → Moving n i nodes₀ to₀ nodes to → (f : List (List ℕ)) → length f ≡ n → Leads n f to₀ nodes₀ → nodes ≡ f
+all_arrived nodes₀ to₀ nodes to n i e h h₀ m f long leads =
+    let here : Moving n n nodes₀ to₀ nodes to = rw e at m in
+    arrived n nodes₀ to₀ nodes to (omega arith) here f long leads ∙ ap (λ (x : List (List ℕ)). f ++ x) (drop_all n nodes₀ (omega arith)) ∙ append-nil f

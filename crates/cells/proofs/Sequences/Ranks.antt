@@ -8,7 +8,7 @@ use mathlib.Core.Path.{◌≡◌, refl, ap, ◌∙◌}
 use mathlib.Core.Bool.{Bool, true, false}
 use mathlib.Core.List.{List, [], ◌∷◌}
 use lib.ListN.{length, get_or}
-use Rattle.cells.specs.Order.{keep, rank, put_if, one_if, listed}
+use Rattle.cells.specs.Order.{rank, one_if, listed}
 
 module _ {A : Type 0} where
   pub rank_zero : (f : A → Bool) (l : List A) → rank f l 0 ≡ 0
@@ -30,16 +30,6 @@ module _ {A : Type 0} where
           swap : (t : Bool) (n : ℕ) → suc (one_if t n) ≡ one_if t (suc n)
           swap true n = refl
           swap false n = refl
-
-  -- before the end stand all
-  pub rank_all : (f : A → Bool) (l : List A) → rank f l (length l) ≡ length (keep f l)
-  unfolding rank keep
-  rank_all f [] = refl
-  rank_all f (x ∷ xs) = go (f x) (rank_all f xs)
-    where
-      go : (b : Bool) → rank f xs (length xs) ≡ length (keep f xs) → one_if b (rank f xs (length xs)) ≡ length (put_if b x (keep f xs))
-      go true ih = ap suc ih
-      go false ih = ih
 
   rank_grows : (f : A → Bool) (l : List A) (p q : ℕ) → p ≤ q → rank f l p ≤ rank f l q
   unfolding rank

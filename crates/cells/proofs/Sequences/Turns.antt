@@ -3,15 +3,21 @@ use Prim.Native.Nat.{ℕ, zero, suc, ◌+◌, ◌≤◌, ◌<◌}
 use native.Mathlib.Omega.{arith}
 use native.Mathlib.Numerals.{add-one}
 use mathlib.Core.Path.{◌≡◌, sym, ap, ◌∙◌}
-use mathlib.Core.List.{List, [], ◌∷◌, ◌++◌}
+use mathlib.Core.List.{List, [], ◌∷◌, ◌++◌, append_assoc}
 use lib.ListN.{length, get_or, take, drop, length-append, drop_of_length-le}
-use Rattle.records.specs.Put.{put, put_in, joined}
-use Rattle.records.proofs.Puts.{put_fits, turn, ended, split, joined_split}
+use lib.Seq.{drop-drop}
+use borrow.Rule.Slice.PartMut.{put_mid}
+use Rattle.records.specs.Put.{put, joined}
+use Rattle.records.proofs.Puts.{turn, ended, split, joined_split}
 use Rattle.cells.specs.Blocks.{laid}
 
--- bytes that end inside are put
-pub put_inside : {A : Type 0} (l l' x b : List A) (at : ℕ) → l' ≡ put_in l at b → b ≡ x → at + length x ≤ length l → l' ≡ put l at x
-put_inside l l' x b at e f room = e ∙ ap (put_in l at) f ∙ put_fits l at x room
+-- a part of a slice that was written over, as long as what is there now
+pub part_put : {A : Type 0} (l x b : List A) (at k : ℕ) → x ≡ b → k ≡ length b → put_mid at k l x ≡ put l at b
+unfolding put
+part_put {A = A} l x b at k e f =
+    (λ i. take at l ++ (e i ++ drop (f i) (drop at l)))
+    ∙ ap (λ (z : List A). take at l ++ (b ++ z)) (drop-drop (length b) at l)
+    ∙ sym (append_assoc (take at l) b (drop (at + length b) l))
 
 -- the length of what is left: one entry, and what is behind it
 pub joined_room : {A B : Type 0} (f : A → List B) (xs : List A) (i : ℕ) (z : A) → i < length xs

@@ -11,7 +11,6 @@ use Rattle.records.specs.Bytes.{number_at, number_bytes, bits16}
 use Rattle.records.specs.Records.{node_at, node_bytes, junction_at}
 use Rattle.records.specs.Root.{root_of, unknowns_of}
 use Rattle.records.specs.Sections.{located, extent, bytes_of}
-use Rattle.numbers.specs.declared.answer.Answer.TheVariants as answer
 use Rattle.cells.specs.Lists.{up_to, join_to, sum_to}
 use Rattle.cells.specs.NewYnd.{new_ynd, new_root}
 use Rattle.cells.specs.Checks.{sizes_check, arrays_found, scan, arrays_check}
@@ -29,8 +28,8 @@ use Rattle.cells.specs.Edit.{held_in}
 use Rattle.cells.specs.AddLink.{add_link, room_for_link, behind, inserted}
 use Rattle.cells.specs.Renumber.{Renumbered, renumber}
 use Rattle.cells.proofs.Worked.Pairs.{three, renumber_pair}
-use Rattle.cells.specs.declared.count.Counted.TheVariants as counted
-use Rattle.cells.specs.declared.count.Total.TheVariants as total
+use Rattle.std.specs.Prelude.{Ok, Err}
+use Rattle.numbers.specs.declared.refusal.Refusal.TheVariants.{SystemTooShort, LinksOutside, LinksStartTooHigh}
 
 -- a node of the file whose links start at 1, with no links; a junction whose values start at 1, with no values
 abbrev late_node : List ℕ
@@ -40,28 +39,28 @@ abbrev late_junction : List ℕ
 late_junction = replicate 8 0 ++ 1 ∷ replicate 3 0
 
 -- the start counts even with no links
-pub start_with_no_links : arrays_check late_node [] [] [] [] ≡ counted.Refused 4 0
+pub start_with_no_links : arrays_check late_node [] [] [] [] ≡ Err (LinksOutside 0)
 unfolding arrays_check scan node_at number_at
 start_with_no_links = refl
 
 -- 4 comes before 5
-pub nodes_first : arrays_check late_node [] late_junction [] [] ≡ counted.Refused 4 0
+pub nodes_first : arrays_check late_node [] late_junction [] [] ≡ Err (LinksOutside 0)
 unfolding arrays_check scan node_at junction_at number_at
 nodes_first = refl
 
 -- ---- nodes without links (T-05)
 
 -- behind 65,536 links a node without links is written
-pub no_nine_without_links : check_nodes (λ n. length n) 0 65536 ([] ∷ []) ≡ total.Sum 65536
+pub no_nine_without_links : check_nodes (λ n. length n) 0 65536 ([] ∷ []) ≡ Ok 65536
 unfolding check_nodes
 no_nine_without_links = refl
 
 -- and a node with links behind it is 9; behind 65,535 it is written
-pub nine_behind_a_post : check_nodes (λ n. length n) 0 65536 ([] ∷ (1 ∷ []) ∷ []) ≡ total.Refused 9 1
+pub nine_behind_a_post : check_nodes (λ n. length n) 0 65536 ([] ∷ (1 ∷ []) ∷ []) ≡ Err (LinksStartTooHigh 1)
 unfolding check_nodes
 nine_behind_a_post = refl
 
-pub none_behind_a_post : check_nodes (λ n. length n) 0 65535 ([] ∷ (1 ∷ []) ∷ []) ≡ total.Sum 65536
+pub none_behind_a_post : check_nodes (λ n. length n) 0 65535 ([] ∷ (1 ∷ []) ∷ []) ≡ Ok 65536
 unfolding check_nodes
 none_behind_a_post = refl
 
@@ -72,12 +71,12 @@ start_behind_a_post = refl
 
 -- a post alone, over an empty list of links, is read back: its start 0 is no 4
 pub post_alone : arrays_check (node_record [] 0 []) [] [] [] []
-    ≡ counted.Held (record { nodes = 1; links = 0; junctions = 0; heights = 0; refs = 0 })
+    ≡ Ok (record { nodes = 1; links = 0; junctions = 0; heights = 0; refs = 0 })
 unfolding arrays_check scan node_at number_at node_bytes number_bytes bits16 file_node to_node links_in step_of sum_to
 post_alone = refl
 
 -- with the start that another node would have there, it would be
-pub post_late : arrays_check (node_bytes (file_node 1 0 (to_node []))) [] [] [] [] ≡ counted.Refused 4 0
+pub post_late : arrays_check (node_bytes (file_node 1 0 (to_node []))) [] [] [] [] ≡ Err (LinksOutside 0)
 unfolding arrays_check scan node_at number_at node_bytes number_bytes bits16 file_node to_node step_of
 post_late = refl
 
@@ -173,21 +172,21 @@ unfolding read_of sizes_check arrays_found located new_root new_ynd read_arrays 
     up_to join_to sum_to bytes_of extent
 no_bytes = refl
 
-pub no_bytes_done : (read_of [] [] bare).answer ≡ answer.Done
+pub no_bytes_done : (read_of [] [] bare).answer ≡ (Ok tt)
 unfolding read_of sizes_check arrays_found located new_root new_ynd read_arrays arrays_check scan room_check sum_to bytes_of
     extent
 no_bytes_done = refl
 
 -- 1 to 111 bytes are refused with 1; 112 are a root
-pub one_byte : read_of (0 ∷ []) [] bare ≡ refuse 1 0 bare
+pub one_byte : read_of (0 ∷ []) [] bare ≡ refuse SystemTooShort bare
 unfolding read_of sizes_check
 one_byte = refl
 
-pub bytes_111 : read_of (replicate 111 0) [] bare ≡ refuse 1 0 bare
+pub bytes_111 : read_of (replicate 111 0) [] bare ≡ refuse SystemTooShort bare
 unfolding read_of sizes_check
 bytes_111 = refl
 
-pub bytes_112 : (read_of (replicate 112 0) [] bare).answer ≡ answer.Done
+pub bytes_112 : (read_of (replicate 112 0) [] bare).answer ≡ (Ok tt)
 unfolding read_of sizes_check arrays_found located root_of unknowns_of number_at read_arrays arrays_check scan room_check
     sum_to bytes_of extent
 bytes_112 = refl

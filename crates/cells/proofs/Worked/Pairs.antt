@@ -9,7 +9,7 @@ use Rattle.cells.specs.NodeWords.{area_of, number_of, is_ped, numbered, number_f
 use Rattle.cells.specs.Memory.{Memory, memory, over_limit, short_of}
 use Rattle.cells.specs.Renumber.{vehicles, peds, renumber_lists, recounted, answer_of, new_lists, renumber_memory, renumber}
 use Rattle.cells.specs.declared.ynd.Ynd.{Ynd}
-use Rattle.numbers.specs.declared.answer.Answer.TheVariants.{Done}
+use Rattle.std.specs.Prelude.{Ok}
 
 -- ---- renumbering
 
@@ -45,7 +45,7 @@ three =
 -- a link of another area, and one whose number no node had, stay too; the unused words go with their nodes (T-10)
 pub renumber_pair : renumber three 65536 (50 ∷ 51 ∷ 52 ∷ 53 ∷ [])
     ≡ record {
-      answer = Done;
+      answer = (Ok tt);
       memory =
           memory (cell 2 1) (node 0 0 10 ∷ node 1 0 30 ∷ node 2 80 20 ∷ node 5 0 40 ∷ [])
           (link 1177 2 ∷ link 1177 1 ∷ link 1178 9 ∷ link 1177 5 ∷ link 1177 7 ∷ []) [] [] (link 1177 0 ∷ link 1177 3 ∷ []);

@@ -4,7 +4,6 @@ use Prim.Native.Nat.{ℕ, ◌*◌, ◌+◌}
 use mathlib.Core.Path.{◌≡◌, refl}
 use mathlib.Core.List.{List, [], ◌∷◌}
 use lib.ListN.{replicate}
-use Rattle.numbers.specs.declared.answer.Answer.TheVariants.{Refused}
 use Rattle.records.specs.Put.{put}
 use Rattle.cells.specs.Memory.{Memory, memory, refuse, over_limit}
 use Rattle.cells.specs.Edit.{held_in}
@@ -15,6 +14,9 @@ use Rattle.cells.specs.Replace.{place_for, pool_after}
 use Rattle.cells.specs.PutLinks.{room_for_links, put_links}
 use Rattle.cells.specs.PutHeightmap.{room_for_map, mapped, put_heightmap}
 use Rattle.cells.specs.declared.ynd.Ynd.{Ynd}
+use Rattle.std.specs.Prelude.{Err}
+use Rattle.numbers.specs.declared.refusal.Refusal.TheVariants.{TooShort, WrongSize, NoSuchPlace, AtLimit}
+use Rattle.numbers.specs.declared.refusal.Lent.TheVariants as lent
 
 -- nodes, links, junctions and values counted
 abbrev counts : ℕ → ℕ → ℕ → ℕ → Ynd
@@ -81,20 +83,20 @@ unfolding put_links room_for_links over_limit place_for pool_after held_in range
 no_links = refl
 
 -- 13 before 14, 14 before 7, 7 with its place
-pub no_such_node : put_links yard 2 (replicate 256 (link 8)) ≡ refuse 13 0 yard
+pub no_such_node : put_links yard 2 (replicate 256 (link 8)) ≡ refuse NoSuchPlace yard
 unfolding put_links room_for_links over_limit place_for pool_after held_in
 no_such_node = refl
 
-pub too_many_links : put_links yard 1 (replicate 256 (link 8)) ≡ refuse 14 0 yard
+pub too_many_links : put_links yard 1 (replicate 256 (link 8)) ≡ refuse AtLimit yard
 unfolding put_links room_for_links over_limit place_for pool_after held_in
 too_many_links = refl
 
-pub links_lacking : put_links yard 1 (replicate 4 (link 8)) ≡ refuse 7 1 yard
+pub links_lacking : put_links yard 1 (replicate 4 (link 8)) ≡ refuse (TooShort lent.Links) yard
 unfolding put_links room_for_links over_limit place_for pool_after held_in
 links_lacking = refl
 
 -- a struct over a limit, whichever lists the call is lent
-pub over_junctions : room_for_links (over_limit (counts 2 3 4097 3)) 2 1 0 3 0 0 ≡ Refused 14 0
+pub over_junctions : room_for_links (over_limit (counts 2 3 4097 3)) 2 1 0 3 0 0 ≡ Err AtLimit
 unfolding room_for_links over_limit
 over_junctions = refl
 
@@ -104,7 +106,7 @@ at_the_limits = refl
 
 -- the count of all links would pass 32 bits
 pub links_past_words : room_for_links (over_limit (counts 2 4294967295 2 3)) 2 1 2 (pool_after 1 2 4294967295) 2 6
-    ≡ Refused 14 0
+    ≡ Err AtLimit
 unfolding room_for_links over_limit pool_after
 links_past_words = refl
 
@@ -135,11 +137,11 @@ unfolding put_heightmap room_for_map over_limit place_for pool_after held_in map
 no_map = refl
 
 -- 12 before 7
-pub not_its_size : put_heightmap yard 1 2 3 (replicate 5 1) ≡ refuse 12 0 yard
+pub not_its_size : put_heightmap yard 1 2 3 (replicate 5 1) ≡ refuse WrongSize yard
 unfolding put_heightmap room_for_map over_limit place_for pool_after held_in
 not_its_size = refl
 
-pub values_lacking : put_heightmap yard 1 5 1 (replicate 5 1) ≡ refuse 7 3 yard
+pub values_lacking : put_heightmap yard 1 5 1 (replicate 5 1) ≡ refuse (TooShort lent.Heightmap) yard
 unfolding put_heightmap room_for_map over_limit place_for pool_after held_in
 values_lacking = refl
 
@@ -154,6 +156,6 @@ pub same_refs : truncate_refs yard 1 ≡ done yard
 unfolding truncate_refs fewer over_limit with_counts
 same_refs = refl
 
-pub three_of_two : truncate_nodes yard 3 ≡ refuse 13 0 yard
+pub three_of_two : truncate_nodes yard 3 ≡ refuse NoSuchPlace yard
 unfolding truncate_nodes fewer over_limit
 three_of_two = refl

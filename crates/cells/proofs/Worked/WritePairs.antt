@@ -17,7 +17,9 @@ use Rattle.cells.specs.Entries.{links_in, file_node, file_link}
 use Rattle.cells.specs.WriteChecks.{maps_cut, check_nodes, check_junctions}
 use Rattle.cells.specs.Blocks.{laid, arrays, blocks, root_for, written}
 use Rattle.cells.specs.Write.{WriteLeft, left, refuse, or_else, held, stored, write_held, write_call}
-use Rattle.cells.specs.declared.write.Written.TheVariants.{Wrote}
+use Rattle.std.specs.Prelude.{Ok}
+use Rattle.numbers.specs.declared.refusal.Refusal.TheVariants.{TooShort, TooManyLinks}
+use Rattle.numbers.specs.declared.refusal.Lent.TheVariants as lent
 
 -- a cell of one node with so many links, and nothing else
 unfoldable pub one_node : ℕ → Memory
@@ -31,11 +33,11 @@ one_node count =
     []
 
 -- what has room is written
-pub wrote : (h : Memory) (s : List ℕ) (n : ℕ) → length (written h) ≡ n → n ≤ length s → (stored h s).answer ≡ Wrote n
+pub wrote : (h : Memory) (s : List ℕ) (n : ℕ) → length (written h) ≡ n → n ≤ length s → (stored h s).answer ≡ Ok n
 unfolding stored
 wrote h s n e room =
     let m = length (written h) in
-    ap (λ (b : Bool). (or_else b (refuse 7 5 s) (left (Wrote m) (written h ++ drop m s))).answer) (le-ltb (length s) m (omega (arith, e, room))) ∙ ap Wrote e
+    ap (λ (b : Bool). (or_else b (refuse (TooShort lent.Section) s) (left (Ok m) (written h ++ drop m s))).answer) (le-ltb (length s) m (omega (arith, e, room))) ∙ ap Ok e
 
 -- no check refuses
 goes_on : (s : List ℕ) → write_call (one_node 31) s ≡ stored (held (one_node 31)) s
@@ -55,15 +57,15 @@ unfolding one_node held written arrays total gap_for joined laid links_in node_b
 bare_size = section_length (root_for (held (one_node 0)) (map length (blocks (held (one_node 0))))) (blocks (held (one_node 0)))
 
 -- 31 links write, wherever there is room; 32 don't, in any section
-pub links_31 : (s : List ℕ) → 1448 ≤ length s → (write_call (one_node 31) s).answer ≡ Wrote 1448
+pub links_31 : (s : List ℕ) → 1448 ≤ length s → (write_call (one_node 31) s).answer ≡ Ok 1448
 links_31 s room = ap (λ (w : WriteLeft). w.answer) (goes_on s) ∙ wrote (held (one_node 31)) s 1448 size_31 room
 
-pub links_32 : (s : List ℕ) → write_call (one_node 32) s ≡ refuse 8 0 s
+pub links_32 : (s : List ℕ) → write_call (one_node 32) s ≡ refuse (TooManyLinks 0) s
 unfolding one_node write_call held over_limit write_held maps_cut check_nodes links_in
 links_32 s = refl
 
 -- one bare node writes 1,192 bytes, with the nodes address 0x50000480
-pub bare_node : (s : List ℕ) → 1192 ≤ length s → (write_call (one_node 0) s).answer ≡ Wrote 1192
+pub bare_node : (s : List ℕ) → 1192 ≤ length s → (write_call (one_node 0) s).answer ≡ Ok 1192
 bare_node s room = ap (λ (w : WriteLeft). w.answer) (bare_goes_on s) ∙ wrote (held (one_node 0)) s 1192 bare_size room
 
 pub bare_address : le64 (written (held (one_node 0))) 16 ≡ 0x50000480

@@ -8,47 +8,48 @@ use lib.Dec.{ltb}
 use lib.ListN.{length, get_or, drop, drop_of_length-le}
 use borrow.Author.Tests.{lt-ltb, le-ltb, ltb-false}
 use Rattle.records.proofs.Puts.{split}
-use Rattle.cells.specs.declared.count.Total.{Total}
-use Rattle.cells.specs.declared.count.Total.TheVariants.{Sum, Refused}
 use Rattle.cells.specs.Entries.{stored_start}
 use Rattle.cells.specs.NodeWords.{value_count}
 use Rattle.cells.specs.WriteChecks.{values_within, maps_cut, unless, accepted, start_over, check_nodes, check_junctions}
+use Rattle.std.specs.Prelude.{Result, Ok, Err}
+use Rattle.numbers.specs.declared.refusal.Refusal.{Refusal}
+use Rattle.numbers.specs.declared.refusal.Refusal.TheVariants.{TooManyLinks, LinksStartTooHigh, ValuesStartTooHigh}
 
-unless_accepted : (b : Bool) (cause place : ℕ) (next : Total) → accepted (unless b (Refused cause place) next) ≡ true → (b ≡ false) × (accepted next ≡ true)
-unless_accepted true cause place next e = let z : ◌≡◌ {A = ℕ} 0 1 = cc in absurd (omega arith)
-unless_accepted false cause place next e = (refl, e)
+unless_accepted : (b : Bool) (cause : Refusal) (next : Result ℕ Refusal) → accepted (unless b (Err cause) next) ≡ true → (b ≡ false) × (accepted next ≡ true)
+unless_accepted true cause next e = let z : ◌≡◌ {A = ℕ} 0 1 = cc in absurd (omega arith)
+unless_accepted false cause next e = (refl, e)
 
 module _ (count : List ℕ → ℕ) (ns : List (List ℕ)) (place before i : ℕ) where
-  pub nodes_end : length ns ≤ i → check_nodes count place before (drop i ns) ≡ Sum before
+  pub nodes_end : length ns ≤ i → check_nodes count place before (drop i ns) ≡ Ok before
   unfolding check_nodes
   nodes_end h = ap (check_nodes count place before) (drop_of_length-le ns h)
 
-  pub junctions_end : length ns ≤ i → check_junctions count place before (drop i ns) ≡ Sum before
+  pub junctions_end : length ns ≤ i → check_junctions count place before (drop i ns) ≡ Ok before
   unfolding check_junctions
   junctions_end h = ap (check_junctions count place before) (drop_of_length-le ns h)
 
   module _ (h : i < length ns) where
     nodes_open : check_nodes count place before (drop i ns)
-        ≡ unless (ltb 31 (count (get_or ns i []))) (Refused 8 place)
-        (unless (start_over before (count (get_or ns i []))) (Refused 9 place) (check_nodes count (place + 1) (before + count (get_or ns i [])) (drop (i + 1) ns)))
+        ≡ unless (ltb 31 (count (get_or ns i []))) (Err (TooManyLinks place))
+        (unless (start_over before (count (get_or ns i []))) (Err (LinksStartTooHigh place)) (check_nodes count (place + 1) (before + count (get_or ns i [])) (drop (i + 1) ns)))
     unfolding check_nodes
     nodes_open = ap (check_nodes count place before) (split ns i [] h)
 
-    pub nodes_8 : 31 < count (get_or ns i []) → check_nodes count place before (drop i ns) ≡ Refused 8 place
+    pub nodes_8 : 31 < count (get_or ns i []) → check_nodes count place before (drop i ns) ≡ Err (TooManyLinks place)
     nodes_8 t = nodes_open ∙ rw (lt-ltb 31 (count (get_or ns i [])) t)
 
-    pub nodes_9 : count (get_or ns i []) ≤ 31 → 65535 < stored_start before (count (get_or ns i [])) → check_nodes count place before (drop i ns) ≡ Refused 9 place
+    pub nodes_9 : count (get_or ns i []) ≤ 31 → 65535 < stored_start before (count (get_or ns i [])) → check_nodes count place before (drop i ns) ≡ Err (LinksStartTooHigh place)
     nodes_9 t u = nodes_open ∙ rw (le-ltb 31 (count (get_or ns i [])) t, lt-ltb 65535 (stored_start before (count (get_or ns i []))) u)
 
     pub nodes_next : count (get_or ns i []) ≤ 31 → stored_start before (count (get_or ns i [])) ≤ 65535 → check_nodes count place before (drop i ns) ≡ check_nodes count (place + 1) (before + count (get_or ns i [])) (drop (i + 1) ns)
     nodes_next t u = nodes_open ∙ rw (le-ltb 31 (count (get_or ns i [])) t, le-ltb 65535 (stored_start before (count (get_or ns i []))) u)
 
     junctions_open : check_junctions count place before (drop i ns)
-        ≡ unless (ltb 65535 before) (Refused 10 place) (check_junctions count (place + 1) (before + count (get_or ns i [])) (drop (i + 1) ns))
+        ≡ unless (ltb 65535 before) (Err (ValuesStartTooHigh place)) (check_junctions count (place + 1) (before + count (get_or ns i [])) (drop (i + 1) ns))
     unfolding check_junctions
     junctions_open = ap (check_junctions count place before) (split ns i [] h)
 
-    pub junctions_10 : 65535 < before → check_junctions count place before (drop i ns) ≡ Refused 10 place
+    pub junctions_10 : 65535 < before → check_junctions count place before (drop i ns) ≡ Err (ValuesStartTooHigh place)
     junctions_10 u = junctions_open ∙ rw (lt-ltb 65535 before u)
 
     pub junctions_next : before ≤ 65535 → check_junctions count place before (drop i ns) ≡ check_junctions count (place + 1) (before + count (get_or ns i [])) (drop (i + 1) ns)
@@ -59,34 +60,18 @@ module _ (count : List ℕ → ℕ) (ns : List (List ℕ)) (place before i : ℕ
         → (count (get_or ns i []) ≤ 31) × (stored_start before (count (get_or ns i [])) ≤ 65535) × (accepted (check_nodes count (place + 1) (before + count (get_or ns i [])) (drop (i + 1) ns)) ≡ true)
     nodes_inside e =
         let rest = check_nodes count (place + 1) (before + count (get_or ns i [])) (drop (i + 1) ns) in
-        let a = unless_accepted (ltb 31 (count (get_or ns i []))) 8 place (unless (start_over before (count (get_or ns i []))) (Refused 9 place) rest) (ap accepted (sym nodes_open) ∙ e) in
-        let b = unless_accepted (start_over before (count (get_or ns i []))) 9 place rest a.1 in
+        let a = unless_accepted (ltb 31 (count (get_or ns i []))) (TooManyLinks place) (unless (start_over before (count (get_or ns i []))) (Err (LinksStartTooHigh place)) rest) (ap accepted (sym nodes_open) ∙ e) in
+        let b = unless_accepted (start_over before (count (get_or ns i []))) (LinksStartTooHigh place) rest a.1 in
         (ltb-false _ _ a.0, ltb-false _ _ b.0, b.1)
 
     pub junctions_inside : accepted (check_junctions count place before (drop i ns)) ≡ true
         → (before ≤ 65535) × (accepted (check_junctions count (place + 1) (before + count (get_or ns i [])) (drop (i + 1) ns)) ≡ true)
     junctions_inside e =
         let rest = check_junctions count (place + 1) (before + count (get_or ns i [])) (drop (i + 1) ns) in
-        let b = unless_accepted (ltb 65535 before) 10 place rest (ap accepted (sym junctions_open) ∙ e) in
+        let b = unless_accepted (ltb 65535 before) (ValuesStartTooHigh place) rest (ap accepted (sym junctions_open) ∙ e) in
         (ltb-false _ _ b.0, b.1)
 
 -- ---- 12: heightmaps that are cut
-
-module _ (pool : ℕ) (js : List (List ℕ)) (i : ℕ) where
-  pub maps_end : length js ≤ i → maps_cut pool (drop i js) ≡ false
-  unfolding maps_cut
-  maps_end h = ap (maps_cut pool) (drop_of_length-le js h)
-
-  module _ (h : i < length js) where
-    maps_open : maps_cut pool (drop i js) ≡ ltb (values_within pool (get_or js i [])) (value_count (get_or js i [])) || maps_cut pool (drop (i + 1) js)
-    unfolding maps_cut
-    maps_open = ap (maps_cut pool) (split js i [] h)
-
-    pub maps_hit : values_within pool (get_or js i []) < value_count (get_or js i []) → maps_cut pool (drop i js) ≡ true
-    maps_hit t = maps_open ∙ rw (lt-ltb (values_within pool (get_or js i [])) (value_count (get_or js i [])) t)
-
-    pub maps_next : value_count (get_or js i []) ≤ values_within pool (get_or js i []) → maps_cut pool (drop i js) ≡ maps_cut pool (drop (i + 1) js)
-    maps_next t = maps_open ∙ rw (le-ltb (values_within pool (get_or js i [])) (value_count (get_or js i [])) t)
 
 none_of : (a b : Bool) → a || b ≡ false → (a ≡ false) × (b ≡ false)
 none_of true b e = let z : ◌≡◌ {A = ℕ} 0 1 = cc in absurd (omega arith)

@@ -10,16 +10,19 @@ use lib.Dec.{ltb}
 use lib.ListN.{length, get_or, take, drop, length-append}
 use borrow.Author.Tests.{le-ltb, ltb-false}
 use Rattle.records.specs.Put.{joined}
-use Rattle.cells.specs.Memory.{Memory, over_limit, short}
+use Rattle.cells.specs.Memory.{Memory, over_limit, short, short_of}
 use Rattle.cells.specs.Entries.{links_in, values_in, stored_start}
 use Rattle.cells.specs.WriteChecks.{maps_cut, start_over, check_nodes, check_junctions}
 use Rattle.cells.specs.Write.{WriteLeft, left, refuse, or_else, after, held, stored, write_held, write_call}
 use Rattle.cells.specs.Blocks.{written}
-use Rattle.cells.specs.declared.count.Total.{Total}
-use Rattle.cells.specs.declared.count.Total.TheVariants.{Sum, Refused}
-use Rattle.cells.specs.declared.write.Written.TheVariants as answer
 use Rattle.cells.proofs.Sequences.Tests.{by_test}
 use Rattle.cells.proofs.Writing.Starts.{start_some, over_some, over_behind, not_over}
+use Rattle.std.specs.Prelude.{Result, Ok, Err}
+use Rattle.numbers.specs.Refusals.{Answer, when, decided, number_of}
+use Rattle.numbers.specs.declared.refusal.Refusal.{Refusal}
+use Rattle.numbers.specs.declared.refusal.Refusal.TheVariants.{TooShort, TooManyLinks, LinksStartTooHigh, ValuesStartTooHigh, TooManyRefs, WrongSize, AtLimit}
+use Rattle.numbers.specs.declared.refusal.Lent.{Lent}
+use Rattle.numbers.specs.declared.refusal.Lent.TheVariants as lent
 
 module _ {B : Type 0} (links : List ℕ → List B) where
   -- the node that 9 names, where `before` links stand before the first of these nodes
@@ -78,11 +81,11 @@ module _ {B : Type 0} (links : List ℕ → List B) where
     there : p ≡ place + at
     nine : NineAt before nodes at
 
-  eight : {P : Type 0} {a b : ℕ} → Refused 8 a ≡ Refused 9 b → P
+  eight : {P : Type 0} {a b : ℕ} → ◌≡◌ {A = Result ℕ Refusal} (Err (TooManyLinks a)) (Err (LinksStartTooHigh b)) → P
   eight e = let z : ◌≡◌ {A = ℕ} 8 9 = cc in absurd (omega arith)
 
   told : (place before : ℕ) (nodes : List (List ℕ)) (p : ℕ)
-      → check_nodes (λ n. length (links n)) place before nodes ≡ Refused 9 p → Found place before nodes p
+      → check_nodes (λ n. length (links n)) place before nodes ≡ Err (LinksStartTooHigh p) → Found place before nodes p
   unfolding check_nodes
   told place before [] p e = let z : ◌≡◌ {A = ℕ} 0 1 = cc in absurd (omega arith)
   told place before (n ∷ ns) p e =
@@ -93,7 +96,8 @@ module _ {B : Type 0} (links : List ℕ → List B) where
       (λ v. next (ltb-false 31 (length (links n)) u) v
       (told (place + 1) (before + length (links n)) ns p (rw (u, v) at e))))
     where
-      this : length (links n) ≤ 31 → start_over before (length (links n)) ≡ true → Refused 9 place ≡ Refused 9 p
+      this : length (links n) ≤ 31 → start_over before (length (links n)) ≡ true
+          → ◌≡◌ {A = Result ℕ Refusal} (Err (LinksStartTooHigh place)) (Err (LinksStartTooHigh p))
           → Found place before (n ∷ ns) p
       this few t q =
           let same : place ≡ p = cc in
@@ -108,14 +112,14 @@ module _ {B : Type 0} (links : List ℕ → List B) where
       }
 
   says : (place before : ℕ) (nodes : List (List ℕ)) (p : ℕ) → NineAt before nodes p
-      → check_nodes (λ n. length (links n)) place before nodes ≡ Refused 9 (place + p)
+      → check_nodes (λ n. length (links n)) place before nodes ≡ Err (LinksStartTooHigh (place + p))
   unfolding check_nodes joined
   says place before [] p h = absurd (omega (arith, h.inside))
   says place before (n ∷ ns) zero h =
       let few = le-ltb 31 (length (links n)) (h.few 0 (omega arith)) in
       let over = over_behind before (length (links n)) h.with_links (omega (arith, h.behind)) in
       let e : place ≡ place + 0 = omega arith in
-      rw (few, over) (ap (λ (k : ℕ). Refused 9 k) e)
+      rw (few, over) (ap (λ (k : ℕ). Err (LinksStartTooHigh k)) e)
   says place before (n ∷ ns) (suc p) h =
       let few = le-ltb 31 (length (links n)) (h.few 0 (omega arith)) in
       let low = not_over before (length (links n)) (λ s. omega (arith, h.first 0 (omega arith) s)) in
@@ -128,27 +132,47 @@ module _ {B : Type 0} (links : List ℕ → List B) where
         first = λ i lt s. omega (arith, h.first (suc i) (omega arith) s, length-append (links n) (joined links (take i ns)));
         few = λ i le. h.few (suc i) (omega arith);
       })
-      ∙ ap (λ (k : ℕ). Refused 9 k) e)
+      ∙ ap (λ (k : ℕ). Err (LinksStartTooHigh k)) e)
 
   module _ (nodes : List (List ℕ)) (p : ℕ) where
-    pub nine_only : check_nodes (λ n. length (links n)) 0 0 nodes ≡ Refused 9 p → NineAt 0 nodes p
+    pub nine_only : check_nodes (λ n. length (links n)) 0 0 nodes ≡ Err (LinksStartTooHigh p) → NineAt 0 nodes p
     nine_only e =
         let r = told 0 0 nodes p e in
         subst (NineAt 0 nodes) (sym (r.there ∙ zero-add r.at)) r.nine
 
-    pub nine_there : NineAt 0 nodes p → check_nodes (λ n. length (links n)) 0 0 nodes ≡ Refused 9 p
-    nine_there h = says 0 0 nodes p h ∙ ap (λ (k : ℕ). Refused 9 k) (zero-add p)
+    pub nine_there : NineAt 0 nodes p → check_nodes (λ n. length (links n)) 0 0 nodes ≡ Err (LinksStartTooHigh p)
+    nine_there h = says 0 0 nodes p h ∙ ap (λ (k : ℕ). Err (LinksStartTooHigh k)) (zero-add p)
 
 -- ---- at the call
 
-ten : (count : List ℕ → ℕ) (place before : ℕ) (js : List (List ℕ)) (cause p : ℕ)
-    → check_junctions count place before js ≡ Refused cause p → cause ≡ 10
+ten : (count : List ℕ → ℕ) (place before : ℕ) (js : List (List ℕ)) (cause : Refusal)
+    → check_junctions count place before js ≡ Err cause → number_of cause ≡ 10
 unfolding check_junctions
-ten count place before [] cause p e = let z : ◌≡◌ {A = ℕ} 0 1 = cc in absurd (omega arith)
-ten count place before (j ∷ js) cause p e =
+ten count place before [] cause e = let z : ◌≡◌ {A = ℕ} 0 1 = cc in absurd (omega arith)
+ten count place before (j ∷ js) cause e =
     by_test (ltb 65535 before)
-    (λ t. let q : Refused 10 place ≡ Refused cause p = rw t at e in let same : 10 ≡ cause = cc in sym same)
-    (λ f. ten count (place + 1) (before + count j) js cause p (rw f at e))
+    (λ t. let q : ◌≡◌ {A = Result ℕ Refusal} (Err (ValuesStartTooHigh place)) (Err cause) = rw t at e in let same : ValuesStartTooHigh place ≡ cause = cc in sym (ap number_of same))
+    (λ f. ten count (place + 1) (before + count j) js cause (rw f at e))
+
+-- a list that is too short is 7
+seven : (m : Memory) (cause : Refusal) → short m ≡ Err cause → number_of cause ≡ 7
+unfolding short_of
+seven m cause =
+    go (ltb (length m.nodes) m.ynd.node_count) (ltb (length m.links) m.ynd.link_count) (ltb (length m.junctions) m.ynd.junction_count)
+    (ltb (length m.heights) m.ynd.heightmap_count) (ltb (length m.refs) m.ynd.ref_count)
+  where
+    named : {l : Lent} → ◌≡◌ {A = Answer} (Err (TooShort l)) (Err cause) → number_of cause ≡ 7
+    named {l} e = let same : TooShort l ≡ cause = cc in sym (ap number_of same)
+
+    go : (a b c d f : Bool)
+        → decided (when a (TooShort lent.Nodes) ∷ when b (TooShort lent.Links) ∷ when c (TooShort lent.Junctions) ∷ when d (TooShort lent.Heightmap) ∷ when f (TooShort lent.Refs) ∷ []) ≡ Err cause
+        → number_of cause ≡ 7
+    go true b c d f e = named e
+    go false true c d f e = named e
+    go false false true d f e = named e
+    go false false false true f e = named e
+    go false false false false true e = named e
+    go false false false false false e = let z : ◌≡◌ {A = ℕ} 0 1 = cc in absurd (omega arith)
 
 -- the cell's own links of a node
 abbrev own : Memory → List ℕ → List (List ℕ)
@@ -156,43 +180,38 @@ own m n = links_in (held m).links n
 
 module _ (m : Memory) (s : List ℕ) (p : ℕ) where
   -- a cell that writing refuses with 9
-  pub refused_nine : (write_call m s).answer ≡ answer.Refused 9 p → NineAt (own m) 0 (held m).nodes p
+  pub refused_nine : (write_call m s).answer ≡ Err (LinksStartTooHigh p) → NineAt (own m) 0 (held m).nodes p
   unfolding write_call write_held stored
   refused_nine e =
       go (over_limit (held m).ynd) (maps_cut (held m).ynd.heightmap_count (held m).junctions) (check_nodes (λ n. length (own m n)) 0 0 (held m).nodes)
       (check_junctions (λ j. length (values_in (held m).heights j)) 0 0 (held m).junctions)
-      (ltb 65535 (held m).ynd.ref_count) (ltb (short m) 5) (ltb (length s) (length (written (held m)))) refl refl e
+      (ltb 65535 (held m).ynd.ref_count) (short m) (ltb (length s) (length (written (held m)))) refl refl refl e
     where
-      other : {P : Type 0} {a b : ℕ} → (9 ≡ a → ⊥) → answer.Refused a b ≡ answer.Refused 9 p → P
-      other {P} {a} n q = let same : a ≡ 9 = cc in absurd (n (sym same))
-
-      handed : (x y : ℕ) → answer.Refused x y ≡ answer.Refused 9 p → Refused x y ≡ Refused 9 p
-      handed x y q =
-          let cause : x ≡ 9 = cc in
-          let place : y ≡ p = cc in
-          λ i. Refused (cause i) (place i)
+      other : {P : Type 0} {a : Refusal} → (number_of a ≡ 9 → ⊥) → ◌≡◌ {A = Result ℕ Refusal} (Err a) (Err (LinksStartTooHigh p)) → P
+      other {P} {a} n q = let same : a ≡ LinksStartTooHigh p = cc in absurd (n (ap number_of same))
 
       wrote : WriteLeft
-      wrote = left (answer.Wrote (length (written (held m)))) (written (held m) ++ drop (length (written (held m))) s)
+      wrote = left (Ok (length (written (held m)))) (written (held m) ++ drop (length (written (held m))) s)
 
-      go : (o w : Bool) (a b : Total) (c d f : Bool) → check_nodes (λ n. length (own m n)) 0 0 (held m).nodes ≡ a
+      go : (o w : Bool) (a b : Result ℕ Refusal) (c : Bool) (d : Answer) (f : Bool) → check_nodes (λ n. length (own m n)) 0 0 (held m).nodes ≡ a
           → check_junctions (λ j. length (values_in (held m).heights j)) 0 0 (held m).junctions ≡ b
-          → (or_else o (refuse 14 0 s) (or_else w (refuse 12 0 s) (after a s (after b s (or_else c (refuse 11 0 s)
-          (or_else d (refuse 7 (short m) s) (or_else f (refuse 7 5 s) wrote))))))
-          ).answer ≡ answer.Refused 9 p
+          → short m ≡ d
+          → (or_else o (refuse AtLimit s) (or_else w (refuse WrongSize s) (after a s (after b s (or_else c (refuse TooManyRefs s)
+          (after d s (or_else f (refuse (TooShort lent.Section) s) wrote))))))
+          ).answer ≡ Err (LinksStartTooHigh p)
           → NineAt (own m) 0 (held m).nodes p
-      go true w a b c d f ea eb q = other (λ z. omega arith) q
-      go false true a b c d f ea eb q = other (λ z. omega arith) q
-      go false false (Refused x y) b c d f ea eb q = nine_only (own m) (held m).nodes p (ea ∙ handed x y q)
-      go false false (Sum l) (Refused x y) c d f ea eb q =
-          other (λ z. omega (arith, ten (λ j. length (values_in (held m).heights j)) 0 0 (held m).junctions x y eb)) q
-      go false false (Sum l) (Sum v) true d f ea eb q = other (λ z. omega arith) q
-      go false false (Sum l) (Sum v) false true f ea eb q = other (λ z. omega arith) q
-      go false false (Sum l) (Sum v) false false true ea eb q = other (λ z. omega arith) q
-      go false false (Sum l) (Sum v) false false false ea eb q = let z : ◌≡◌ {A = ℕ} 0 1 = cc in absurd (omega arith)
+      go true w a b c d f ea eb ed q = other (λ z. omega arith) q
+      go false true a b c d f ea eb ed q = other (λ z. omega arith) q
+      go false false (Err x) b c d f ea eb ed q = nine_only (own m) (held m).nodes p (ea ∙ q)
+      go false false (Ok l) (Err x) c d f ea eb ed q =
+          other (λ z. omega (arith, ten (λ j. length (values_in (held m).heights j)) 0 0 (held m).junctions x eb)) q
+      go false false (Ok l) (Ok v) true d f ea eb ed q = other (λ z. omega arith) q
+      go false false (Ok l) (Ok v) false (Err x) f ea eb ed q = other (λ z. omega (arith, seven m x ed)) q
+      go false false (Ok l) (Ok v) false (Ok tt) true ea eb ed q = other (λ z. omega arith) q
+      go false false (Ok l) (Ok v) false (Ok tt) false ea eb ed q = let z : ◌≡◌ {A = ℕ} 0 1 = cc in absurd (omega arith)
 
   -- such a cell, within the limits and with whole heightmaps, is refused so, and the section stays
   pub nine_refused : over_limit (held m).ynd ≡ false → maps_cut (held m).ynd.heightmap_count (held m).junctions ≡ false
-      → NineAt (own m) 0 (held m).nodes p → write_call m s ≡ refuse 9 p s
+      → NineAt (own m) 0 (held m).nodes p → write_call m s ≡ refuse (LinksStartTooHigh p) s
   unfolding write_call write_held
   nine_refused o w h = rw (o, w, nine_there (own m) (held m).nodes p h)

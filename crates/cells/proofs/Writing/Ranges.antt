@@ -1,10 +1,11 @@
 -- A node's links and a junction's values: ranges that are cut where they leave the list.
-use Prim.Native.Nat.{ℕ, zero, suc, ◌+◌, ◌-◌, ◌*◌, ◌%◌, ◌≤◌, min}
+use Prim.Native.Nat.{ℕ, zero, suc, ◌-◌, ◌*◌, ◌%◌, ◌≤◌, min}
 use native.Mathlib.Omega.{arith}
 use native.Mathlib.Nat.{zero-min, min-zero, suc-min-suc, mul-le-mul}
-use mathlib.Core.Path.{◌≡◌, refl, sym, ap, ◌∙◌, fun_ext}
+use mathlib.Core.Path.{◌≡◌, ap, ◌∙◌, fun_ext}
 use mathlib.Core.List.{List, [], ◌∷◌}
 use lib.ListN.{length, get_or, take, drop, length-take, length-drop}
+use lib.Seq.{take_all}
 use Rattle.records.proofs.RecordBack.{link_length_law}
 use Rattle.cells.specs.Words.{to_link}
 use Rattle.cells.specs.NodeWords.{link_start, link_count, value_start, value_count}
@@ -14,48 +15,35 @@ use Rattle.cells.specs.Blocks.{link_record, links_records}
 use Rattle.cells.proofs.Sequences.Joined.{joined_length}
 
 module _ {A : Type 0} where
-  pub empty : (l : List A) → length l ≡ 0 → l ≡ []
-  empty [] e = refl
-  empty (x ∷ xs) e = absurd (omega arith)
-
   take_min : (c : ℕ) (l : List A) → take (min c (length l)) l ≡ take c l
   take_min zero l = ap (λ (k : ℕ). take k l) (zero-min (length l))
   take_min (suc c) [] = ap (λ (k : ℕ). take k []) (min-zero (suc c))
   take_min (suc c) (x ∷ xs) = ap (λ (k : ℕ). take k (x ∷ xs)) (suc-min-suc c (length xs)) ∙ ap (λ (r : List A). x ∷ r) (take_min c xs)
 
-  -- the part of a slice that is lent, from t to t + k
-  part : (l : List A) (c s k t : ℕ) → k ≡ min c (length l - s) → t ≡ s → take (t + k - t) (drop t l) ≡ take c (drop s l)
-  part l c s k t e f =
-      let g : t + k - t ≡ k = omega arith in
-      (λ i. take (g i) (drop (f i) l)) ∙ ap (λ (n : ℕ). take n (drop s l)) (e ∙ ap (min c) (sym (length-drop s l))) ∙ take_min c (drop s l)
+  drop_min : (c : ℕ) (l : List A) → drop (min c (length l)) l ≡ drop c l
+  drop_min zero l = ap (λ (k : ℕ). drop k l) (zero-min (length l))
+  drop_min (suc c) [] = ap (λ (k : ℕ). drop k []) (min-zero (suc c))
+  drop_min (suc c) (x ∷ xs) = ap (λ (k : ℕ). drop k (x ∷ xs)) (suc-min-suc c (length xs)) ∙ drop_min c xs
 
-  -- the same from 0 to the lesser of a count and the length
-  pub front : (l : List A) (count n : ℕ) → n ≡ min count (length l) → take (n - 0) (drop 0 l) ≡ take count l
+  -- the part of a slice that is lent: n entries from t on
+  pub cut_part : (l : List A) (s c t n : ℕ) → t ≡ min s (length l) → n ≡ min c (length (take (length l - t) (drop t l)))
+      → take n (take (length l - t) (drop t l)) ≡ take c (drop s l)
+  cut_part l s c t n e f =
+      let r = take (length l - t) (drop t l) in
+      ap (λ (k : ℕ). take k r) f ∙ take_min c r
+      ∙ ap (take c) (take_all (length l - t) (drop t l) (omega (arith, length-drop t l)) ∙ ap (λ (k : ℕ). drop k l) e ∙ drop_min s l)
+
+  -- the first entries, as many as there are of a count
+  pub front : (l : List A) (count n : ℕ) → n ≡ min (length l) count → take n l ≡ take count l
   front l count n e =
-      let f : n - 0 ≡ min count (length l) = omega arith in
+      let f : n ≡ min count (length l) = omega arith in
       ap (λ (k : ℕ). take k l) f ∙ take_min count l
-
-  -- no more than the count
-  pub front_few : (l : List A) (count n : ℕ) → n ≡ min count (length l) → length (take (n - 0) (drop 0 l)) ≤ count
-  front_few l count n e = omega (arith, length-take (n - 0) (drop 0 l), e)
-
-inside : (c s n k t : ℕ) → k ≡ min c (n - s) → t ≡ s → (k ≡ 0 → ⊥) → t + k ≤ n
-inside c s n k t e f h = omega arith
 
 -- ---- a node's links
 
 pub link_count_law : (links : List (List ℕ)) (n : List ℕ) → length (links_in links n) ≡ links_within (length links) n
 unfolding links_in links_within
 link_count_law links n = length-take (link_count n) (drop (link_start n) links) ∙ ap (min (link_count n)) (length-drop (link_start n) links)
-
-module _ (links : List (List ℕ)) (n : List ℕ) (k t : ℕ) (e : k ≡ links_within (length links) n) (f : t ≡ link_start n) where
-  pub links_part : take (t + k - t) (drop t links) ≡ links_in links n
-  unfolding links_in links_within
-  links_part = part links (link_count n) (link_start n) k t e f
-
-  pub links_inside : (k ≡ 0 → ⊥) → t + k ≤ length links
-  unfolding links_within
-  links_inside h = inside (link_count n) (link_start n) (length links) k t e f h
 
 pub links_size : (links : List (List ℕ)) (n : List ℕ) → length (links_records links n) ≡ 8 * links_within (length links) n
 links_size links n = joined_length link_record 8 (λ e. link_length_law (file_link (to_link e))) (links_in links n) ∙ ap (◌*◌ 8) (link_count_law links n)
@@ -65,15 +53,6 @@ links_size links n = joined_length link_record 8 (λ e. link_length_law (file_li
 pub value_count_law : (heights j : List ℕ) → length (values_in heights j) ≡ values_within (length heights) j
 unfolding values_in values_within
 value_count_law heights j = length-take (value_count j) (drop (value_start j) heights) ∙ ap (min (value_count j)) (length-drop (value_start j) heights)
-
-module _ (heights j : List ℕ) (k t : ℕ) (e : k ≡ values_within (length heights) j) (f : t ≡ value_start j) where
-  pub values_part : take (t + k - t) (drop t heights) ≡ values_in heights j
-  unfolding values_in values_within
-  values_part = part heights (value_count j) (value_start j) k t e f
-
-  pub values_inside : (k ≡ 0 → ⊥) → t + k ≤ length heights
-  unfolding values_within
-  values_inside h = inside (value_count j) (value_start j) (length heights) k t e f h
 
 byte_small : (x : ℕ) → x % 256 ≤ 255
 byte_small x = omega arith

@@ -24,16 +24,15 @@ use Rattle.cells.specs.Renumber.{renumber_lists, new_lists, renumber_memory, ans
 use Rattle.cells.specs.RenumberParts.{Room}
 use Rattle.cells.specs.Write.{write_call}
 use Rattle.cells.specs.WriteRead.{if_read, if_written, write_read_of}
-use Rattle.numbers.specs.declared.answer.Answer.{Answer}
-use Rattle.numbers.specs.declared.answer.Answer.TheVariants.{Done, Refused}
-use Rattle.cells.specs.declared.write.Written.{Written}
-use Rattle.cells.specs.declared.write.Written.TheVariants as written
 use Rattle.cells.proofs.Sequences.JoinedCounts.{count_up_to, count_parted}
 use Rattle.cells.proofs.Reading.ReadLaws.{length_up_to, length_join_to, length_links, length_values, Holds}
 use Rattle.cells.proofs.Reading.FileRead.{filled_cell, read_all}
 use Rattle.cells.proofs.WritingBack.Kept.{every_up_to}
 use Rattle.cells.proofs.Renumbering.NewCell.{new_length, new_junctions}
 use Rattle.cells.proofs.Renumbering.CellRenumbered.{accepted, renumber_memory_law}
+use Rattle.std.specs.Prelude.{Result, Ok, Err}
+use Rattle.numbers.specs.Refusals.{Answer}
+use Rattle.numbers.specs.declared.refusal.Refusal.{Refusal}
 
 -- a junction has width × height values
 abbrev pub whole_map : Junction → Bool
@@ -84,7 +83,7 @@ filled_as_read root n l j h r m few =
       );
     }
 
-pub read_as_read : (s g : List ℕ) (m : Memory) → (read_of s g m).answer ≡ Done → AsRead (read_of s g m).memory
+pub read_as_read : (s g : List ℕ) (m : Memory) → (read_of s g m).answer ≡ Ok tt → AsRead (read_of s g m).memory
 read_as_read s g m e = read_all AsRead s g m (λ n l j h r held. filled_as_read _ n l j h r m held) e
 
 -- ---- renumbering
@@ -137,8 +136,8 @@ module _ (m : Memory) (ps : List ℕ) (s : ℕ) (h : AsRead m) where
   renumber_as_read = go (answer_of (over_limit m.ynd) m.ynd.node_count (short m) s (length ps)) refl
     where
       go : (a : Answer) → answer_of (over_limit m.ynd) m.ynd.node_count (short m) s (length ps) ≡ a → AsRead (left_by a m ps).memory
-      go Done e = renumbered_as_read (accepted m s (length ps) e)
-      go (Refused cause place) e = h
+      go (Ok tt) e = renumbered_as_read (accepted m s (length ps) e)
+      go (Err cause) e = h
 
 -- ---- write-then-read
 
@@ -150,9 +149,9 @@ write_read_as_read m s h = go (write_call m s).answer
     t = (write_call m s).section
 
     reading : (n : ℕ) (c : Answer) → (read_of (take n t) [] m).answer ≡ c → AsRead (if_read n t c (read_of (take n t) [] m).memory m s).memory
-    reading n (Refused cause place) e = h
-    reading n Done e = read_as_read (take n t) [] m e
+    reading n (Err cause) e = h
+    reading n (Ok tt) e = read_as_read (take n t) [] m e
 
-    go : (a : Written) → AsRead (if_written a t m s).memory
-    go (written.Refused cause place) = h
-    go (written.Wrote n) = reading n (read_of (take n t) [] m).answer refl
+    go : (a : Result ℕ Refusal) → AsRead (if_written a t m s).memory
+    go (Err cause) = h
+    go (Ok n) = reading n (read_of (take n t) [] m).answer refl

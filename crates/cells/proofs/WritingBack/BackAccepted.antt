@@ -20,16 +20,15 @@ use Rattle.cells.specs.Blocks.{written}
 use Rattle.cells.specs.Write.{WriteLeft, left, refuse, or_else, after, held, stored, write_held, write_call}
 use Rattle.cells.specs.WriteRead.{Both, if_read, if_written, write_read_of}
 use Rattle.cells.specs.BackCheck.{held_counts, lengths, back_check}
-use Rattle.numbers.specs.declared.answer.Answer.{Answer}
-use Rattle.numbers.specs.declared.answer.Answer.TheVariants.{Done}
-use Rattle.cells.specs.declared.count.Total.{Total}
-use Rattle.cells.specs.declared.count.Total.TheVariants.{Sum, Refused}
-use Rattle.cells.specs.declared.write.Written.{Written}
-use Rattle.cells.specs.declared.write.Written.TheVariants as written
 use Rattle.cells.proofs.Sequences.Tests.{map_take, map_drop, and_left, and_right}
 use Rattle.cells.proofs.WritingBack.BackCheck.{tested_first}
 use Rattle.cells.proofs.Sequences.JoinedCounts.{count_map}
 use Rattle.cells.proofs.WritingBack.AsRead.{whole_map, AsRead}
+use Rattle.std.specs.Prelude.{Result, Ok, Err}
+use Rattle.numbers.specs.Refusals.{Answer}
+use Rattle.numbers.specs.declared.refusal.Refusal.{Refusal}
+use Rattle.numbers.specs.declared.refusal.Refusal.TheVariants.{TooShort, TooManyRefs, WrongSize, AtLimit}
+use Rattle.numbers.specs.declared.refusal.Lent.TheVariants as lent
 
 -- ---- the cell, and the entries that hold it
 
@@ -61,39 +60,39 @@ none_cut pool hs (j ∷ js) t =
 -- ---- a refused writing leaves the section
 
 abbrev Leaves : List ℕ → WriteLeft → Type 0
-Leaves s w = (cause place : ℕ) → w.answer ≡ written.Refused cause place → w.section ≡ s
+Leaves s w = (cause : Refusal) → w.answer ≡ Err cause → w.section ≡ s
 
-after_leaves : (c : Total) (s : List ℕ) (next : WriteLeft) → Leaves s next → Leaves s (after c s next)
-after_leaves (Refused a b) s next h cause place e = refl
-after_leaves (Sum n) s next h cause place e = h cause place e
+after_leaves : {A : Type 0} (c : Result A Refusal) (s : List ℕ) (next : WriteLeft) → Leaves s next → Leaves s (after c s next)
+after_leaves (Err a) s next h cause e = refl
+after_leaves (Ok n) s next h cause e = h cause e
 
-else_leaves : (b : Bool) (x y : ℕ) (s : List ℕ) (next : WriteLeft) → Leaves s next → Leaves s (or_else b (refuse x y s) next)
-else_leaves true x y s next h cause place e = refl
-else_leaves false x y s next h cause place e = h cause place e
+else_leaves : (b : Bool) (x : Refusal) (s : List ℕ) (next : WriteLeft) → Leaves s next → Leaves s (or_else b (refuse x s) next)
+else_leaves true x s next h cause e = refl
+else_leaves false x s next h cause e = h cause e
 
-wrote_leaves : (n : ℕ) (t s : List ℕ) → Leaves s (left (written.Wrote n) t)
-wrote_leaves n t s cause place e = let z : ◌≡◌ {A = ℕ} 0 1 = cc in absurd (omega arith)
+wrote_leaves : (n : ℕ) (t s : List ℕ) → Leaves s (left (Ok n) t)
+wrote_leaves n t s cause e = let z : ◌≡◌ {A = ℕ} 0 1 = cc in absurd (omega arith)
 
 stored_leaves : (h : Memory) (s : List ℕ) → Leaves s (stored h s)
 unfolding stored
 stored_leaves h s =
     let n = length (written h) in
     let t = written h ++ drop n s in
-    else_leaves (ltb (length s) n) 7 5 s (left (written.Wrote n) t) (wrote_leaves n t s)
+    else_leaves (ltb (length s) n) (TooShort lent.Section) s (left (Ok n) t) (wrote_leaves n t s)
 
-held_leaves : (h : Memory) (lack : ℕ) (s : List ℕ) → Leaves s (write_held h lack s)
+held_leaves : (h : Memory) (lack : Answer) (s : List ℕ) → Leaves s (write_held h lack s)
 unfolding write_held
 held_leaves h lack s =
-    let l₃ = or_else (ltb lack 5) (refuse 7 lack s) (stored h s) in
-    let l₂ = or_else (ltb 65535 h.ynd.ref_count) (refuse 11 0 s) l₃ in
+    let l₃ = after lack s (stored h s) in
+    let l₂ = or_else (ltb 65535 h.ynd.ref_count) (refuse TooManyRefs s) l₃ in
     let l₁ = after (check_junctions (λ j. length (values_in h.heights j)) 0 0 h.junctions) s l₂ in
     let l₀ = after (check_nodes (λ n. length (links_in h.links n)) 0 0 h.nodes) s l₁ in
-    else_leaves (over_limit h.ynd) 14 0 s (or_else (maps_cut h.ynd.heightmap_count h.junctions) (refuse 12 0 s) l₀)
-    (else_leaves (maps_cut h.ynd.heightmap_count h.junctions) 12 0 s l₀
+    else_leaves (over_limit h.ynd) AtLimit s (or_else (maps_cut h.ynd.heightmap_count h.junctions) (refuse WrongSize s) l₀)
+    (else_leaves (maps_cut h.ynd.heightmap_count h.junctions) WrongSize s l₀
     (after_leaves (check_nodes (λ n. length (links_in h.links n)) 0 0 h.nodes) s l₁
     (after_leaves (check_junctions (λ j. length (values_in h.heights j)) 0 0 h.junctions) s l₂
-    (else_leaves (ltb 65535 h.ynd.ref_count) 11 0 s l₃
-    (else_leaves (ltb lack 5) 7 lack s (stored h s) (stored_leaves h s))))))
+    (else_leaves (ltb 65535 h.ynd.ref_count) TooManyRefs s l₃
+    (after_leaves lack s (stored h s) (stored_leaves h s))))))
 
 refused_leaves : (m : Memory) (s : List ℕ) → Leaves s (write_call m s)
 unfolding write_call
@@ -125,7 +124,7 @@ module _ (m : Memory) (h : AsRead m) where
   unfolding cell_of junctions_of
   values_room = omega (arith, h.values_fit, values_same hs js)
 
-  room_enough : room_check (held_counts (held m)) (length m.nodes) (length m.links) (length m.junctions) (length m.heights) (length m.refs) ≡ Done
+  room_enough : room_check (held_counts (held m)) (length m.nodes) (length m.links) (length m.junctions) (length m.heights) (length m.refs) ≡ Ok tt
   unfolding held room_check
   room_enough =
       rw (
@@ -137,7 +136,7 @@ module _ (m : Memory) (h : AsRead m) where
       )
       refl
 
-  back_done : back_check (held m) (lengths m) ≡ Done
+  back_done : back_check (held m) (lengths m) ≡ Ok tt
   unfolding back_check held
   back_done = room_enough
 
@@ -147,8 +146,8 @@ module _ (m : Memory) (h : AsRead m) where
   maps_kept = none_cut m.ynd.heightmap_count m.heights js h.maps_whole
 
   -- what an accepted writing is followed by
-  wrote : (s : List ℕ) (n : ℕ) → (write_call m s).answer ≡ written.Wrote n
-      → write_read_of m s ≡ record { answer = written.Wrote n; memory = (read_of (written (held m)) [] m).memory; section = (write_call m s).section }
+  wrote : (s : List ℕ) (n : ℕ) → (write_call m s).answer ≡ Ok n
+      → write_read_of m s ≡ record { answer = Ok n; memory = (read_of (written (held m)) [] m).memory; section = (write_call m s).section }
   unfolding write_call
   wrote s n e =
       tested_first m s n e
@@ -159,8 +158,8 @@ module _ (m : Memory) (h : AsRead m) where
   unfolding write_read_of
   as_writing s = go (write_call m s).answer refl
     where
-      go : (a : Written) → (write_call m s).answer ≡ a → ((write_read_of m s).answer ≡ (write_call m s).answer) × ((write_read_of m s).section ≡ (write_call m s).section)
-      go (written.Refused cause place) e =
-          let same = ap (λ (x : Written). if_written x (write_call m s).section m s) e in
-          (ap (λ (b : Both). b.answer) same ∙ sym e, ap (λ (b : Both). b.section) same ∙ sym (refused_leaves m s cause place e))
-      go (written.Wrote n) e = (ap (λ (b : Both). b.answer) (wrote s n e) ∙ sym e, ap (λ (b : Both). b.section) (wrote s n e))
+      go : (a : Result ℕ Refusal) → (write_call m s).answer ≡ a → ((write_read_of m s).answer ≡ (write_call m s).answer) × ((write_read_of m s).section ≡ (write_call m s).section)
+      go (Err cause) e =
+          let same = ap (λ (x : Result ℕ Refusal). if_written x (write_call m s).section m s) e in
+          (ap (λ (b : Both). b.answer) same ∙ sym e, ap (λ (b : Both). b.section) same ∙ sym (refused_leaves m s cause e))
+      go (Ok n) e = (ap (λ (b : Both). b.answer) (wrote s n e) ∙ sym e, ap (λ (b : Both). b.section) (wrote s n e))

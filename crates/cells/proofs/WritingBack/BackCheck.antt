@@ -13,13 +13,10 @@ use Rattle.records.specs.Records.{node_at, junction_at, junction_bytes}
 use Rattle.records.specs.Put.{joined}
 use Rattle.records.proofs.RecordBack.{junction_back, junction_length}
 use Rattle.records.specs.declared.section.Part.{Part}
-use Rattle.records.specs.declared.section.Located.{Located}
 use Rattle.records.specs.declared.root.Root.{Root}
-use Rattle.numbers.specs.declared.answer.Answer.{Answer}
-use Rattle.numbers.specs.declared.answer.Answer.TheVariants.{Done, Refused}
 use Rattle.cells.specs.Lists.{sum_to}
 use Rattle.cells.specs.Words.{to_node, to_junction}
-use Rattle.cells.specs.Checks.{root_read, refuse_if, too_few, sizes_check, opened, arrays_found, scan, links_at, values_at, bad_node, bad_junction, refuse_more, after, nodes_scan, junctions_scan, counts_of, arrays_check}
+use Rattle.cells.specs.Checks.{root_read, too_few, sizes_check, opened, arrays_found, scan, links_at, values_at, bad_node, bad_junction, nodes_scan, junctions_scan, counts_of, arrays_check}
 use Rattle.cells.specs.Memory.{Memory, Left, unless}
 use Rattle.cells.specs.Read.{filled, room_check, if_held, if_found, read_arrays, read_of}
 use Rattle.cells.specs.Entries.{links_in, values_in, file_node, file_junction}
@@ -31,12 +28,7 @@ use Rattle.cells.specs.Blocks.{refs_block, heights_block, junction_record, junct
 use Rattle.cells.specs.Write.{held, write_call}
 use Rattle.cells.specs.WriteRead.{if_read, if_written, write_read_of}
 use Rattle.cells.specs.BackCheck.{held_counts, lengths, back_tests, back_check}
-use Rattle.cells.specs.declared.arrays.Found.TheVariants as found
 use Rattle.cells.specs.declared.count.Counts.{Counts}
-use Rattle.cells.specs.declared.count.Counted.{Counted}
-use Rattle.cells.specs.declared.count.Counted.TheVariants as counted
-use Rattle.cells.specs.declared.write.Written.{Written}
-use Rattle.cells.specs.declared.write.Written.TheVariants as written
 use Rattle.cells.proofs.Writing.Starts.{start_most}
 use Rattle.cells.proofs.Sequences.Joined.{laid_at}
 use Rattle.cells.proofs.Writing.BlockLaws.{nodes_length, links_length, junctions_length, refs_length}
@@ -44,15 +36,20 @@ use Rattle.cells.proofs.WritingBack.BlocksBack.{junctions_ok, stands_at, junctio
 use Rattle.cells.proofs.WritingBack.SectionBack.{long_enough, root_read_law, nodes_here, links_here, junctions_here, heights_here, refs_here}
 use Rattle.cells.proofs.WritingBack.WrittenBack.{Told, write_told}
 use Rattle.cells.proofs.WritingBack.WrittenFew.{written_few}
+use Rattle.std.specs.Prelude.{Result, Ok, Err, Option}
+use Rattle.numbers.specs.Refusals.{Answer, refuse_if, unless as otherwise}
+use Rattle.numbers.specs.declared.refusal.Refusal.{Refusal}
+use Rattle.numbers.specs.declared.refusal.Refusal.TheVariants.{LinksOutside, ValuesOutside, TooManyNodes, TooManyJunctions}
+use Rattle.numbers.specs.declared.refusal.Array.TheVariants as array
 
 -- ---- scans and sums
 
-pub scan_same : (cause : ℕ) (f g : ℕ → Bool) (i k : ℕ) → ((j : ℕ) → j < i + k → f j ≡ g j) → scan cause f i k ≡ scan cause g i k
+pub scan_same : (cause : ℕ → Refusal) (f g : ℕ → Bool) (i k : ℕ) → ((j : ℕ) → j < i + k → f j ≡ g j) → scan cause f i k ≡ scan cause g i k
 unfolding scan
 scan_same cause f g i zero e = refl
-scan_same cause f g i (suc k) e = λ q. refuse_if (e i (omega arith) q) cause i (scan_same cause f g (suc i) k (λ j h. e j (omega arith)) q)
+scan_same cause f g i (suc k) e = λ q. refuse_if (e i (omega arith) q) (cause i) (scan_same cause f g (suc i) k (λ j h. e j (omega arith)) q)
 
-pub scan_none : (cause i k : ℕ) → scan cause (λ j. false) i k ≡ Done
+pub scan_none : (cause : ℕ → Refusal) (i k : ℕ) → scan cause (λ j. false) i k ≡ Ok tt
 unfolding scan
 scan_none cause i zero = refl
 scan_none cause i (suc k) = scan_none cause (suc i) k
@@ -98,14 +95,14 @@ module _ (links nodes : List (List ℕ)) (ok : accepted (check_nodes (λ n. leng
   size : length block / 40 ≡ length nodes
   size = omega (arith, nodes_length links nodes)
 
-  pub no_4 : nodes_scan block (links_block links nodes) ≡ Done
+  pub no_4 : nodes_scan block (links_block links nodes) ≡ Ok tt
   no_4 =
-      ap (scan 4 (bad_node block (length (links_block links nodes) / 8)) 0) size
-      ∙ scan_same 4 (bad_node block (length (links_block links nodes) / 8)) (λ j. false) 0 (length nodes)
+      ap (scan LinksOutside (bad_node block (length (links_block links nodes) / 8)) 0) size
+      ∙ scan_same LinksOutside (bad_node block (length (links_block links nodes) / 8)) (λ j. false) 0 (length nodes)
       (λ i h. let lt : i < length nodes = omega arith in
       le-ltb (length (links_block links nodes) / 8) ((node_at block (i * 40)).link_id + links_at block i)
       (let q : (node_at block (i * 40)).link_id + links_at block i ≤ length (links_block links nodes) / 8 = omega (arith, start_at i lt, start_most (length (joined (links_in links) (take i nodes))) (length (links_in links (get_or nodes i []))), count_at i lt, part_ends (links_in links) nodes i [] lt, links_length links nodes) in q))
-      ∙ scan_none 4 0 (length nodes)
+      ∙ scan_none LinksOutside 0 (length nodes)
 
   pub links_sum : sum_to (links_at block) (length block / 40) ≡ length (joined (links_in links) nodes)
   links_sum = ap (sum_to (links_at block)) size ∙ sum_same (links_at block) (λ i. length (links_in links (get_or nodes i []))) (length nodes) count_at ∙ sum_joined (links_in links) nodes []
@@ -140,14 +137,14 @@ module _ (heights : List ℕ) (js : List (List ℕ)) (ok : accepted (check_junct
     unfolding file_junction
     start_j i lt = ap (λ r. r.heightmap_ptr) (junction_record_law i lt)
 
-    pub no_5 : junctions_scan block_j (heights_block heights js) ≡ Done
+    pub no_5 : junctions_scan block_j (heights_block heights js) ≡ Ok tt
     no_5 =
-        ap (scan 5 (bad_junction block_j (length (heights_block heights js))) 0) size_j
-        ∙ scan_same 5 (bad_junction block_j (length (heights_block heights js))) (λ j. false) 0 (length js)
+        ap (scan ValuesOutside (bad_junction block_j (length (heights_block heights js))) 0) size_j
+        ∙ scan_same ValuesOutside (bad_junction block_j (length (heights_block heights js))) (λ j. false) 0 (length js)
         (λ i h. let lt : i < length js = omega arith in
         le-ltb (length (heights_block heights js)) ((junction_at block_j (i * 12)).heightmap_ptr + values_at block_j i)
         (let q : (junction_at block_j (i * 12)).heightmap_ptr + values_at block_j i ≤ length (heights_block heights js) = omega (arith, start_j i lt, count_j i lt, part_ends (values_in heights) js i [] lt) in q))
-        ∙ scan_none 5 0 (length js)
+        ∙ scan_none ValuesOutside 0 (length js)
 
     pub heights_sum : sum_to (values_at block_j) (length block_j / 12) ≡ length (joined (values_in heights) js)
     heights_sum = ap (sum_to (values_at block_j)) size_j ∙ sum_same (values_at block_j) (λ i. length (values_in heights (get_or js i []))) (length js) count_j ∙ sum_joined (values_in heights) js []
@@ -185,20 +182,20 @@ module _ (h : Memory) (told : Told h) (m : Memory) where
   pub arrays_done : (root : Root) → (read_arrays root ns ls js hs rs m).answer ≡ room_of (held_counts h)
   unfolding read_arrays arrays_check
   arrays_done root =
-      (λ i. (reading (refuse_more (ltb 65536 (size h.links h.nodes told.nodes_told i)) 6 0
-      (refuse_more (ltb 4096 (size_j h.heights h.junctions told.junctions_told i)) 6 1
-      (after (no_4 h.links h.nodes told.nodes_told i)
-      (after (no_5 h.heights h.junctions told.junctions_told h.ynd.heightmap_count told.maps_told told.values_lent i) (counted.Held (counts_are i))))))).answer)
-      ∙ (λ i. (reading (refuse_more (le-ltb 65536 (length h.nodes) told.nodes_few i) 6 0
-      (refuse_more (le-ltb 4096 (length h.junctions) told.junctions_few i) 6 1 (counted.Held (held_counts h))))).answer)
+      (λ i. (reading (refuse_if (ltb 65536 (size h.links h.nodes told.nodes_told i)) TooManyNodes
+      (refuse_if (ltb 4096 (size_j h.heights h.junctions told.junctions_told i)) TooManyJunctions
+      (otherwise (no_4 h.links h.nodes told.nodes_told i)
+      (otherwise (no_5 h.heights h.junctions told.junctions_told h.ynd.heightmap_count told.maps_told told.values_lent i) (Ok (counts_are i))))))).answer)
+      ∙ (λ i. (reading (refuse_if (le-ltb 65536 (length h.nodes) told.nodes_few i) TooManyNodes
+      (refuse_if (le-ltb 4096 (length h.junctions) told.junctions_few i) TooManyJunctions (Ok (held_counts h))))).answer)
       ∙ room_done (room_of (held_counts h)) (filled root (held_counts h) ns ls js hs rs m)
     where
-      reading : Counted → Left
-      reading c = if_held c m λ k. unless (room_of k) m (record { answer = Done; memory = filled root k ns ls js hs rs m })
+      reading : Result Counts Refusal → Left
+      reading c = if_held c m λ k. unless (room_of k) m (record { answer = Ok tt; memory = filled root k ns ls js hs rs m })
 
-      room_done : (c : Answer) (x : Memory) → (unless c m (record { answer = Done; memory = x })).answer ≡ c
-      room_done Done x = refl
-      room_done (Refused a b) x = refl
+      room_done : (c : Answer) (x : Memory) → (unless c m (record { answer = Ok tt; memory = x })).answer ≡ c
+      room_done (Ok tt) x = refl
+      room_done (Err a) x = refl
 
 -- ---- from the section
 
@@ -218,9 +215,9 @@ read_back_done h m told =
     reading : Part → Part → Part → Part → Part → Left
     reading n l j t r = read_arrays (root_read w) (bytes_of n w []) (bytes_of l w []) (bytes_of j w []) (bytes_of t w []) (bytes_of r w []) m
 
-    by : Located → Located → Located → Located → Located → Left
+    by : Option Part → Option Part → Option Part → Option Part → Option Part → Left
     by a b c d f =
-        if_found (opened 0 a λ n. opened 1 b λ l. opened 2 c λ j. opened 3 d λ t. opened 4 f λ r. found.Arrays (record { nodes = n; links = l; junctions = j; heights = t; refs = r })) m reading
+        if_found (opened array.Nodes a λ n. opened array.Links b λ l. opened array.Junctions c λ j. opened array.Heightmap d λ t. opened array.Refs f λ r. Ok (record { nodes = n; links = l; junctions = j; heights = t; refs = r })) m reading
 
     parts : Root → Left
     parts r =
@@ -240,7 +237,7 @@ read_back_done h m told =
         ∙ arrays_done h told m (root_read w)
 
 -- So no call writes a section that reading refuses, whatever memory it is lent, but for lists that are too short (7).
-pub read_after_write : (m lent : Memory) (s : List ℕ) (n : ℕ) → (write_call m s).answer ≡ written.Wrote n
+pub read_after_write : (m lent : Memory) (s : List ℕ) (n : ℕ) → (write_call m s).answer ≡ Ok n
     → (read_of (take n (write_call m s).section) [] lent).answer ≡ back_tests (held_counts (held m)) (lengths lent)
 unfolding back_check
 read_after_write m lent s n e =
@@ -248,12 +245,12 @@ read_after_write m lent s n e =
     ap (λ (x : List ℕ). (read_of x [] lent).answer) w.bytes ∙ read_back_done (held m) lent w.told
 
 -- so write-then-read may test first, and write only what will be read back
-pub tested_first : (m : Memory) (s : List ℕ) (n : ℕ) → (write_call m s).answer ≡ written.Wrote n
+pub tested_first : (m : Memory) (s : List ℕ) (n : ℕ) → (write_call m s).answer ≡ Ok n
     → write_read_of m s ≡ if_read n (write_call m s).section (back_check (held m) (lengths m)) (read_of (written (held m)) [] m).memory m s
 unfolding write_read_of
 tested_first m s n e =
     let t = (write_call m s).section in
     let w = write_told m s n e in
-    ap (λ (a : Written). if_written a t m s) e
+    ap (λ (a : Result ℕ Refusal). if_written a t m s) e
     ∙ ap (λ (x : List ℕ). if_read n t (read_of x [] m).answer (read_of x [] m).memory m s) w.bytes
     ∙ ap (λ (c : Answer). if_read n t c (read_of (written (held m)) [] m).memory m s) (read_back_done (held m) m w.told)

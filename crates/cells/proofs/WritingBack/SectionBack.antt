@@ -13,8 +13,6 @@ use Rattle.records.specs.Root.{root_of, root_bytes, pages_address}
 use Rattle.records.specs.Layout.{header_size, header_bytes, lay, offset, address, places_of, section_bytes}
 use Rattle.records.specs.declared.root.Root.{Root}
 use Rattle.records.specs.declared.section.Part.{Part}
-use Rattle.records.specs.declared.section.Located.{Located}
-use Rattle.records.specs.declared.section.Located.TheVariants.{At}
 use Rattle.records.proofs.Laid.{header_length}
 use Rattle.records.proofs.RootBack.{RootFits}
 use Rattle.records.proofs.SectionBack as section
@@ -24,6 +22,7 @@ use Rattle.cells.specs.Entries.{links_in}
 use Rattle.cells.specs.Blocks.{refs_block, heights_block, junctions_block, links_block, nodes_block, arrays, blocks, root_for, written}
 use Rattle.cells.proofs.Reading.Undrawn.{root_drawn}
 use Rattle.cells.proofs.Writing.BlockLaws.{nodes_length, links_length, junctions_length, refs_length}
+use Rattle.std.specs.Prelude.{Option, Some}
 
 -- the section is long enough for a root
 pub long_enough : (h : Memory) → 112 ≤ length (written h)
@@ -112,12 +111,12 @@ address_in o h = go (eqb o 0)
 -- an array that is found, and its bytes
 pub record Here (a count width : ℕ) (s b : List ℕ) : Type 0 where
   pub part : Part
-  pub is_at : located a count width (length s) 0 ≡ At part
+  pub is_at : located a count width (length s) 0 ≡ Some part
   pub bytes : bytes_of part s [] ≡ b
 
 pub array_back : (a count width : ℕ) (s b : List ℕ) → Here a count width s b → array_at a count width s [] ≡ b
 unfolding array_at
-array_back a count width s b h = ap (λ (l : Located). part_bytes l s []) h.is_at ∙ h.bytes
+array_back a count width s b h = ap (λ (l : Option Part). part_bytes l s []) h.is_at ∙ h.bytes
 
 module _ (h : Memory) (few : length h.refs ≤ 65535) (small : length (written h) ≤ 16777216) where
   abbrev sizes : List ℕ

@@ -8,15 +8,14 @@ use mathlib.Core.List.{List, [], ◌∷◌}
 use lib.Dec.{ltb}
 use lib.ListN.{length}
 use borrow.Author.Tests.{le-ltb, ne_eqb}
-use Rattle.numbers.specs.Refusals.{when, decided}
-use Rattle.numbers.specs.declared.answer.Answer.{Answer}
+use Rattle.numbers.specs.Refusals.{Answer, when, decided, and_then, unless as otherwise}
 use Rattle.records.specs.Bytes.{number_at, number_bytes}
 use Rattle.records.specs.Put.{joined}
 use Rattle.records.specs.Root.{root_of, root_bytes, unknowns_of}
 use Rattle.records.specs.Layout.{header_bytes, gap_for, start_of, offset, address, places_of, section_bytes}
 use Rattle.records.specs.Sections.{bytes_of}
 use Rattle.cells.specs.NewYnd.{new_ynd, new_root}
-use Rattle.cells.specs.Checks.{too_few, sizes_check, arrays_found, arrays_check, in_arrays, after, count_of}
+use Rattle.cells.specs.Checks.{too_few, sizes_check, arrays_found, arrays_check, count_of}
 use Rattle.cells.specs.Memory.{Memory, memory, Left, unless, over_limit, short_of}
 use Rattle.cells.specs.Read.{if_found, read_arrays, read_of}
 use Rattle.cells.specs.CellOf.{cell_of}
@@ -26,20 +25,22 @@ use Rattle.cells.specs.WriteChecks.{maps_cut, check_nodes, check_junctions}
 use Rattle.cells.specs.Blocks.{laid, arrays, root_for, written}
 use Rattle.cells.specs.Write.{WriteLeft, held, stored, write_held, write_call}
 use Rattle.cells.specs.WriteRead.{write_read_of}
-use Rattle.cells.specs.declared.count.Counted.{Counted}
-use Rattle.cells.specs.declared.write.Written.TheVariants.{Wrote}
 use Rattle.cells.proofs.Reading.FileRead.{read_cell}
 use Rattle.cells.proofs.Reading.UndrawnCell.{undrawn_read, undrawn_size}
 use Rattle.cells.proofs.WritingBack.KeptCells.{kept}
 use Rattle.cells.proofs.WritingBack.Kept.{read_kept}
 use Rattle.cells.proofs.WritingBack.WrittenBack.{write_read_same}
 use Rattle.cells.proofs.Worked.WritePairs.{wrote}
+use Rattle.std.specs.Prelude.{Result, Ok}
+use Rattle.numbers.specs.declared.refusal.Refusal.{Refusal}
+use Rattle.numbers.specs.declared.refusal.Refusal.TheVariants.{SystemTooShort, SystemTooLong, GraphicsTooLong}
+use Rattle.cells.specs.declared.count.Counts.{Counts}
 
 -- ---- a section that holds something
 
 -- 2 and 1, then what follows, as they stood before T-02: 1 is fewer than 112 bytes
 abbrev sizes_before : ℕ → ℕ → Bool → Answer
-sizes_before s g few = decided (when (ltb 16777216 s) 2 0 ∷ when (ltb 16777216 g) 2 1 ∷ when few 1 0 ∷ [])
+sizes_before s g few = decided (when (ltb 16777216 s) SystemTooLong ∷ when (ltb 16777216 g) GraphicsTooLong ∷ when few SystemTooShort ∷ [])
 
 abbrev read_with : Bool → List ℕ → List ℕ → Memory → Left
 read_with few s g m =
@@ -47,11 +48,12 @@ read_with few s g m =
     (if_found (arrays_found (root_of s) (length s) (length g)) m λ n l j h r.
     read_arrays (root_of s) (bytes_of n s g) (bytes_of l s g) (bytes_of j s g) (bytes_of h s g) (bytes_of r s g) m)
 
-abbrev count_with : Bool → List ℕ → List ℕ → Counted
+abbrev count_with : Bool → List ℕ → List ℕ → Result Counts Refusal
 count_with few s g =
-    after (sizes_before (length s) (length g) few)
-    (in_arrays (arrays_found (root_of s) (length s) (length g)) λ n l j h r.
-    arrays_check (bytes_of n s g) (bytes_of l s g) (bytes_of j s g) (bytes_of h s g) (bytes_of r s g))
+    otherwise (sizes_before (length s) (length g) few)
+    (and_then (arrays_found (root_of s) (length s) (length g)) λ a.
+    arrays_check (bytes_of a.nodes s g) (bytes_of a.links s g) (bytes_of a.junctions s g) (bytes_of a.heights s g)
+    (bytes_of a.refs s g))
 
 few_drawn : (s : List ℕ) → 0 < length s → too_few (length s) ≡ ltb (length s) 112
 few_drawn s h = rw (ne_eqb (length s) 0 (λ e. absurd (omega (arith, e)))) (go (ltb (length s) 112))
@@ -95,7 +97,7 @@ module _ (nodes links junctions : List (List ℕ)) (heights : List ℕ) (refs : 
       )
 
   -- the call: 1,152 bytes, wherever there is room
-  pub undrawn_wrote : (s : List ℕ) → 1152 ≤ length s → (write_call undrawn s).answer ≡ Wrote 1152
+  pub undrawn_wrote : (s : List ℕ) → 1152 ≤ length s → (write_call undrawn s).answer ≡ Ok 1152
   undrawn_wrote s room =
       ap (λ (w : WriteLeft). w.answer) (undrawn_goes_on s)
       ∙ wrote (held undrawn) s 1152 (undrawn_size nodes links junctions heights refs) room

@@ -2,7 +2,7 @@
 use Prim.Native.Nat.{ℕ, ◌%◌, ◌≤◌, ◌<◌}
 use native.Mathlib.Omega.{arith}
 use mathlib.Core.Path.{◌≡◌, refl, sym, ap, ◌∙◌}
-use mathlib.Core.Bool.{Bool, true, false, cond}
+use mathlib.Core.Bool.{Bool, true, false}
 use mathlib.Core.List.{List, [], ◌∷◌, ◌++◌, map}
 use lib.Dec.{eqb, ltb}
 use lib.ListN.{length, take, drop, length-take}
@@ -10,11 +10,9 @@ use lib.Seq.{take-append_seam}
 use borrow.Author.Tests.{eqb-true, ltb-true, ltb-false}
 use Rattle.records.specs.Sections.{bytes_of}
 use Rattle.records.specs.declared.root.Root.{Root}
-use Rattle.numbers.specs.declared.answer.Answer.{Answer}
-use Rattle.numbers.specs.declared.answer.Answer.TheVariants as answer
 use Rattle.cells.specs.Lists.{every}
 use Rattle.cells.specs.Checks.{root_read, sizes_check, arrays_found}
-use Rattle.cells.specs.Memory.{Memory, unless, over_limit, short, short_of}
+use Rattle.cells.specs.Memory.{Memory, unless, over_limit, short}
 use Rattle.cells.specs.Read.{if_found, read_arrays, read_of}
 use Rattle.cells.specs.Cell.{Cell}
 use Rattle.cells.specs.CellOf.{link_of, ref_of, node_with, junction_with, nodes_of, junctions_of, refs_of, cell_of}
@@ -26,16 +24,18 @@ use Rattle.cells.specs.Blocks.{refs_block, heights_block, junctions_block, links
 use Rattle.cells.specs.Write.{WriteLeft, left, refuse, or_else, after, held, stored, write_held, write_call}
 use Rattle.cells.specs.WriteCounts.{Cut}
 use Rattle.cells.specs.WriteRead.{if_read, if_written, write_read_of}
-use Rattle.cells.specs.declared.count.Total.{Total}
-use Rattle.cells.specs.declared.count.Total.TheVariants.{Sum, Refused}
-use Rattle.cells.specs.declared.write.Written.{Written}
-use Rattle.cells.specs.declared.write.Written.TheVariants as written
-use Rattle.cells.proofs.Sequences.Tests.{and_left, and_right, true_false}
+use Rattle.cells.proofs.Sequences.Tests.{and_left, and_right}
 use Rattle.cells.proofs.Forms.Limits.{within}
+use Rattle.cells.proofs.Reading.Fits.{whole as whole_lists}
 use Rattle.cells.proofs.Reading.ReadLaws.{small}
 use Rattle.cells.proofs.Reading.FileRead.{read_cell}
 use Rattle.cells.proofs.WritingBack.BlocksBack.{nodes_back, junctions_back, refs_back}
 use Rattle.cells.proofs.WritingBack.SectionBack.{seven_of, stored_root, array_back, root_read_law, nodes_here, links_here, junctions_here, heights_here, refs_here}
+use Rattle.std.specs.Prelude.{Result, Ok, Err}
+use Rattle.numbers.specs.Refusals.{Answer}
+use Rattle.numbers.specs.declared.refusal.Refusal.{Refusal}
+use Rattle.numbers.specs.declared.refusal.Refusal.TheVariants.{TooShort, TooManyRefs, WrongSize, AtLimit}
+use Rattle.numbers.specs.declared.refusal.Lent.TheVariants as lent
 
 -- ---- the section that was written, read
 
@@ -135,28 +135,32 @@ module _ (h : Memory) (told : Told h) (small : length (written h) ≤ 16777216) 
 
 -- ---- what an accepted call says
 
-not_wrote : {P : Type 0} {a b n : ℕ} → written.Refused a b ≡ written.Wrote n → P
+not_wrote : {P : Type 0} {a : Refusal} {n : ℕ} → ◌≡◌ {A = Result ℕ Refusal} (Err a) (Ok n) → P
 not_wrote e = let z : ◌≡◌ {A = ℕ} 0 1 = cc in absurd (omega arith)
 
-after_told : (c : Total) (s : List ℕ) (next : WriteLeft) (n : ℕ) → (after c s next).answer ≡ written.Wrote n → (accepted c ≡ true) × (after c s next ≡ next)
-after_told (Refused a b) s next n e = not_wrote e
-after_told (Sum k) s next n e = (refl, refl)
+after_told : (c : Result ℕ Refusal) (s : List ℕ) (next : WriteLeft) (n : ℕ) → (after c s next).answer ≡ Ok n → (accepted c ≡ true) × (after c s next ≡ next)
+after_told (Err a) s next n e = not_wrote e
+after_told (Ok k) s next n e = (refl, refl)
 
-else_told : (b : Bool) (cause place : ℕ) (s : List ℕ) (next : WriteLeft) (n : ℕ) → (or_else b (refuse cause place s) next).answer ≡ written.Wrote n → (b ≡ false) × (or_else b (refuse cause place s) next ≡ next)
-else_told true cause place s next n e = not_wrote e
-else_told false cause place s next n e = (refl, refl)
+list_told : (c : Answer) (s : List ℕ) (next : WriteLeft) (n : ℕ) → (after c s next).answer ≡ Ok n → (c ≡ Ok tt) × (after c s next ≡ next)
+list_told (Err a) s next n e = not_wrote e
+list_told (Ok tt) s next n e = (refl, refl)
+
+else_told : (b : Bool) (cause : Refusal) (s : List ℕ) (next : WriteLeft) (n : ℕ) → (or_else b (refuse cause s) next).answer ≡ Ok n → (b ≡ false) × (or_else b (refuse cause s) next ≡ next)
+else_told true cause s next n e = not_wrote e
+else_told false cause s next n e = (refl, refl)
 
 -- what an accepted writing stores: n bytes, the section of h
 pub record Held (h : Memory) (l : WriteLeft) (n : ℕ) : Type 0 where
   pub told : Told h
   pub bytes : take n l.section ≡ written h
 
-stored_told_law : (h : Memory) (s : List ℕ) (n : ℕ) → (stored h s).answer ≡ written.Wrote n → take n (stored h s).section ≡ written h
+stored_told_law : (h : Memory) (s : List ℕ) (n : ℕ) → (stored h s).answer ≡ Ok n → take n (stored h s).section ≡ written h
 unfolding stored
 stored_told_law h s n e =
-    let next = left (written.Wrote (length (written h))) (written h ++ drop (length (written h)) s) in
-    let r = else_told (ltb (length s) (length (written h))) 7 5 s next n e in
-    let same : written.Wrote (length (written h)) ≡ written.Wrote n = ap (λ (l : WriteLeft). l.answer) (sym r.1) ∙ e in
+    let next = left (Ok (length (written h))) (written h ++ drop (length (written h)) s) in
+    let r = else_told (ltb (length s) (length (written h))) (TooShort lent.Section) s next n e in
+    let same : ◌≡◌ {A = Result ℕ Refusal} (Ok (length (written h))) (Ok n) = ap (λ (l : WriteLeft). l.answer) (sym r.1) ∙ e in
     let long : length (written h) ≡ n = cc in
     ap (λ (l : WriteLeft). take n l.section) r.1
     ∙ ap (λ (k : ℕ). take k (written h ++ drop (length (written h)) s)) (sym long)
@@ -172,43 +176,33 @@ held_cut m =
     few n l = omega (arith, length-take n l)
 
 -- the heightmap values are all lent, where no list is too short
-values_all : (m : Memory) → ltb (short m) 5 ≡ false → m.ynd.heightmap_count ≤ length (held m).heights
-unfolding held short_of
-values_all m t =
-    go (ltb (length m.nodes) m.ynd.node_count) (ltb (length m.links) m.ynd.link_count) (ltb (length m.junctions) m.ynd.junction_count)
-    (ltb (length m.heights) m.ynd.heightmap_count) (ltb (length m.refs) m.ynd.ref_count) refl t
-  where
-    go : (a b c d f : Bool) → ltb (length m.heights) m.ynd.heightmap_count ≡ d → ltb (cond a 0 (cond b 1 (cond c 2 (cond d 3 (cond f 4 5))))) 5 ≡ false
-        → m.ynd.heightmap_count ≤ length (take m.ynd.heightmap_count m.heights)
-    go true b c d f u e = true_false e
-    go false true c d f u e = true_false e
-    go false false true d f u e = true_false e
-    go false false false true f u e = true_false e
-    go false false false false f u e = omega (arith, length-take m.ynd.heightmap_count m.heights, ltb-false (length m.heights) m.ynd.heightmap_count u)
+values_all : (m : Memory) → short m ≡ Ok tt → m.ynd.heightmap_count ≤ length (held m).heights
+unfolding held
+values_all m t = omega (arith, length-take m.ynd.heightmap_count m.heights, (whole_lists m t).heights_fit)
 
-held_told : (h : Memory) → Cut h → (lack : ℕ) → (ltb lack 5 ≡ false → h.ynd.heightmap_count ≤ length h.heights)
-    → (s : List ℕ) (n : ℕ) → (write_held h lack s).answer ≡ written.Wrote n → Held h (write_held h lack s) n
+held_told : (h : Memory) → Cut h → (lack : Answer) → (lack ≡ Ok tt → h.ynd.heightmap_count ≤ length h.heights)
+    → (s : List ℕ) (n : ℕ) → (write_held h lack s).answer ≡ Ok n → Held h (write_held h lack s) n
 unfolding write_held
 held_told h cut lack lent s n e₀ =
     let l₄ = stored h s in
-    let l₃ = or_else (ltb lack 5) (refuse 7 lack s) l₄ in
-    let l₂ = or_else (ltb 65535 h.ynd.ref_count) (refuse 11 0 s) l₃ in
+    let l₃ = after lack s l₄ in
+    let l₂ = or_else (ltb 65535 h.ynd.ref_count) (refuse TooManyRefs s) l₃ in
     let l₁ = after (check_junctions (λ j. length (values_in h.heights j)) 0 0 h.junctions) s l₂ in
     let l₀ = after (check_nodes (λ n. length (links_in h.links n)) 0 0 h.nodes) s l₁ in
-    let l = or_else (maps_cut h.ynd.heightmap_count h.junctions) (refuse 12 0 s) l₀ in
-    let r₀ = else_told (over_limit h.ynd) 14 0 s l n e₀ in
-    let e₅ : l.answer ≡ written.Wrote n = ap (λ (l : WriteLeft). l.answer) (sym r₀.1) ∙ e₀ in
-    let r₅ = else_told (maps_cut h.ynd.heightmap_count h.junctions) 12 0 s l₀ n e₅ in
-    let e : l₀.answer ≡ written.Wrote n = ap (λ (l : WriteLeft). l.answer) (sym r₅.1) ∙ e₅ in
+    let l = or_else (maps_cut h.ynd.heightmap_count h.junctions) (refuse WrongSize s) l₀ in
+    let r₀ = else_told (over_limit h.ynd) AtLimit s l n e₀ in
+    let e₅ : l.answer ≡ Ok n = ap (λ (l : WriteLeft). l.answer) (sym r₀.1) ∙ e₀ in
+    let r₅ = else_told (maps_cut h.ynd.heightmap_count h.junctions) WrongSize s l₀ n e₅ in
+    let e : l₀.answer ≡ Ok n = ap (λ (l : WriteLeft). l.answer) (sym r₅.1) ∙ e₅ in
     let limits = within h.ynd r₀.0 in
     let r₁ = after_told (check_nodes (λ n. length (links_in h.links n)) 0 0 h.nodes) s l₁ n e in
-    let e₁ : l₁.answer ≡ written.Wrote n = ap (λ (l : WriteLeft). l.answer) (sym r₁.1) ∙ e in
+    let e₁ : l₁.answer ≡ Ok n = ap (λ (l : WriteLeft). l.answer) (sym r₁.1) ∙ e in
     let r₂ = after_told (check_junctions (λ j. length (values_in h.heights j)) 0 0 h.junctions) s l₂ n e₁ in
-    let e₂ : l₂.answer ≡ written.Wrote n = ap (λ (l : WriteLeft). l.answer) (sym r₂.1) ∙ e₁ in
-    let r₃ = else_told (ltb 65535 h.ynd.ref_count) 11 0 s l₃ n e₂ in
-    let e₃ : l₃.answer ≡ written.Wrote n = ap (λ (l : WriteLeft). l.answer) (sym r₃.1) ∙ e₂ in
-    let r₄ = else_told (ltb lack 5) 7 lack s l₄ n e₃ in
-    let e₄ : l₄.answer ≡ written.Wrote n = ap (λ (l : WriteLeft). l.answer) (sym r₄.1) ∙ e₃ in
+    let e₂ : l₂.answer ≡ Ok n = ap (λ (l : WriteLeft). l.answer) (sym r₂.1) ∙ e₁ in
+    let r₃ = else_told (ltb 65535 h.ynd.ref_count) TooManyRefs s l₃ n e₂ in
+    let e₃ : l₃.answer ≡ Ok n = ap (λ (l : WriteLeft). l.answer) (sym r₃.1) ∙ e₂ in
+    let r₄ = list_told lack s l₄ n e₃ in
+    let e₄ : l₄.answer ≡ Ok n = ap (λ (l : WriteLeft). l.answer) (sym r₄.1) ∙ e₃ in
     record {
       told = record {
         nodes_told = r₁.0;
@@ -222,20 +216,20 @@ held_told h cut lack lent s n e₀ =
       bytes = ap (λ (l : WriteLeft). take n l.section) (r₀.1 ∙ r₅.1 ∙ r₁.1 ∙ r₂.1 ∙ r₃.1 ∙ r₄.1) ∙ stored_told_law h s n e₄;
     }
 
-pub write_told : (m : Memory) (s : List ℕ) (n : ℕ) → (write_call m s).answer ≡ written.Wrote n → Held (held m) (write_call m s) n
+pub write_told : (m : Memory) (s : List ℕ) (n : ℕ) → (write_call m s).answer ≡ Ok n → Held (held m) (write_call m s) n
 unfolding write_call held
 write_told m s n e = held_told (held m) (held_cut m) (short m) (values_all m) s n e
 
 -- an accepted reading is of at most 16,777,216 bytes
-read_few : (s g : List ℕ) (m : Memory) → (read_of s g m).answer ≡ answer.Done → length s ≤ 16777216
+read_few : (s g : List ℕ) (m : Memory) → (read_of s g m).answer ≡ Ok tt → length s ≤ 16777216
 unfolding read_of
 read_few s g m e = go (sizes_check (length s) (length g)) refl e
   where
     go : (c : Answer) → sizes_check (length s) (length g) ≡ c
-        → (unless c m (if_found (arrays_found (root_read s) (length s) (length g)) m λ n l j h r. read_arrays (root_read s) (bytes_of n s g) (bytes_of l s g) (bytes_of j s g) (bytes_of h s g) (bytes_of r s g) m)).answer ≡ answer.Done
+        → (unless c m (if_found (arrays_found (root_read s) (length s) (length g)) m λ n l j h r. read_arrays (root_read s) (bytes_of n s g) (bytes_of l s g) (bytes_of j s g) (bytes_of h s g) (bytes_of r s g) m)).answer ≡ Ok tt
         → length s ≤ 16777216
-    go (answer.Refused a b) d t = let z : ◌≡◌ {A = ℕ} 0 1 = cc in absurd (omega arith)
-    go answer.Done d t = (small (length s) (length g) d).0
+    go (Err a) d t = let z : ◌≡◌ {A = ℕ} 0 1 = cc in absurd (omega arith)
+    go (Ok tt) d t = (small (length s) (length g) d).0
 
 pub whole_held : (m : Memory) → whole_of (held m) ≡ cell_of m
 unfolding held cell_of nodes_of junctions_of refs_of
@@ -250,12 +244,12 @@ write_read_same m s k = go (write_call m s).answer refl
     t = (write_call m s).section
 
     reading : (n : ℕ) → take n t ≡ written (held m) → Told (held m) → (c : Answer) → (read_of (take n t) [] m).answer ≡ c → cell_of (if_read n t c (read_of (take n t) [] m).memory m s).memory ≡ cell_of m
-    reading n b told (answer.Refused x y) e = refl
-    reading n b told answer.Done e =
+    reading n b told (Err x) e = refl
+    reading n b told (Ok tt) e =
         read_cell (take n t) [] m e ∙ ap (λ (w : List ℕ). file_cell w []) b
         ∙ section_back (held m) told (let q : length (written (held m)) ≤ 16777216 = omega (arith, read_few (take n t) [] m e, ap length b) in q) (ap kept (whole_held m) ∙ k)
         ∙ whole_held m
 
-    go : (a : Written) → (write_call m s).answer ≡ a → cell_of (if_written a t m s).memory ≡ cell_of m
-    go (written.Refused x y) e = refl
-    go (written.Wrote n) e = let w = write_told m s n e in reading n w.bytes w.told (read_of (take n t) [] m).answer refl
+    go : (a : Result ℕ Refusal) → (write_call m s).answer ≡ a → cell_of (if_written a t m s).memory ≡ cell_of m
+    go (Err x) e = refl
+    go (Ok n) e = let w = write_told m s n e in reading n w.bytes w.told (read_of (take n t) [] m).answer refl

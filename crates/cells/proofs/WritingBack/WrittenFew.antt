@@ -12,13 +12,13 @@ use Rattle.cells.specs.Memory.{Memory}
 use Rattle.cells.specs.Entries.{links_in, values_in}
 use Rattle.cells.specs.WriteChecks.{accepted, check_nodes, check_junctions}
 use Rattle.cells.specs.Blocks.{refs_block, heights_block, junctions_block, links_block, nodes_block, arrays, blocks, root_for, written}
-use Rattle.cells.specs.declared.count.Total.{Total}
-use Rattle.cells.specs.declared.count.Total.TheVariants.{Sum, Refused}
 use Rattle.cells.proofs.Sequences.Tests.{true_false}
 use Rattle.cells.proofs.Writing.Ranges.{value_count_law, value_small}
 use Rattle.cells.proofs.Writing.BlockLaws.{nodes_length, links_length, junctions_length, refs_length}
 use Rattle.cells.proofs.Writing.WriteTotals.{nodes_total, junctions_total}
 use Rattle.cells.proofs.WritingBack.WrittenBack.{Told}
+use Rattle.std.specs.Prelude.{Result, Ok, Err}
+use Rattle.numbers.specs.declared.refusal.Refusal.{Refusal}
 
 total_most : (n a b c d e : ℕ) → total n (a ∷ b ∷ c ∷ d ∷ e ∷ []) ≤ n + a + b + c + d + e + 75
 unfolding total
@@ -32,9 +32,9 @@ total_most n a b c d e =
 links_most : (links nodes : List (List ℕ)) → accepted (check_nodes (λ n. length (links_in links n)) 0 0 nodes) ≡ true → length (joined (links_in links) nodes) ≤ 65566
 links_most links nodes t = go (check_nodes (λ n. length (links_in links n)) 0 0 nodes) refl t
   where
-    go : (c : Total) → check_nodes (λ n. length (links_in links n)) 0 0 nodes ≡ c → accepted c ≡ true → length (joined (links_in links) nodes) ≤ 65566
-    go (Refused cause place) e u = true_false (sym u)
-    go (Sum n) e u = let r = nodes_total (links_in links) (λ n. length (links_in links n)) (λ x. refl) 0 0 nodes n (omega arith) e in omega (arith, r.0, r.1)
+    go : (c : Result ℕ Refusal) → check_nodes (λ n. length (links_in links n)) 0 0 nodes ≡ c → accepted c ≡ true → length (joined (links_in links) nodes) ≤ 65566
+    go (Err cause) e u = true_false (sym u)
+    go (Ok n) e u = let r = nodes_total (links_in links) (λ n. length (links_in links n)) (λ x. refl) 0 0 nodes n (omega arith) e in omega (arith, r.0, r.1)
 
 values_most : (heights : List ℕ) (js : List (List ℕ)) → accepted (check_junctions (λ j. length (values_in heights j)) 0 0 js) ≡ true → length (joined (values_in heights) js) ≤ 130560
 values_most heights js t = go (check_junctions (λ j. length (values_in heights j)) 0 0 js) refl t
@@ -42,9 +42,9 @@ values_most heights js t = go (check_junctions (λ j. length (values_in heights 
     small : (j : List ℕ) → length (values_in heights j) ≤ 65025
     small j = omega (arith, value_count_law heights j, value_small (length heights) j)
 
-    go : (c : Total) → check_junctions (λ j. length (values_in heights j)) 0 0 js ≡ c → accepted c ≡ true → length (joined (values_in heights) js) ≤ 130560
-    go (Refused cause place) e u = true_false (sym u)
-    go (Sum n) e u = let r = junctions_total (values_in heights) (λ j. length (values_in heights j)) (λ x. refl) small 0 0 js n (omega arith) e in omega (arith, r.0, r.1)
+    go : (c : Result ℕ Refusal) → check_junctions (λ j. length (values_in heights j)) 0 0 js ≡ c → accepted c ≡ true → length (joined (values_in heights) js) ≤ 130560
+    go (Err cause) e u = true_false (sym u)
+    go (Ok n) e u = let r = junctions_total (values_in heights) (λ j. length (values_in heights j)) (λ x. refl) small 0 0 js n (omega arith) e in omega (arith, r.0, r.1)
 
 pub written_few : (h : Memory) → Told h → length (written h) ≤ 16777216
 unfolding written arrays

@@ -1,30 +1,27 @@
-use Rattle.std.proofs.Common.{◌≡◌, map, take, arith, refl, ◌∙◌, length-set}
-use Rattle.std.proofs.Math.Seq.{drop-set-lt}
-use Rattle.cells.specs.NodeWords.{is_ped}
-use Rattle.cells.proofs.Renumbering.NumberTable.{table_starts, table_turn, table_done}
+use Rattle.std.proofs.Common.{◌≡◌, [], ap, ◌∙◌, arith, length, length-append, map, rules, get_or}
+use Rattle.std.proofs.lemmas.Slice.Zip.{zip_turn, zip_end}
+use Rattle.cells.specs.NodeWords.{is_ped, number_of}
+use Rattle.cells.proofs.Renumbering.Reordered.{places_many, place_at}
+use Rattle.cells.proofs.Renumbering.NumberTable.{table_starts, table_turn, table_all}
 use Rattle.cells.proofs.new_numbers.put_numbers.Goals as goal
 
-pub loop-i-init : goal.loop-i-init
-loop-i-init c =
-    let a = c.args in
-    (omega arith, refl, refl, table_starts (map is_ped (take a.n a.nodes.now)) a.nodes.now a.table.now c.requires.3)
+pub loop-w-init : goal.loop-w-init
+loop-w-init c = table_starts (map is_ped c.args.nodes.now) c.args.nodes.now c.args.table.now c.requires.2
 
-pub loop-i-preserved : goal.loop-i-preserved
-loop-i-preserved c =
-    let l = c.loop-i in
-    let a = c.args in
-    let k = c.number_of-k in (
-      omega arith,
-      length-set l.table k.result _ ∙ l.invariant.1,
-      drop-set-lt 65536 l.table k.result _ (omega arith) ∙ l.invariant.2,
-      table_turn (map is_ped (take a.n a.nodes.now)) a.nodes.now l.i k.result _ l.table
-          (omega arith) k.ensures (omega arith)
-          (c.requires.4 l.i c.loop-i-test.true) l.invariant.3,
-    )
+pub loop-w-preserved : goal.loop-w-preserved
+loop-w-preserved c =
+    let l = c.loop-w in
+    let ws = c.args.nodes.now in
+    let at = zip_turn ws c.args.places.now l.yielded c.into_iter-w-iterator.result l.w-iterator c.next.new.self c.next.result
+    (search rules) (search rules) l.yielded_by (c.in-Some.w, c.in-Some.place) c.in-Some.is c.next.ensures.steps in
+    let number : c.in-Some.w.now ≡ get_or ws (length l.yielded) [] = at.2 [] in
+    rw length-append (table_turn (map is_ped ws) ws (length l.yielded) c.number_of.result c.in-Some.place.now l.table at.0
+    (c.number_of.ensures ∙ ap number_of number) (omega arith) (at.3 0 ∙ rw c.requires.1 (place_at ws _ at.0)) l.invariant)
 
 pub returns : goal.returns
 returns c =
-    let l = c.loop-i in
-    let a = c.args in
-    let e : l.i ≡ a.n = omega arith in
-    (λ k h. l.invariant.3 k h ∙ table_done a.n l.i a.nodes.now e k, l.invariant.2, l.invariant.1)
+    let l = c.loop-w in
+    let ws = c.args.nodes.now in
+    let many = zip_end ws c.args.places.now l.yielded c.into_iter-w-iterator.result l.w-iterator c.next.new.self c.next.result
+    (search rules) (search rules) l.yielded_by c.in-None.is c.next.ensures.steps in
+    λ k h. l.invariant k h ∙ table_all ws _ (omega (arith, places_many ws, ap length c.requires.1)) k

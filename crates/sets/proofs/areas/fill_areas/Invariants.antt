@@ -1,13 +1,9 @@
-use Rattle.std.proofs.Common.{length, get_or, ◌-◌, ◌≡◌, ◌≤◌, ◌<◌, ℕ}
+use Rattle.std.proofs.Common.{length, get_or, ◌≡◌, ◌≤◌, ◌<◌, ℕ}
 use Rattle.sets.specs.Leave.{start_of}
 use Rattle.sets.specs.SetParts.{areas_of}
 use Rattle.sets.proofs.areas.fill_areas.Given as goal
 
 abbrev pub invariant-loop-i : goal.invariant-loop-i
 invariant-loop-i l =
-    (l.i ≤ length l.members) × (l.start ≡ start_of 15 l.members l.i) × (l.start ≤ length l.nodes)
-    × (length l.areas ≡ length l.fn.areas)
+    (l.start ≡ start_of 15 l.members l.i) × (l.start ≤ length l.nodes)
     × ((j : ℕ) → j < l.i → get_or l.areas j 0 ≡ get_or (areas_of l.members l.nodes) j 0)
-
-abbrev pub decreases-loop-i : goal.decreases-loop-i
-decreases-loop-i l = length l.members - l.i

@@ -1,16 +1,23 @@
-use Rattle.std.proofs.Common.{length, arith, sym, ◌∙◌}
-use Rattle.sets.specs.SetSoundParts.{part_meets}
-use Rattle.sets.proofs.ArrivalLaws.{below_yes, below_no}
+use Rattle.std.proofs.Common.{ℕ, List, length, refl, arith, rules, tests, sym, subst, ◌∙◌}
+use Rattle.std.proofs.lemmas.Iterator.{YieldsList-from_range}
+use Rattle.std.proofs.lemmas.Iterator.Search.{all_from_yields_List}
+use Rattle.cells.specs.LookupCall.{numbers_in}
+use Rattle.walks.specs.SoundParts.{Ready}
+use Rattle.sets.proofs.ArrivalLaws.{meets_by, meets_all, ready_taken}
 use Rattle.sets.proofs.arrivals.members_meet.Goals as goal
 
-pub returns-then-not-member_meets : goal.returns-then-not-member_meets
-returns-then-not-member_meets c =
-    let a = c.args in
-    below_no (part_meets a.areas.now a.members.now a.nodes.now a.links.now a.k) (length a.members.now) c.loop-i.i
-    c.loop-i-test.true (sym c.member_meets.ensures ∙ c.if-not-member_meets.true)
+pub invariant_of-target : goal.invariant_of-target
+invariant_of-target c = record {
+  ready = subst (λ (l : List (List ℕ)). Ready (length l) l c.args.scratch.now) (sym c.own_entries.ensures)
+      (ready_taken _ _ _ c.requires.1);
+}
 
 pub returns : goal.returns
 returns c =
-    let a = c.args in
-    below_yes (part_meets a.areas.now a.members.now a.nodes.now a.links.now a.k) (length a.members.now)
-    (λ j lt. c.loop-i.invariant.1 j (omega arith))
+    let x = c.args.set.now in
+    let k = c.args.k in
+    let own = c.own_entries in
+    let n = length x.members.now in
+    let f = meets_by x.areas.now x.members.now x.nodes.now x.links.now k (numbers_in (length own.result.now) own.result.now) in
+    all_from_yields_List f _ _ _ c.all.ensures.ran (YieldsList-from_range 0 n n refl (omega arith)) (λ x b q h. search (rules, tests))
+    ∙ meets_all x.areas.now x.members.now x.nodes.now x.links.now k own.result.now own.ensures

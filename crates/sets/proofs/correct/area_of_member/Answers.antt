@@ -1,14 +1,16 @@
-use Rattle.std.proofs.Common.{List, ℕ, take, ap, ◌∙◌}
+use Rattle.std.proofs.Common.{length, ap, refl, ◌∙◌, arith}
+use Rattle.std.proofs.Math.Seq.{take_all}
 use Rattle.cells.specs.NodeWords.{first_area}
-use Rattle.sets.proofs.PartLaws.{rest}
+use Rattle.sets.specs.Leave.{start_of}
+use Rattle.sets.specs.SetParts.{count_of}
 use Rattle.sets.proofs.CorrectLaws.{area_at_start}
 use Rattle.sets.proofs.correct.area_of_member.Goals as goal
 
 pub returns : goal.returns
 returns c =
-    let a = c.args in
-    let s = c.start_in-start in
-    let n = c.word_at-n in
+    let ws = c.args.members.now in
+    let i = c.args.i in
+    let own = c.own_entries-own in
     c.own_area.ensures
-    ∙ ap (λ (l : List (List ℕ)). first_area (take n.result l)) (rest a.nodes.now s.result)
-    ∙ area_at_start a.members.now a.nodes.now a.i s.result n.result c.requires.2 c.requires.0 s.ensures.0 n.ensures.0
+    ∙ ap first_area (take_all (length own.result.now) own.result.now (omega arith) ∙ own.ensures)
+    ∙ area_at_start ws c.args.nodes.now i (start_of 15 ws i) (count_of 10 ws i) c.requires.2 c.requires.0 refl refl

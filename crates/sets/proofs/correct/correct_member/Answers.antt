@@ -1,4 +1,4 @@
-use Rattle.std.proofs.Common.{◌≡◌, ℕ, true, false, get_or, take, drop, sym, ap, ◌∙◌, ne_eqb}
+use Rattle.std.proofs.Common.{◌≡◌, ℕ, ◌+◌, ◌≤◌, length, arith, rules, true, false, get_or, take, drop, sym, ap, ◌∙◌, ne_eqb}
 use Rattle.cells.specs.Area.{belongs}
 use Rattle.sets.specs.SetParts.{count_of, areas_of}
 use Rattle.sets.specs.Leave.{start_of}
@@ -18,26 +18,35 @@ returns-then-belongs_to c o t =
     (part_claimed x a.i (count_of 11 ws a.i) (take (count_of 16 ws a.i) (drop (start_of 16 ws a.i) l)) a.area
     c.requires.6 c.requires.7 (ne_eqb a.i a.j c.if-i-j.false) claims)
 
-pub relabel_all-requires : goal.relabel_all-requires
-relabel_all-requires c =
+-- the member's links lie in the list
+inside : (c : goal.After-word_at-count) → c.count_before-start.result + c.word_at-count.result ≤ length c.args.links.now
+inside c =
     let a = c.args in
-    let s = c.start_in-start in
-    let n = c.word_at-count in (
-      lent_links a.members.now a.links.now a.i c.requires.3 c.requires.0
-          s.result n.result s.ensures.0 n.ensures.0,
-      c.requires.4,
-      c.requires.5,
-    )
+    let s = c.count_before-start in
+    let n = c.word_at-count in
+    lent_links a.members.now a.links.now a.i c.requires.3 c.requires.0 s.result n.result s.ensures n.ensures.0
+
+pub overflow_add-start : goal.overflow_add-start
+overflow_add-start c = let h = inside c in search rules
+
+pub offset_bounds-links-start : goal.offset_bounds-links-start
+offset_bounds-links-start c =
+    let h = inside c in
+    let s : c.count_before-start.result ≤ length c.args.links.now = omega arith in
+    search rules
+
+pub slice_bounds-relabel_all-end : goal.slice_bounds-relabel_all-end
+slice_bounds-relabel_all-end c = inside c
 
 pub returns : goal.returns
 returns c o t =
     let a = c.args in
     let ws = a.members.now in
-    let s = c.start_in-start in
+    let s = c.count_before-start in
     let n = c.word_at-count in
     let free : belongs (get_or (areas_of ws a.nodes.now) a.i 0) a.area ≡ false =
     ap (λ (k : ℕ). belongs k a.area) (sym c.area_of_member.ensures) ∙ sym c.belongs_to.ensures
     ∙ c.if-belongs_to.false in
-    member_corrected ws a.links.now a.i c.requires.3 c.requires.0 s.result n.result s.ensures.0 n.ensures.0
+    member_corrected ws a.links.now a.i c.requires.3 c.requires.0 s.result n.result s.ensures n.ensures.0
     (change_in ws a.nodes.now a.j o) a.area c.requires.6 c.requires.7
     (ne_eqb a.i a.j c.if-i-j.false) free c.relabel_all.new.links (c.relabel_all.ensures o t)

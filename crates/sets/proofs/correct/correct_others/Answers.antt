@@ -1,4 +1,4 @@
-use Rattle.std.proofs.Common.{◌≡◌, ℕ, ◌+◌, ◌≤◌, false, length, get_or, arith, refl, sym, ap, ◌∙◌}
+use Rattle.std.proofs.Common.{◌≡◌, ℕ, ◌+◌, ◌≤◌, false, length, get_or, arith, sym, ap, ◌∙◌}
 use Rattle.cells.specs.Lookup.{first_with}
 use Rattle.sets.specs.SetRenumber.{is_member}
 use Rattle.sets.specs.SetParts.{count_of, areas_of}
@@ -18,28 +18,24 @@ returns-then-not-is_member c o t =
     sym (others_stay (change_in a.members.now a.nodes.now a.j o) later 0 a.members.now a.links.now)
 
 pub loop-i-init : goal.loop-i-init
-loop-i-init c =
+loop-i-init c o t =
     let a = c.args in
-    (omega arith, refl, λ o t. sym (parts_start (change_in a.members.now a.nodes.now a.j o) a.members.now a.links.now))
+    sym (parts_start (change_in a.members.now a.nodes.now a.j o) a.members.now a.links.now)
 
 pub loop-i-preserved : goal.loop-i-preserved
-loop-i-preserved c =
+loop-i-preserved c o t =
     let a = c.args in
     let l = c.loop-i in
     let ws = a.members.now in
     let fit : start_of 16 ws l.i + count_of 16 ws l.i ≤ length l.links =
-    omega (arith, part_inside c.requires.3 l.i c.loop-i-test.true) in (
-      omega arith,
-      omega arith,
-      λ o t.
-          l.invariant.2 o t
-          ∙ parts_turn (change_in ws a.nodes.now a.j o) ws l.links c.correct_member.new.links l.i c.loop-i-test.true fit
-          (c.correct_member.ensures o t),
-    )
+    omega (arith, part_inside c.requires.3 l.i c.loop-i-test.true) in
+    l.invariant o t
+    ∙ parts_turn (change_in ws a.nodes.now a.j o) ws l.links c.correct_member.new.links l.i c.loop-i-test.true fit
+    (c.correct_member.ensures o t)
 
 pub returns : goal.returns
 returns c o t =
     let a = c.args in
     let l = c.loop-i in
-    sym (l.invariant.2 o t
+    sym (l.invariant o t
     ∙ parts_end (change_in a.members.now a.nodes.now a.j o) a.members.now l.links l.i c.loop-i-test.false)

@@ -1,4 +1,4 @@
-use Rattle.std.proofs.Common.{◌≡◌, ◌-◌, ◌≤◌, length}
+use Rattle.std.proofs.Common.{◌≡◌}
 use Rattle.cells.specs.Order.{Old}
 use Rattle.sets.specs.RenumberMember.{correct_parts}
 use Rattle.sets.specs.CorrectParts.{Tells, change_in}
@@ -7,10 +7,6 @@ use Rattle.sets.proofs.correct.correct_others.Given as goal
 
 abbrev pub invariant-loop-i : goal.invariant-loop-i
 invariant-loop-i l =
-    (l.i ≤ length l.members) × (length l.links ≡ length l.initial.links)
-    × ((o : Old) → Tells o l.table
+    (o : Old) → Tells o l.table
     → correct_parts (change_in l.members l.nodes l.j o) 0 l.members l.initial.links
-    ≡ whole (change_in l.members l.nodes l.j o) l.members l.i l.links)
-
-abbrev pub decreases-loop-i : goal.decreases-loop-i
-decreases-loop-i l = length l.members - l.i
+    ≡ whole (change_in l.members l.nodes l.j o) l.members l.i l.links

@@ -7,7 +7,8 @@ use Rattle.sets.proofs.crossing.has_room.Goals as goal
 pub returns-then-choices-room : goal.returns-then-choices-room
 returns-then-choices-room c =
     let a = c.args in
-    trail_few a.areas.now a.members.now a.nodes.now a.links.now c.requires.lent c.requires.links_hold a.choices.now
+    let s = c.args.set.now in
+    trail_few s.areas.now s.members.now s.nodes.now s.links.now s.lent s.links_hold a.choices.now
     (location a.member a.place) a.room c.if-choices-room.true
 
 pub returns : goal.returns

@@ -1,82 +1,66 @@
 use mathlib.Core.Path.{refl, sym}
-use borrow.Author.Rules.{rules}
 use Rattle.cells.specs.AddLink.{add_link}
 use Rattle.sets.specs.CellSet.{cell_set}
 use Rattle.sets.specs.MemberParts.{part_memory}
 use Rattle.sets.proofs.MemberPartLaws.{is_open, not_open, put_part, put_back}
-use Rattle.sets.proofs.MemberEditLaws.{lens_lie, lent_links, edit_part, edit_not}
+use Rattle.sets.proofs.MemberEditLaws.{lent_links, edit_refused, edit_stored, edit_not}
 use Rattle.sets.proofs.EditsKept.{add_link_kept}
+use Rattle.std.proofs.lemmas.Result.{err_from_is_err_and}
 use Rattle.sets.proofs.edit_links.add_link_member.Goals as goal
 
-pub offset_bounds-nodes-na : goal.offset_bounds-nodes-na
-offset_bounds-nodes-na c =
-    let h = (lens_lie c.args.members.now _ c.args.member _ _ c.open_member-o.ensures c.in-At.is).0 in
-    let a = h.nodes_rise in let e = h.nodes_end in search rules
-
-pub slice_bounds-add_link-count : goal.slice_bounds-add_link-count
-slice_bounds-add_link-count c =
-    (lens_lie c.args.members.now _ c.args.member _ _ c.open_member-o.ensures c.in-At.is).0.nodes_rise
-
-pub slice_bounds-add_link-start : goal.slice_bounds-add_link-start
-slice_bounds-add_link-start c =
-    let h = (lens_lie c.args.members.now _ c.args.member _ _ c.open_member-o.ensures c.in-At.is).0 in
-    let a = h.nodes_rise in let e = h.nodes_end in search rules
-
-pub slice_bounds-add_link-end : goal.slice_bounds-add_link-end
-slice_bounds-add_link-end c =
-    let h = (lens_lie c.args.members.now _ c.args.member _ _ c.open_member-o.ensures c.in-At.is).0 in
-    let a = h.nodes_rise in let e = h.nodes_end in search rules
-
-pub offset_bounds-links-la : goal.offset_bounds-links-la
-offset_bounds-links-la c =
-    let h = (lens_lie c.args.members.now _ c.args.member _ _ c.open_member-o.ensures c.in-At.is).0 in
-    let a = h.links_rise in let e = h.links_end in search rules
-
-pub slice_bounds-add_link-count-in-At : goal.slice_bounds-add_link-count-in-At
-slice_bounds-add_link-count-in-At c =
-    (lens_lie c.args.members.now _ c.args.member _ _ c.open_member-o.ensures c.in-At.is).0.links_rise
-
-pub slice_bounds-add_link-start-in-At : goal.slice_bounds-add_link-start-in-At
-slice_bounds-add_link-start-in-At c =
-    let h = (lens_lie c.args.members.now _ c.args.member _ _ c.open_member-o.ensures c.in-At.is).0 in
-    let a = h.links_rise in let e = h.links_end in search rules
-
-pub slice_bounds-add_link-end-in-At : goal.slice_bounds-add_link-end-in-At
-slice_bounds-add_link-end-in-At c =
-    let h = (lens_lie c.args.members.now _ c.args.member _ _ c.open_member-o.ensures c.in-At.is).0 in
-    let a = h.links_rise in let e = h.links_end in search rules
-
-pub store_ynd-requires : goal.store_ynd-requires
-store_ynd-requires c = (lens_lie c.args.members.now _ c.args.member _ _ c.open_member-o.ensures c.in-At.is).1
-
-pub returns-in-Refused : goal.returns-in-Refused
-returns-in-Refused c junctions refs heights hj hh hr =
+pub returns-in_err-p : goal.returns-in_err-p
+returns-in_err-p c junctions refs heights hj hh hr =
     let x = c.args in
     let y = cell_set x.members.now x.nodes.now x.links.now junctions heights refs in
     let same = lent_links x.members.now _ c.held-lens.ensures x.member x.nodes.now x.links.now junctions refs heights
     hj hh hr in
-    edit_not y x.member (λ m. add_link m x.place x.link) _ _ _
-    (not_open y x.member _ same _ c.open_member-o.ensures _ _ c.in-Refused.is)
+    let e = err_from_is_err_and c.from_residual.result c.from_residual.ensures.1 in
+    rw (e.1, e.2) (
+    edit_not y x.member (λ m. add_link m x.place x.link) _ _
+    (not_open y x.member _ same _ c.open_member.ensures.value _ c.in_err-p.was))
 
-pub returns-in-At : goal.returns-in-At
-returns-in-At c junctions refs heights hj hh hr =
+pub returns-in_err-next : goal.returns-in_err-next
+returns-in_err-next c junctions refs heights hj hh hr =
     let x = c.args in
     let y = cell_set x.members.now x.nodes.now x.links.now junctions heights refs in
     let same = lent_links x.members.now _ c.held-lens.ensures x.member x.nodes.now x.links.now junctions refs heights
     hj hh hr in
-    let p = c.in-At.p in
-    let k = is_open y x.member _ same _ c.open_member-o.ensures p c.in-At.is in
+    let p = c.in_ok-p.p in
+    let k = is_open y x.member _ same _ c.open_member.ensures.value p c.in_ok-p.was in
     let words = c.told-members x.member k.may.there in
     let part = part_memory p.ynd p.a p.e y in
-    let r = c.add_link-r in
-    edit_part y x.member p k words (λ m. add_link m x.place x.link) (add_link_kept x.place x.link) _ k.asked
-    r.result.answer r.result.ynd r.new.nodes r.new.links part.junctions part.refs part.heights
+    let r = c.add_link in
+    let e = err_from_is_err_and c.from_residual-in_err-next.result c.from_residual-in_err-next.ensures.1 in
+    rw (e.1, e.2) (
+    edit_refused y x.member p k words (λ m. add_link m x.place x.link) (add_link_kept x.place x.link) _ k.asked
+    r.result r.new.nodes r.new.links part.junctions part.refs part.heights
     (r.ensures part.junctions part.refs part.heights)
-    _ _ _ junctions refs heights c.store_ynd.ensures
-    (put_part x.nodes.now p.a.nodes p.e.nodes r.new.nodes r.new.nodes k.lie.nodes_rise k.lie.nodes_end r.auto.nodes
-    refl)
-    (put_part x.links.now p.a.links p.e.links r.new.links r.new.links k.lie.links_rise k.lie.links_end r.auto.links
-    refl)
+    _ _ junctions refs heights
+    (put_part x.nodes.now p.a.nodes p.e.nodes r.new.nodes r.new.nodes k.lie.nodes_rise k.lie.nodes_end r.auto.nodes refl)
+    (put_part x.links.now p.a.links p.e.links r.new.links r.new.links k.lie.links_rise k.lie.links_end r.auto.links refl)
     (sym (put_back junctions p.a.junctions _))
     (sym (put_back heights p.a.heights _))
     (sym (put_back refs p.a.refs _))
+    _ c.in_err-next.was)
+
+pub returns : goal.returns
+returns c junctions refs heights hj hh hr =
+    let x = c.args in
+    let y = cell_set x.members.now x.nodes.now x.links.now junctions heights refs in
+    let same = lent_links x.members.now _ c.held-lens.ensures x.member x.nodes.now x.links.now junctions refs heights
+    hj hh hr in
+    let p = c.in_ok-p.p in
+    let k = is_open y x.member _ same _ c.open_member.ensures.value p c.in_ok-p.was in
+    let words = c.told-members x.member k.may.there in
+    let part = part_memory p.ynd p.a p.e y in
+    let r = c.add_link in
+    edit_stored y x.member p k words (λ m. add_link m x.place x.link) (add_link_kept x.place x.link) _ k.asked
+    r.result r.new.nodes r.new.links part.junctions part.refs part.heights
+    (r.ensures part.junctions part.refs part.heights)
+    _ _ junctions refs heights
+    (put_part x.nodes.now p.a.nodes p.e.nodes r.new.nodes r.new.nodes k.lie.nodes_rise k.lie.nodes_end r.auto.nodes refl)
+    (put_part x.links.now p.a.links p.e.links r.new.links r.new.links k.lie.links_rise k.lie.links_end r.auto.links refl)
+    (sym (put_back junctions p.a.junctions _))
+    (sym (put_back heights p.a.heights _))
+    (sym (put_back refs p.a.refs _))
+    c.in_ok-next.next c.in_ok-next.was _ c.store_ynd.ensures

@@ -1,50 +1,33 @@
 use mathlib.Core.Path.{refl, ap, sym}
-use borrow.Author.Rules.{rules}
 use Rattle.cells.specs.Edit.{set_position}
 use Rattle.sets.specs.CellSet.{cell_set}
 use Rattle.sets.specs.MemberParts.{part_memory}
 use Rattle.sets.specs.MemberEdit.{nodes_left}
 use Rattle.sets.proofs.MemberPartLaws.{is_open, not_open, put_part, put_back}
-use Rattle.sets.proofs.MemberEditLaws.{lens_lie, lent_nodes, own_entry, edit_part, edit_not}
+use Rattle.sets.proofs.MemberEditLaws.{lent_nodes, own_entry, edit_part, edit_not}
 use Rattle.sets.proofs.EditsKept.{set_position_kept}
+use Rattle.std.proofs.lemmas.Result.{err_from_is_err_and}
 use Rattle.sets.proofs.edit_nodes.set_position_member.Goals as goal
 
-pub offset_bounds-nodes-a : goal.offset_bounds-nodes-a
-offset_bounds-nodes-a c =
-    let h = (lens_lie c.args.members.now _ c.args.member _ _ c.open_member-o.ensures c.in-At.is).0 in
-    let a = h.nodes_rise in let e = h.nodes_end in search rules
-
-pub slice_bounds-set_position-count : goal.slice_bounds-set_position-count
-slice_bounds-set_position-count c =
-    (lens_lie c.args.members.now _ c.args.member _ _ c.open_member-o.ensures c.in-At.is).0.nodes_rise
-
-pub slice_bounds-set_position-start : goal.slice_bounds-set_position-start
-slice_bounds-set_position-start c =
-    let h = (lens_lie c.args.members.now _ c.args.member _ _ c.open_member-o.ensures c.in-At.is).0 in
-    let a = h.nodes_rise in let e = h.nodes_end in search rules
-
-pub slice_bounds-set_position-end : goal.slice_bounds-set_position-end
-slice_bounds-set_position-end c =
-    let h = (lens_lie c.args.members.now _ c.args.member _ _ c.open_member-o.ensures c.in-At.is).0 in
-    let a = h.nodes_rise in let e = h.nodes_end in search rules
-
-pub returns-in-Refused : goal.returns-in-Refused
-returns-in-Refused c links junctions refs heights hl hj hh hr =
+pub returns-in_err-p : goal.returns-in_err-p
+returns-in_err-p c links junctions refs heights hl hj hh hr =
     let x = c.args in
     let y = cell_set x.members.now x.nodes.now links junctions heights refs in
     let same = lent_nodes x.members.now _ c.held-lens.ensures x.member x.nodes.now links junctions refs heights
     hl hj hh hr in
-    edit_not y x.member (λ m. nodes_left m (set_position m.ynd m.nodes x.place x.position)) _ _ _
-    (not_open y x.member _ same _ c.open_member-o.ensures _ _ c.in-Refused.is)
+    let e = err_from_is_err_and c.from_residual.result c.from_residual.ensures.1 in
+    rw (e.1, e.2) (
+    edit_not y x.member (λ m. nodes_left m (set_position m.ynd m.nodes x.place x.position)) _ _
+    (not_open y x.member _ same _ c.open_member.ensures.value _ c.in_err-p.was))
 
-pub returns-in-At : goal.returns-in-At
-returns-in-At c links junctions refs heights hl hj hh hr =
+pub returns : goal.returns
+returns c links junctions refs heights hl hj hh hr =
     let x = c.args in
     let y = cell_set x.members.now x.nodes.now links junctions heights refs in
     let same = lent_nodes x.members.now _ c.held-lens.ensures x.member x.nodes.now links junctions refs heights
     hl hj hh hr in
-    let p = c.in-At.p in
-    let k = is_open y x.member _ same _ c.open_member-o.ensures p c.in-At.is in
+    let p = c.in_ok-p.p in
+    let k = is_open y x.member _ same _ c.open_member.ensures.value p c.in_ok-p.was in
     let words = c.told-members x.member k.may.there in
     let part = part_memory p.ynd p.a p.e y in
     let r = c.set_position in

@@ -1,50 +1,33 @@
 use mathlib.Core.Path.{refl, ap, sym}
-use borrow.Author.Rules.{rules}
 use Rattle.cells.specs.Edit.{put_ref}
 use Rattle.sets.specs.CellSet.{cell_set}
 use Rattle.sets.specs.MemberParts.{part_memory}
 use Rattle.sets.specs.MemberEdit.{refs_left}
 use Rattle.sets.proofs.MemberPartLaws.{is_open, not_open, put_part, put_back}
-use Rattle.sets.proofs.MemberEditLaws.{lens_lie, lent_refs, own_entry, edit_part, edit_not}
+use Rattle.sets.proofs.MemberEditLaws.{lent_refs, own_entry, edit_part, edit_not}
 use Rattle.sets.proofs.EditsKept.{put_ref_kept}
+use Rattle.std.proofs.lemmas.Result.{err_from_is_err_and}
 use Rattle.sets.proofs.edit_refs.put_ref_member.Goals as goal
 
-pub offset_bounds-refs-a : goal.offset_bounds-refs-a
-offset_bounds-refs-a c =
-    let h = (lens_lie c.args.members.now _ c.args.member _ _ c.open_member-o.ensures c.in-At.is).0 in
-    let a = h.refs_rise in let e = h.refs_end in search rules
-
-pub slice_bounds-put_ref-count : goal.slice_bounds-put_ref-count
-slice_bounds-put_ref-count c =
-    (lens_lie c.args.members.now _ c.args.member _ _ c.open_member-o.ensures c.in-At.is).0.refs_rise
-
-pub slice_bounds-put_ref-start : goal.slice_bounds-put_ref-start
-slice_bounds-put_ref-start c =
-    let h = (lens_lie c.args.members.now _ c.args.member _ _ c.open_member-o.ensures c.in-At.is).0 in
-    let a = h.refs_rise in let e = h.refs_end in search rules
-
-pub slice_bounds-put_ref-end : goal.slice_bounds-put_ref-end
-slice_bounds-put_ref-end c =
-    let h = (lens_lie c.args.members.now _ c.args.member _ _ c.open_member-o.ensures c.in-At.is).0 in
-    let a = h.refs_rise in let e = h.refs_end in search rules
-
-pub returns-in-Refused : goal.returns-in-Refused
-returns-in-Refused c nodes links junctions heights hn hl hj hh =
+pub returns-in_err-p : goal.returns-in_err-p
+returns-in_err-p c nodes links junctions heights hn hl hj hh =
     let x = c.args in
     let y = cell_set x.members.now nodes links junctions heights x.refs.now in
     let same = lent_refs x.members.now _ c.held-lens.ensures x.member nodes links junctions x.refs.now heights
     hn hl hj hh in
-    edit_not y x.member (λ m. refs_left m (put_ref m.ynd m.refs x.place x.r)) _ _ _
-    (not_open y x.member _ same _ c.open_member-o.ensures _ _ c.in-Refused.is)
+    let e = err_from_is_err_and c.from_residual.result c.from_residual.ensures.1 in
+    rw (e.1, e.2) (
+    edit_not y x.member (λ m. refs_left m (put_ref m.ynd m.refs x.place x.r)) _ _
+    (not_open y x.member _ same _ c.open_member.ensures.value _ c.in_err-p.was))
 
-pub returns-in-At : goal.returns-in-At
-returns-in-At c nodes links junctions heights hn hl hj hh =
+pub returns : goal.returns
+returns c nodes links junctions heights hn hl hj hh =
     let x = c.args in
     let y = cell_set x.members.now nodes links junctions heights x.refs.now in
     let same = lent_refs x.members.now _ c.held-lens.ensures x.member nodes links junctions x.refs.now heights
     hn hl hj hh in
-    let p = c.in-At.p in
-    let k = is_open y x.member _ same _ c.open_member-o.ensures p c.in-At.is in
+    let p = c.in_ok-p.p in
+    let k = is_open y x.member _ same _ c.open_member.ensures.value p c.in_ok-p.was in
     let words = c.told-members x.member k.may.there in
     let part = part_memory p.ynd p.a p.e y in
     let r = c.put_ref in

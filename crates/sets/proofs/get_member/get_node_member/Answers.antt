@@ -1,46 +1,29 @@
-use borrow.Author.Rules.{rules}
 use Rattle.cells.specs.Edit.{got_node, node_entry}
-use Rattle.cells.specs.declared.get.GotNode.TheVariants as got-node
 use Rattle.sets.specs.CellSet.{cell_set}
 use Rattle.sets.proofs.MemberPartLaws.{is_open, not_open}
-use Rattle.sets.proofs.MemberEditLaws.{lens_lie, lent_nodes}
+use Rattle.sets.proofs.MemberEditLaws.{lent_nodes}
 use Rattle.sets.proofs.MemberAskLaws.{ask_in, ask_not}
+use Rattle.std.proofs.lemmas.Result.{err_from_is_err_and}
 use Rattle.sets.proofs.get_member.get_node_member.Goals as goal
+use Rattle.std.specs.Prelude.{Err}
 
-pub offset_bounds-nodes-a : goal.offset_bounds-nodes-a
-offset_bounds-nodes-a c =
-    let h = (lens_lie c.args.members.now _ c.args.member _ _ c.open_member-o.ensures c.in-At.is).0 in
-    let a = h.nodes_rise in let e = h.nodes_end in search rules
-
-pub slice_bounds-get_node-count : goal.slice_bounds-get_node-count
-slice_bounds-get_node-count c =
-    (lens_lie c.args.members.now _ c.args.member _ _ c.open_member-o.ensures c.in-At.is).0.nodes_rise
-
-pub slice_bounds-get_node-start : goal.slice_bounds-get_node-start
-slice_bounds-get_node-start c =
-    let h = (lens_lie c.args.members.now _ c.args.member _ _ c.open_member-o.ensures c.in-At.is).0 in
-    let a = h.nodes_rise in let e = h.nodes_end in search rules
-
-pub slice_bounds-get_node-end : goal.slice_bounds-get_node-end
-slice_bounds-get_node-end c =
-    let h = (lens_lie c.args.members.now _ c.args.member _ _ c.open_member-o.ensures c.in-At.is).0 in
-    let a = h.nodes_rise in let e = h.nodes_end in search rules
-
-pub returns-in-Refused : goal.returns-in-Refused
-returns-in-Refused c links junctions refs heights hl hj hh hr =
+pub returns-in_err-p : goal.returns-in_err-p
+returns-in_err-p c links junctions refs heights hl hj hh hr =
     let x = c.args in
     let y = cell_set x.members.now x.nodes.now links junctions heights refs in
     let same = lent_nodes x.members.now _ c.held-lens.ensures x.member x.nodes.now links junctions refs heights
     hl hj hh hr in
-    ask_not y x.member got-node.Refused (λ m. got_node (node_entry m.ynd m.nodes x.place) m.nodes) _ _
-    (not_open y x.member _ same _ c.open_member-o.ensures _ _ c.in-Refused.is)
+    let e = err_from_is_err_and c.from_residual.result c.from_residual.ensures.1 in
+    rw (e.1, e.2) (
+    ask_not y x.member Err (λ m. got_node (node_entry m.ynd m.nodes x.place) m.nodes) _
+    (not_open y x.member _ same _ c.open_member.ensures.value _ c.in_err-p.was))
 
-pub returns-in-At : goal.returns-in-At
-returns-in-At c links junctions refs heights hl hj hh hr =
+pub returns : goal.returns
+returns c links junctions refs heights hl hj hh hr =
     let x = c.args in
     let y = cell_set x.members.now x.nodes.now links junctions heights refs in
     let same = lent_nodes x.members.now _ c.held-lens.ensures x.member x.nodes.now links junctions refs heights
     hl hj hh hr in
-    let p = c.in-At.p in
-    let k = is_open y x.member _ same _ c.open_member-o.ensures p c.in-At.is in
-    ask_in y x.member got-node.Refused (λ m. got_node (node_entry m.ynd m.nodes x.place) m.nodes) p k _ c.get_node.ensures
+    let p = c.in_ok-p.p in
+    let k = is_open y x.member _ same _ c.open_member.ensures.value p c.in_ok-p.was in
+    ask_in y x.member Err (λ m. got_node (node_entry m.ynd m.nodes x.place) m.nodes) p k _ c.get_node.ensures

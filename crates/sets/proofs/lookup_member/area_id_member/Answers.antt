@@ -1,46 +1,29 @@
-use borrow.Author.Rules.{rules}
 use Rattle.cells.specs.LookupCall.{area_id_call}
-use Rattle.cells.specs.declared.lookup.OwnArea.TheVariants as own-area
 use Rattle.sets.specs.CellSet.{cell_set}
 use Rattle.sets.proofs.MemberPartLaws.{is_open, not_open}
-use Rattle.sets.proofs.MemberEditLaws.{lens_lie, lent_nodes}
+use Rattle.sets.proofs.MemberEditLaws.{lent_nodes}
 use Rattle.sets.proofs.MemberAskLaws.{ask_in, ask_not}
+use Rattle.std.proofs.lemmas.Result.{err_from_is_err_and}
 use Rattle.sets.proofs.lookup_member.area_id_member.Goals as goal
+use Rattle.std.specs.Prelude.{Err}
 
-pub offset_bounds-nodes-a : goal.offset_bounds-nodes-a
-offset_bounds-nodes-a c =
-    let h = (lens_lie c.args.members.now _ c.args.member _ _ c.open_member-o.ensures c.in-At.is).0 in
-    let a = h.nodes_rise in let e = h.nodes_end in search rules
-
-pub slice_bounds-area_id-count : goal.slice_bounds-area_id-count
-slice_bounds-area_id-count c =
-    (lens_lie c.args.members.now _ c.args.member _ _ c.open_member-o.ensures c.in-At.is).0.nodes_rise
-
-pub slice_bounds-area_id-start : goal.slice_bounds-area_id-start
-slice_bounds-area_id-start c =
-    let h = (lens_lie c.args.members.now _ c.args.member _ _ c.open_member-o.ensures c.in-At.is).0 in
-    let a = h.nodes_rise in let e = h.nodes_end in search rules
-
-pub slice_bounds-area_id-end : goal.slice_bounds-area_id-end
-slice_bounds-area_id-end c =
-    let h = (lens_lie c.args.members.now _ c.args.member _ _ c.open_member-o.ensures c.in-At.is).0 in
-    let a = h.nodes_rise in let e = h.nodes_end in search rules
-
-pub returns-in-Refused : goal.returns-in-Refused
-returns-in-Refused c links junctions refs heights hl hj hh hr =
+pub returns-in_err-p : goal.returns-in_err-p
+returns-in_err-p c links junctions refs heights hl hj hh hr =
     let x = c.args in
     let y = cell_set x.members.now x.nodes.now links junctions heights refs in
     let same = lent_nodes x.members.now _ c.held-lens.ensures x.member x.nodes.now links junctions refs heights
     hl hj hh hr in
-    ask_not y x.member own-area.Refused (λ m. area_id_call m.ynd m.nodes) _ _
-    (not_open y x.member _ same _ c.open_member-o.ensures _ _ c.in-Refused.is)
+    let e = err_from_is_err_and c.from_residual.result c.from_residual.ensures.1 in
+    rw (e.1, e.2) (
+    ask_not y x.member Err (λ m. area_id_call m.ynd m.nodes) _
+    (not_open y x.member _ same _ c.open_member.ensures.value _ c.in_err-p.was))
 
-pub returns-in-At : goal.returns-in-At
-returns-in-At c links junctions refs heights hl hj hh hr =
+pub returns : goal.returns
+returns c links junctions refs heights hl hj hh hr =
     let x = c.args in
     let y = cell_set x.members.now x.nodes.now links junctions heights refs in
     let same = lent_nodes x.members.now _ c.held-lens.ensures x.member x.nodes.now links junctions refs heights
     hl hj hh hr in
-    let p = c.in-At.p in
-    let k = is_open y x.member _ same _ c.open_member-o.ensures p c.in-At.is in
-    ask_in y x.member own-area.Refused (λ m. area_id_call m.ynd m.nodes) p k _ c.area_id.ensures
+    let p = c.in_ok-p.p in
+    let k = is_open y x.member _ same _ c.open_member.ensures.value p c.in_ok-p.was in
+    ask_in y x.member Err (λ m. area_id_call m.ynd m.nodes) p k _ c.area_id.ensures

@@ -1,3 +1,4 @@
+use Rattle.std.proofs.lemmas.Result.{err_from_is_err_and}
 use Rattle.sets.specs.CellSet.{cell_set}
 use Rattle.sets.proofs.MemberPartLaws.{lens_held, is_open, not_open}
 use Rattle.sets.proofs.WriteMemberLaws.{write_not, write_in}
@@ -7,20 +8,24 @@ pub write_part-requires : goal.write_part-requires
 write_part-requires c =
     let x = c.args in
     let y = cell_set x.members.now x.nodes.now x.links.now x.junctions.now x.heights.now x.refs.now in
-    (is_open y x.member _ (lens_held y x.member _ c.lengths-lens.ensures) _ c.open_member-o.ensures _ c.in-At.is).lie
+    let k = is_open y x.member _ (lens_held y x.member _ c.lengths-lens.ensures) _ c.open_member.ensures.value _
+    c.in_ok-p.was in
+    k.lie
 
-pub returns-in-Refused : goal.returns-in-Refused
-returns-in-Refused c =
+pub returns-in_err-p : goal.returns-in_err-p
+returns-in_err-p c =
     let x = c.args in
     let y = cell_set x.members.now x.nodes.now x.links.now x.junctions.now x.heights.now x.refs.now in
-    write_not y x.member x.section.now _ _
-    (not_open y x.member _ (lens_held y x.member _ c.lengths-lens.ensures) _ c.open_member-o.ensures _ _
-    c.in-Refused.is)
+    let e = err_from_is_err_and c.from_residual.result c.from_residual.ensures.1 in
+    rw (e.1, e.2) (
+    write_not y x.member x.section.now _
+    (not_open y x.member _ (lens_held y x.member _ c.lengths-lens.ensures) _ c.open_member.ensures.value _
+    c.in_err-p.was))
 
-pub returns-in-At : goal.returns-in-At
-returns-in-At c =
+pub returns : goal.returns
+returns c =
     let x = c.args in
     let y = cell_set x.members.now x.nodes.now x.links.now x.junctions.now x.heights.now x.refs.now in
-    let k = is_open y x.member _ (lens_held y x.member _ c.lengths-lens.ensures) _ c.open_member-o.ensures _
-    c.in-At.is in
+    let k = is_open y x.member _ (lens_held y x.member _ c.lengths-lens.ensures) _ c.open_member.ensures.value _
+    c.in_ok-p.was in
     write_in y x.member x.section.now _ k _ c.write_part.ensures

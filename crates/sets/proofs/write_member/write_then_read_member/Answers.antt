@@ -1,47 +1,47 @@
+use Rattle.std.proofs.lemmas.Result.{err_from_is_err_and}
 use Rattle.sets.specs.CellSet.{cell_set}
 use Rattle.sets.proofs.MemberPartLaws.{lens_held, is_open, not_open}
 use Rattle.sets.proofs.WriteMemberLaws.{write_read_not, write_read_done, write_read_out}
 use Rattle.sets.proofs.write_member.write_then_read_member.Goals as goal
 
-pub write_read_part-r-requires : goal.write_read_part-r-requires
-write_read_part-r-requires c =
+pub write_read_part-requires : goal.write_read_part-requires
+write_read_part-requires c =
     let x = c.args in
     let y = cell_set x.members.now x.nodes.now x.links.now x.junctions.now x.heights.now x.refs.now in
-    (is_open y x.member _ (lens_held y x.member _ c.lengths-lens.ensures) _ c.open_member-o.ensures _ c.in-At.is).lie
+    let k = is_open y x.member _ (lens_held y x.member _ c.lengths-lens.ensures) _ c.open_member.ensures.value _
+    c.in_ok-p.was in
+    k.lie
 
-pub store_ynd-requires : goal.store_ynd-requires
-store_ynd-requires c =
+pub returns-in_err-p : goal.returns-in_err-p
+returns-in_err-p c =
     let x = c.args in
     let y = cell_set x.members.now x.nodes.now x.links.now x.junctions.now x.heights.now x.refs.now in
-    (is_open y x.member _ (lens_held y x.member _ c.lengths-lens.ensures) _ c.open_member-o.ensures _
-    c.in-At.is).may.there
+    let e = err_from_is_err_and c.from_residual.result c.from_residual.ensures.1 in
+    rw (e.1, e.2) (
+    write_read_not y x.member x.section.now _
+    (not_open y x.member _ (lens_held y x.member _ c.lengths-lens.ensures) _ c.open_member.ensures.value _
+    c.in_err-p.was))
 
-pub returns-in-Refused : goal.returns-in-Refused
-returns-in-Refused c =
+pub returns-in_err-r : goal.returns-in_err-r
+returns-in_err-r c =
     let x = c.args in
     let y = cell_set x.members.now x.nodes.now x.links.now x.junctions.now x.heights.now x.refs.now in
-    write_read_not y x.member x.section.now _ _
-    (not_open y x.member _ (lens_held y x.member _ c.lengths-lens.ensures) _ c.open_member-o.ensures _ _
-    c.in-Refused.is)
+    let k = is_open y x.member _ (lens_held y x.member _ c.lengths-lens.ensures) _ c.open_member.ensures.value _
+    c.in_ok-p.was in
+    let r = c.write_read_part in
+    let q = r.ensures in
+    let e = err_from_is_err_and c.from_residual-in_err-r.result c.from_residual-in_err-r.ensures.1 in
+    rw (e.1, e.2) (
+    write_read_out y x.member x.section.now c.in_ok-p.p k r.result r.new.nodes r.new.links r.new.junctions r.new.refs
+    r.new.heights r.new.section q.0 q.1 q.2 q.3 q.4 q.5 q.6 q.7 _ c.in_err-r.was)
 
-pub returns-in-Wrote : goal.returns-in-Wrote
-returns-in-Wrote c =
+pub returns : goal.returns
+returns c =
     let x = c.args in
     let y = cell_set x.members.now x.nodes.now x.links.now x.junctions.now x.heights.now x.refs.now in
-    let k = is_open y x.member _ (lens_held y x.member _ c.lengths-lens.ensures) _ c.open_member-o.ensures _
-    c.in-At.is in
-    let r = c.write_read_part-r in
-    let e = r.ensures in
-    write_read_done y x.member x.section.now c.in-At.p k r.result r.new.nodes r.new.links r.new.junctions r.new.refs
-    r.new.heights r.new.section e.0 e.2 e.3 e.4 e.5 e.6 e.7 _ c.in-Wrote.is e.1 _ c.store_ynd.ensures
-
-pub returns-in_default : goal.returns-in_default
-returns-in_default c =
-    let x = c.args in
-    let y = cell_set x.members.now x.nodes.now x.links.now x.junctions.now x.heights.now x.refs.now in
-    let k = is_open y x.member _ (lens_held y x.member _ c.lengths-lens.ensures) _ c.open_member-o.ensures _
-    c.in-At.is in
-    let r = c.write_read_part-r in
-    let e = r.ensures in
-    write_read_out y x.member x.section.now c.in-At.p k r.result r.new.nodes r.new.links r.new.junctions r.new.refs
-    r.new.heights r.new.section e.0 e.2 e.3 e.4 e.5 e.6 e.7 _ _ c.in_default.is
+    let k = is_open y x.member _ (lens_held y x.member _ c.lengths-lens.ensures) _ c.open_member.ensures.value _
+    c.in_ok-p.was in
+    let r = c.write_read_part in
+    let q = r.ensures in
+    write_read_done y x.member x.section.now c.in_ok-p.p k r.result r.new.nodes r.new.links r.new.junctions r.new.refs
+    r.new.heights r.new.section q.0 q.1 q.2 q.3 q.4 q.5 q.6 q.7 _ c.in_ok-r.was _ c.store_ynd.ensures

@@ -1,0 +1,20 @@
+use Rattle.std.proofs.Common.{ap, ◌∙◌, arith, length}
+use Rattle.cells.specs.NodeWords.{is_ped, number_from, reordered}
+use Rattle.cells.specs.Order.{parted}
+use Rattle.cells.proofs.Renumbering.Reordered.{are_places, they_lead, places_many}
+use Rattle.cells.proofs.Renumbering.CellRenumbered.{parted_length}
+use Rattle.cells.proofs.permute.move_nodes.Goals as goal
+
+pub copy_from_slice-requires : goal.copy_from_slice-requires
+copy_from_slice-requires c = omega (arith, ap length c.requires.2, places_many c.args.nodes.now)
+
+pub permute-requires : goal.permute-requires
+permute-requires c = (omega arith, rw (c.copy_from_slice.ensures.after, c.requires.2) (are_places c.args.nodes.now))
+
+pub returns : goal.returns
+unfolding reordered
+returns c =
+    let ws = c.args.nodes.now in
+    let moved = c.permute.ensures (parted is_ped ws) (parted_length ws)
+    (rw (c.copy_from_slice.ensures.after, c.requires.2) (they_lead ws)) in
+    c.number_all.ensures ∙ ap (number_from 0) moved

@@ -1,0 +1,148 @@
+// The file's records that have each a range of a second array: nodes of links, junctions of heightmap values.
+ghost use Rattle.std.specs.Prelude.{◌≡◌, ℕ, List, ◌++◌, ◌+◌, ◌*◌, ◌≤◌, ◌<◌, length, take, drop};
+ghost use Rattle.records.specs.Records.{node_at, junction_at};
+ghost use Rattle.cells.specs.Checks.{links_at, values_at};
+ghost use Rattle.cells.specs.Read.{links_in, values_in};
+ghost use Rattle.cells.specs.RangedParts.{length_links, length_values};
+ghost use Rattle.cells.specs.Words.{path_node, path_junction, node_words, junction_words};
+ghost use Rattle.numbers.specs.declared.refusal.Refusal.{Refusal};
+ghost use Rattle.numbers.specs.declared.refusal.Refusal.TheVariants.{LinksOutside, ValuesOutside};
+
+use crate::fill::{copy_links, copy_values};
+use crate::from_file::{path_junction, path_node};
+use crate::junction::{JunctionWords, junction_words};
+use crate::link::LinkWords;
+use crate::node::{NodeWords, node_words};
+use crate::range::{Range, map_size};
+use numbers::refusal::Refusal;
+use records::bytes::{byte_at, u16_at};
+use records::junction::junction_at;
+use records::node::node_at;
+
+pub(crate) trait Ranged: Copy {
+    type Entry: Copy;
+
+    type Part: Copy;
+
+    ghost start: { Self → ℕ → ℕ };
+
+    ghost count: { Self → ℕ → ℕ };
+
+    ghost cause: { ℕ → Refusal };
+
+    ghost entry_at: { Self → ℕ → ℕ → Self.Entry };
+
+    ghost part: { Self → ℕ → List Self.Part };
+
+    // Where record i's range starts in the file, and how much it has.
+    fn range(self, i: usize) -> Range
+        requires { i ≤ 65536 }
+        ensures { (result.start ≡ start self i) × (result.count ≡ count self i)
+            × (result.start < 65536) × (result.count < 65536) };
+
+    // The refusal of record i, whose range leaves the second array.
+    fn outside(self, i: usize) -> Refusal
+        ensures { result ≡ cause i };
+
+    // What is stored of record i, whose range starts at `first` in memory.
+    fn entry(self, i: usize, first: u32) -> Self::Entry
+        requires { i ≤ 65536 }
+        ensures { result ≡ entry_at self i first };
+
+    // Its range of the second array, stored from `held` on.
+    fn fill_part(self, i: usize, held: usize, parts: &mut [Self::Part])
+        requires { (i ≤ 65536) × (held + count self i ≤ length parts.old) }
+        ensures { parts.new ≡ take held parts.old ++ part self i ++ drop (held + count self i) parts.old };
+
+    ghost long: { (records : Self) (i : ℕ) → length (part records i) ≡ count records i };
+}
+
+// The file's array of nodes, and that of links.
+#[derive(Clone, Copy)]
+pub(crate) struct FileNodes<'a> {
+    pub n: &'a [u8],
+    pub l: &'a [u8],
+}
+
+impl Ranged for FileNodes<'_> {
+    type Entry = NodeWords;
+
+    type Part = LinkWords;
+
+    ghost start = { λ f i. (node_at f.n.now (i * 40)).link_id };
+
+    ghost count = { λ f. links_at f.n.now };
+
+    ghost cause = { LinksOutside };
+
+    ghost entry_at = { λ f i first. node_words (path_node (node_at f.n.now (i * 40)) first) };
+
+    ghost part = { λ f. links_in f.n.now f.l.now };
+
+    ghost long = { λ f. length_links f.n.now f.l.now };
+
+    fn range(self, i: usize) -> Range {
+        Range {
+            start: u16_at(self.n, (i * 40) as u32 + 26) as usize,
+            count: (byte_at(self.n, i * 40 + 37) / 8) as usize,
+        }
+    }
+
+    fn outside(self, i: usize) -> Refusal {
+        Refusal::LinksOutside(i)
+    }
+
+    fn entry(self, i: usize, first: u32) -> NodeWords {
+        node_words(path_node(node_at(self.n, (i * 40) as u32), first))
+    }
+
+    fn fill_part(self, i: usize, held: usize, parts: &mut [LinkWords]) {
+        let range = self.range(i);
+        copy_links(self.l, range.start, &mut parts[held..held + range.count]);
+    }
+}
+
+// The file's array of junctions, and its heightmap bytes.
+#[derive(Clone, Copy)]
+pub(crate) struct FileJunctions<'a> {
+    pub j: &'a [u8],
+    pub h: &'a [u8],
+}
+
+impl Ranged for FileJunctions<'_> {
+    type Entry = JunctionWords;
+
+    type Part = u8;
+
+    ghost start = { λ f i. (junction_at f.j.now (i * 12)).heightmap_ptr };
+
+    ghost count = { λ f. values_at f.j.now };
+
+    ghost cause = { ValuesOutside };
+
+    ghost entry_at = { λ f i first. junction_words (path_junction (junction_at f.j.now (i * 12)) first) };
+
+    ghost part = { λ f. values_in f.j.now f.h.now };
+
+    ghost long = { λ f. length_values f.j.now f.h.now };
+
+    fn range(self, i: usize) -> Range {
+        Range {
+            start: u16_at(self.j, (i * 12) as u32 + 8) as usize,
+            count: map_size(byte_at(self.j, i * 12 + 10), byte_at(self.j, i * 12 + 11)),
+        }
+    }
+
+    fn outside(self, i: usize) -> Refusal {
+        Refusal::ValuesOutside(i)
+    }
+
+    fn entry(self, i: usize, first: u32) -> JunctionWords {
+        junction_words(path_junction(junction_at(self.j, (i * 12) as u32), first))
+    }
+
+    fn fill_part(self, i: usize, held: usize, parts: &mut [u8]) {
+        let range = self.range(i);
+        copy_values(self.h, range.start, &mut parts[held..held + range.count]);
+    }
+}

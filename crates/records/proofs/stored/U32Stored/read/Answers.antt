@@ -1,0 +1,6 @@
+use Rattle.std.proofs.Common.{◌∙◌}
+use Rattle.records.proofs.LittleEndian.{reads32}
+use Rattle.records.proofs.stored.U32Stored.read.Goals as goal
+
+pub returns : goal.returns
+returns c = c.from_le_bytes.ensures ∙ reads32 c.args.s.now c.args.at c.type_inv.s
