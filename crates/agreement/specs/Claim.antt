@@ -18,7 +18,7 @@ use Rattle.sets.specs.Join.{join_cell}
 use Rattle.sets.specs.Crossing.{Location, crossing}
 use Rattle.sets.specs.MemberList.{cells_of}
 use Rattle.sets.specs.SetCalls.{SetCall, run_in}
-use Rattle.sets.specs.declared.parts.PerList.{PerList}
+use Rattle.cells.specs.declared.count.Counts.{Counts}
 use Rattle.agreement.specs.Agree.{Agree}
 use Rattle.std.specs.Prelude.{Result, Ok}
 use Rattle.numbers.specs.declared.refusal.Refusal.{Refusal}
@@ -61,7 +61,7 @@ pub record SameLater (m m' : Memory) : Type 0 where
       → (PathLeft m p q scratch choices places a s c t → PathLeft m' p q scratch choices places a s c t)
       × (PathLeft m' p q scratch choices places a s c t → PathLeft m p q scratch choices places a s c t)
   -- sets that differ in this member alone: the six lists after it joins, and crossing walks after any list of calls
-  pub same_join : (count : ℕ) (y : CellSet) (sizes : PerList) → join_cell count y m sizes ≡ join_cell count y m' sizes
+  pub same_join : (count : ℕ) (y : CellSet) (sizes : Counts) → join_cell count y m sizes ≡ join_cell count y m' sizes
   pub same_crossing : (first later : List Memory) (calls : List SetCall) (choices : List ℕ) (s : Location)
       → crossing (cells_of (run_in (first ++ (m ∷ later)) calls)) choices s
       ≡ crossing (cells_of (run_in (first ++ (m' ∷ later)) calls)) choices s

@@ -1,4 +1,5 @@
--- What the parts of renumbering require of each other. No public function's contract cites them.
+-- What the parts of renumbering require of each other, and what a cell counts and the lent lists are long, which the
+-- contracts of `counts` and `lengths` cite; no other public function's contract cites a word of this file.
 use Rattle.std.specs.Prelude.{ℕ, ◌≤◌, ◌≡◌, List, map, length, get_or}
 use Rattle.std.proofs.Math.Option.{some}
 use Rattle.cells.specs.Order.{new_places, last_with}

@@ -1,10 +1,11 @@
 // Adding a junction with its heightmap.
-ghost use Rattle.std.specs.Prelude.{◌≡◌, List, ℕ, ◌+◌, ◌<◌, OnOk};
+ghost use Rattle.std.specs.Prelude.{◌≡◌, List, ℕ, ◌+◌, ◌<◌, length, OnOk};
 ghost use Rattle.cells.specs.Memory.{memory, left, over_limit};
 ghost use Rattle.cells.specs.Add.{room_for_junction, JunctionRoom, add_junction};
 
-use crate::junction::{JunctionWords, PathJunction, junction_words};
+use crate::junction::{JunctionWords, PathJunction};
 use crate::range::{map_size, start_at};
+use crate::replace::put_at;
 use crate::room::over_limit;
 use crate::ynd::Ynd;
 use numbers::refusal::{Lent, Refusal};
@@ -12,17 +13,19 @@ use numbers::refusal::{Lent, Refusal};
 #[tactic(auto, using(numbers::proofs::Refusing::tested), unfolding(crate::specs::Add::room_for_junction))]
 fn room_for_junction(
     ynd: Ynd,
-    n: usize,
-    h: usize,
+    junctions: &[JunctionWords],
+    heights: &[u8],
     size: usize,
     v: usize,
-    junctions: usize,
-    heights: usize,
 ) -> Result<(), Refusal>
-    requires { h + v < 18446744073709551616 }
-    ensures value { result ≡ room_for_junction (over_limit ynd) n h size v junctions heights }
-    ensures room { OnOk result (JunctionRoom n h size v junctions heights) }
+    requires { ynd.heightmap_count + v < 18446744073709551616 }
+    ensures value { result ≡ room_for_junction (over_limit ynd) ynd.junction_count ynd.heightmap_count size v
+        (length junctions.now) (length heights.now) }
+    ensures room { OnOk result (JunctionRoom ynd.junction_count ynd.heightmap_count size v (length junctions.now)
+        (length heights.now)) }
 {
+    let n = ynd.junction_count as usize;
+    let h = ynd.heightmap_count as usize;
     if over_limit(ynd) {
         return Err(Refusal::AtLimit);
     }
@@ -35,10 +38,10 @@ fn room_for_junction(
     if v != size {
         return Err(Refusal::WrongSize);
     }
-    if junctions <= n {
+    if junctions.len() <= n {
         return Err(Refusal::TooShort(Lent::Junctions));
     }
-    if heights < h + v {
+    if heights.len() < h + v {
         return Err(Refusal::TooShort(Lent::Heightmap));
     }
     Ok(())
@@ -60,17 +63,9 @@ pub fn add_junction(
     let n = ynd.junction_count as usize;
     let h = ynd.heightmap_count as usize;
     let size = map_size(j.width, j.height);
-    room_for_junction(
-        ynd,
-        n,
-        h,
-        size,
-        values.len(),
-        junctions.len(),
-        heights.len(),
-    )?;
-    junctions[n] = junction_words(start_at(j, h as u32));
-    heights[h..h + values.len()].copy_from_slice(values);
+    room_for_junction(ynd, junctions, heights, size, values.len())?;
+    junctions[n] = JunctionWords::from(start_at(j, h as u32));
+    put_at(heights, h, values);
     Ok(Ynd {
         junction_count: (n + 1) as u32,
         heightmap_count: (h + values.len()) as u32,

@@ -4,7 +4,7 @@ ghost use Rattle.cells.specs.Memory.{memory, left, over_limit};
 ghost use Rattle.cells.specs.AddLink.{held_at, behind, at_in, inserted, nodes_after, room_for_link, add_link};
 ghost use Rattle.cells.specs.AddLink.{LinkRoom};
 
-use crate::link::{LinkWords, PathLink, link_words};
+use crate::link::{LinkWords, PathLink};
 use crate::node::NodeWords;
 use crate::range::{held_in, link_range, link_start};
 use crate::room::over_limit;
@@ -35,22 +35,23 @@ fn insert(links: &mut [LinkWords], at: usize, l: usize, link: LinkWords)
 // The link put in behind the e links of its node, and the ranges moved.
 #[tactic(auto, unfolding(crate::specs::AddLink::nodes_after))]
 fn place_link(
+    ynd: Ynd,
     nodes: &mut [NodeWords],
     links: &mut [LinkWords],
-    n: usize,
-    l: usize,
     p: usize,
     e: usize,
     link: LinkWords,
 )
-    requires { LinkRoom n l p e (length nodes.old) (length links.old) × (e ≡ held_at nodes.old p l) }
-    ensures { (nodes.new ≡ nodes_after n l p nodes.old)
-        × (links.new ≡ inserted (at_in nodes.old p l) l link links.old) }
+    requires { LinkRoom ynd.node_count ynd.link_count p e (length nodes.old) (length links.old)
+        × (e ≡ held_at nodes.old p ynd.link_count) }
+    ensures { (nodes.new ≡ nodes_after ynd.node_count ynd.link_count p nodes.old)
+        × (links.new ≡ inserted (at_in nodes.old p ynd.link_count) ynd.link_count link links.old) }
 {
+    let l = ynd.link_count as usize;
     let w = nodes[p];
     let s = link_start(w) as usize;
     let at = behind_of(s, e, l);
-    shift_all(&mut nodes[..n], at, l);
+    shift_all(&mut nodes[..ynd.node_count as usize], at, l);
     nodes[p] = with_range(w, (at - e) as u32, (e + 1) as u8);
     insert(links, at, l, link);
 }
@@ -58,16 +59,17 @@ fn place_link(
 #[tactic(auto, using(numbers::proofs::Refusing::tested), unfolding(crate::specs::AddLink::room_for_link))]
 fn room_for_link(
     ynd: Ynd,
-    n: usize,
-    l: usize,
+    nodes: &[NodeWords],
+    links: &[LinkWords],
     p: usize,
     e: usize,
-    nodes: usize,
-    links: usize,
 ) -> Result<(), Refusal>
-    ensures value { result ≡ room_for_link (over_limit ynd) n l p e nodes links }
-    ensures room { OnOk result (LinkRoom n l p e nodes links) }
+    ensures value { result ≡ room_for_link (over_limit ynd) ynd.node_count ynd.link_count p e (length nodes.now)
+        (length links.now) }
+    ensures room { OnOk result (LinkRoom ynd.node_count ynd.link_count p e (length nodes.now) (length links.now)) }
 {
+    let n = ynd.node_count as usize;
+    let l = ynd.link_count as usize;
     if n <= p {
         return Err(Refusal::NoSuchPlace);
     }
@@ -80,10 +82,10 @@ fn room_for_link(
     if 255 <= e {
         return Err(Refusal::AtLimit);
     }
-    if nodes < n {
+    if nodes.len() < n {
         return Err(Refusal::TooShort(Lent::Nodes));
     }
-    if links <= l {
+    if links.len() <= l {
         return Err(Refusal::TooShort(Lent::Links));
     }
     Ok(())
@@ -102,13 +104,11 @@ pub fn add_link(
         left ynd result nodes.new links.new junctions heights refs
         ≡ add_link (memory ynd nodes.old links.old junctions heights refs) place link }
 {
-    let n = ynd.node_count as usize;
-    let l = ynd.link_count as usize;
-    let e = held_in(link_range(nodes, place), l);
-    room_for_link(ynd, n, l, place, e, nodes.len(), links.len())?;
-    place_link(nodes, links, n, l, place, e, link_words(link));
+    let e = held_in(link_range(nodes, place), ynd.link_count as usize);
+    room_for_link(ynd, nodes, links, place, e)?;
+    place_link(ynd, nodes, links, place, e, LinkWords::from(link));
     Ok(Ynd {
-        link_count: (l + 1) as u32,
+        link_count: ynd.link_count + 1,
         ..ynd
     })
 }

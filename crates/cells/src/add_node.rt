@@ -3,7 +3,7 @@ ghost use Rattle.std.specs.Prelude.{◌≡◌, List, ℕ};
 ghost use Rattle.cells.specs.Memory.{memory, left};
 ghost use Rattle.cells.specs.Add.{add_node};
 
-use crate::node::{NodeWords, PathNode, node_words};
+use crate::node::{NodeWords, PathNode};
 use crate::room_check::room_for;
 use crate::ynd::Ynd;
 use numbers::math::Vec3;
@@ -23,7 +23,7 @@ pub fn add_node(
 {
     let n = ynd.node_count as usize;
     room_for(ynd, 65536, n, nodes.len(), Lent::Nodes)?;
-    nodes[n] = node_words(PathNode::new(area_id, n as u16, position));
+    nodes[n] = NodeWords::from(PathNode::new(area_id, n as u16, position));
     Ok(Ynd {
         node_count: (n + 1) as u32,
         ..ynd

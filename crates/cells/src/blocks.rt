@@ -1,5 +1,5 @@
 // The five arrays of the file, put into a section. Each answers where it ends.
-ghost use Rattle.std.specs.Prelude.{◌≡◌, true, List, ℕ, ◌+◌, ◌*◌, ◌≤◌, length, take, drop, replicate};
+ghost use Rattle.std.specs.Prelude.{◌≡◌, true, List, ℕ, ◌+◌, ◌*◌, ◌≤◌, length, replicate};
 ghost use Rattle.records.specs.Put.{put, joined};
 ghost use Rattle.records.specs.Layout.{gap_for};
 ghost use Rattle.cells.specs.WriteChecks.{links_within, values_within, accepted, check_nodes, check_junctions};
@@ -8,7 +8,7 @@ ghost use Rattle.cells.specs.Blocks.{heights_block, junctions_block, links_block
 use crate::junction::JunctionWords;
 use crate::link::LinkWords;
 use crate::node::NodeWords;
-use crate::range::{link_count, link_start, stored_start, value_count, value_start};
+use crate::range::{link_count, link_start, part, stored_start, value_count, value_start};
 use crate::to_file::{junction_record, link_record, node_record};
 use crate::write_checks::{links_within, values_within};
 use records::layout::gap_for;
@@ -43,14 +43,6 @@ pub(crate) fn put_records<F: Fn([u16; 4]) -> [u8; 8]>(
         p += 8;
     }
     p
-}
-
-// The entries of a pool that a range names, cut where it leaves the pool.
-fn part<T>(pool: &[T], start: usize, count: usize) -> &[T]
-    ensures { result.now ≡ take count (drop start pool.now) }
-{
-    let rest = &pool[start.min(pool.len())..];
-    &rest[..count.min(rest.len())]
 }
 
 pub(crate) fn put_links(

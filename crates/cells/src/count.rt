@@ -23,7 +23,7 @@ pub struct Counts {
 }
 
 // How long the lent lists are.
-pub(crate) fn lengths(
+pub fn lengths(
     nodes: &[NodeWords],
     links: &[LinkWords],
     junctions: &[JunctionWords],

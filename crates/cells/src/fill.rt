@@ -5,7 +5,7 @@ ghost use Rattle.cells.specs.Lists.{up_to, join_to, sum_to};
 ghost use Rattle.cells.specs.Read.{links_from, values_from, ref_in};
 
 use crate::junction_ref::{RefWords, ref_words};
-use crate::link::{LinkWords, PathLink, link_words};
+use crate::link::{LinkWords, PathLink};
 use crate::ranged::Ranged;
 use records::bytes::byte_at;
 use records::junction_ref::ref_at;
@@ -17,7 +17,8 @@ pub(crate) fn copy_links(l: &[u8], from: usize, links: &mut [LinkWords])
     ensures { links.new ≡ links_from l.now from (length links.old) }
 {
     for (k, w) in links.iter_mut().enumerate() {
-        *w = link_words(PathLink::from(link_at(l, ((from + k) * 8) as u32)));
+        let link = PathLink::from(link_at(l, ((from + k) * 8) as u32));
+        *w = LinkWords::from(link);
     }
 }
 

@@ -4,10 +4,10 @@ ghost use Rattle.cells.specs.Edit.{node_entry, got_node, link_entry, got_link, r
 ghost use Rattle.cells.specs.Edit.{got_junction, height_entry, got_height};
 
 use crate::entry::{height_entry, junction_entry, link_entry, node_entry, ref_entry};
-use crate::junction::{JunctionWords, PathJunction, path_junction_of};
+use crate::junction::{JunctionWords, PathJunction};
 use crate::junction_ref::{RefWords, ref_of};
-use crate::link::{LinkWords, PathLink, link_of};
-use crate::node::{NodeWords, PathNode, node_of};
+use crate::link::{LinkWords, PathLink};
+use crate::node::{NodeWords, PathNode};
 use crate::ynd::Ynd;
 use numbers::refusal::Refusal;
 use records::junction_ref::NodeJunctionRef;
@@ -16,7 +16,7 @@ pub fn get_node(ynd: Ynd, nodes: &[NodeWords], place: usize) -> Result<PathNode,
     ensures { result ≡ got_node (node_entry ynd nodes.now place) nodes.now }
 {
     let i = node_entry(ynd, nodes, place)?;
-    Ok(node_of(nodes[i]))
+    Ok(PathNode::from(nodes[i]))
 }
 
 // Link k of the node at a place.
@@ -30,7 +30,7 @@ pub fn get_link(
     ensures { result ≡ got_link (link_entry ynd nodes.now (length links.now) place k) links.now }
 {
     let i = link_entry(ynd, nodes, links.len(), place, k)?;
-    Ok(link_of(links[i]))
+    Ok(PathLink::from(links[i]))
 }
 
 pub fn get_ref(ynd: Ynd, refs: &[RefWords], place: usize) -> Result<NodeJunctionRef, Refusal>
@@ -48,7 +48,7 @@ pub fn get_junction(
     ensures { result ≡ got_junction (junction_entry ynd junctions.now place) junctions.now }
 {
     let i = junction_entry(ynd, junctions, place)?;
-    Ok(path_junction_of(junctions[i]))
+    Ok(PathJunction::from(junctions[i]))
 }
 
 // Value k of the junction at a place.

@@ -20,37 +20,41 @@ pub struct PathJunction {
 }
 
 // The junction that six words hold.
-#[tactic(auto, unfolding(crate::specs::Words::to_junction))]
-pub fn path_junction_of(w: JunctionWords) -> PathJunction
-    ensures { result ≡ to_junction w }
-{
-    let position = Vec2 {
-        x: float_of(w[0]),
-        y: float_of(w[1]),
-    };
-    let [width, height, _, _] = w[4].to_le_bytes();
-    PathJunction {
-        position,
-        min_z: float_of(w[2]),
-        max_z: float_of(w[3]),
-        width,
-        height,
-        heightmap_ptr: w[5],
+impl From<JunctionWords> for PathJunction {
+    ghost from_gives = { λ w j. j ≡ to_junction w };
+
+    #[tactic(auto, unfolding(crate::specs::Words::to_junction))]
+    fn from(w: JunctionWords) -> PathJunction {
+        let position = Vec2 {
+            x: float_of(w[0]),
+            y: float_of(w[1]),
+        };
+        let [width, height, _, _] = w[4].to_le_bytes();
+        PathJunction {
+            position,
+            min_z: float_of(w[2]),
+            max_z: float_of(w[3]),
+            width,
+            height,
+            heightmap_ptr: w[5],
+        }
     }
 }
 
 // The six words that hold a junction.
-#[tactic(auto, unfolding(crate::specs::Words::junction_words))]
-pub fn junction_words(j: PathJunction) -> JunctionWords
-    ensures { result ≡ junction_words j }
-{
-    let p = j.position;
-    [
-        bits_of(p.x),
-        bits_of(p.y),
-        bits_of(j.min_z),
-        bits_of(j.max_z),
-        u32::from_le_bytes([j.width, j.height, 0, 0]),
-        j.heightmap_ptr,
-    ]
+impl From<PathJunction> for JunctionWords {
+    ghost from_gives = { λ j w. w ≡ junction_words j };
+
+    #[tactic(auto, unfolding(crate::specs::Words::junction_words))]
+    fn from(j: PathJunction) -> JunctionWords {
+        let p = j.position;
+        [
+            bits_of(p.x),
+            bits_of(p.y),
+            bits_of(j.min_z),
+            bits_of(j.max_z),
+            u32::from_le_bytes([j.width, j.height, 0, 0]),
+            j.heightmap_ptr,
+        ]
+    }
 }

@@ -1,4 +1,6 @@
 // A ref in memory, four numbers of 16 bits.
+// The struct is records', so a `From` would stand there, where nothing is lent, and say `to_ref` and `ref_words` a
+// second time: eight callers would then have to unfold them.
 ghost use Rattle.std.specs.Prelude.{◌≡◌};
 ghost use Rattle.cells.specs.Words.{to_ref, ref_words};
 

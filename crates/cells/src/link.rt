@@ -16,31 +16,35 @@ pub struct PathLink {
 }
 
 // The link that four numbers hold.
-#[tactic(auto, unfolding(crate::specs::Words::to_link))]
-pub fn link_of(w: LinkWords) -> PathLink
-    ensures { result ≡ to_link w }
-{
-    let [flags0, flags1] = w[2].to_le_bytes();
-    let [flags2, length] = w[3].to_le_bytes();
-    PathLink {
-        area_id: w[0],
-        node_id: w[1],
-        flags0,
-        flags1,
-        flags2,
-        length,
+impl From<LinkWords> for PathLink {
+    ghost from_gives = { λ w l. l ≡ to_link w };
+
+    #[tactic(auto, unfolding(crate::specs::Words::to_link))]
+    fn from(w: LinkWords) -> PathLink {
+        let [flags0, flags1] = w[2].to_le_bytes();
+        let [flags2, length] = w[3].to_le_bytes();
+        PathLink {
+            area_id: w[0],
+            node_id: w[1],
+            flags0,
+            flags1,
+            flags2,
+            length,
+        }
     }
 }
 
 // The four numbers that hold a link.
-#[tactic(auto, unfolding(crate::specs::Words::link_words))]
-pub fn link_words(l: PathLink) -> LinkWords
-    ensures { result ≡ link_words l }
-{
-    [
-        l.area_id,
-        l.node_id,
-        u16::from_le_bytes([l.flags0, l.flags1]),
-        u16::from_le_bytes([l.flags2, l.length]),
-    ]
+impl From<PathLink> for LinkWords {
+    ghost from_gives = { λ l w. w ≡ link_words l };
+
+    #[tactic(auto, unfolding(crate::specs::Words::link_words))]
+    fn from(l: PathLink) -> LinkWords {
+        [
+            l.area_id,
+            l.node_id,
+            u16::from_le_bytes([l.flags0, l.flags1]),
+            u16::from_le_bytes([l.flags2, l.length]),
+        ]
+    }
 }

@@ -4,10 +4,10 @@ ghost use Rattle.cells.specs.Edit.{stored, range_kept, put_node, set_position, p
 ghost use Rattle.cells.specs.Edit.{put_height};
 
 use crate::entry::{height_entry, link_entry, node_entry, ref_entry, sized_entry};
-use crate::junction::{JunctionWords, PathJunction, junction_words};
+use crate::junction::{JunctionWords, PathJunction};
 use crate::junction_ref::{RefWords, ref_words};
-use crate::link::{LinkWords, PathLink, link_words};
-use crate::node::{NodeWords, PathNode, node_of, node_words};
+use crate::link::{LinkWords, PathLink};
+use crate::node::{NodeWords, PathNode};
 use crate::range::{link_count, link_start, map_size, start_at, value_start};
 use crate::ynd::Ynd;
 use numbers::math::Vec3;
@@ -33,7 +33,7 @@ pub fn put_node(ynd: Ynd, nodes: &mut [NodeWords], place: usize, n: PathNode) ->
 {
     let i = node_entry(ynd, nodes, place)?;
     let kept = range_kept(n, nodes[i]);
-    nodes[i] = node_words(kept);
+    nodes[i] = NodeWords::from(kept);
     Ok(())
 }
 
@@ -43,8 +43,8 @@ pub fn set_position(ynd: Ynd, nodes: &mut [NodeWords], place: usize, p: Vec3) ->
     ensures { stored result nodes.new ≡ set_position ynd nodes.old place p }
 {
     let i = node_entry(ynd, nodes, place)?;
-    let n = node_of(nodes[i]);
-    nodes[i] = node_words(n.set_position(p));
+    let n = PathNode::from(nodes[i]);
+    nodes[i] = NodeWords::from(n.set_position(p));
     Ok(())
 }
 
@@ -61,7 +61,7 @@ pub fn put_link(
     ensures { stored result links.new ≡ put_link ynd nodes.now links.old place k l }
 {
     let i = link_entry(ynd, nodes, links.len(), place, k)?;
-    links[i] = link_words(l);
+    links[i] = LinkWords::from(l);
     Ok(())
 }
 
@@ -91,7 +91,7 @@ pub fn put_junction(
 {
     let i = sized_entry(ynd, junctions, place, map_size(j.width, j.height))?;
     let kept = start_at(j, value_start(junctions[i]));
-    junctions[i] = junction_words(kept);
+    junctions[i] = JunctionWords::from(kept);
     Ok(())
 }
 

@@ -7,8 +7,8 @@ ghost use Rattle.cells.specs.PutLinks.{room_for_links, LinksRoom, put_links};
 
 use crate::link::LinkWords;
 use crate::node::NodeWords;
-use crate::range::{held_in, link_range};
-use crate::replace::{place_for, pool_after};
+use crate::range::link_range;
+use crate::replace::{Placed, placing, put_at};
 use crate::room::over_limit;
 use crate::shift::with_range;
 use crate::ynd::Ynd;
@@ -17,32 +17,32 @@ use numbers::refusal::{Lent, Refusal};
 #[tactic(auto, using(numbers::proofs::Refusing::tested), unfolding(crate::specs::PutLinks::room_for_links))]
 fn room_for_links(
     ynd: Ynd,
-    n: usize,
+    nodes: &[NodeWords],
+    links: &[LinkWords],
     p: usize,
-    c: usize,
-    after: usize,
-    nodes: usize,
-    links: usize,
+    to: Placed,
 ) -> Result<(), Refusal>
-    ensures value { result ≡ room_for_links (over_limit ynd) n p c after nodes links }
-    ensures room { OnOk result (LinksRoom n p c after nodes links) }
+    ensures value { result ≡ room_for_links (over_limit ynd) ynd.node_count p to.count to.after (length nodes.now)
+        (length links.now) }
+    ensures room { OnOk result (LinksRoom ynd.node_count p to.count to.after (length nodes.now) (length links.now)) }
 {
+    let n = ynd.node_count as usize;
     if n <= p {
         return Err(Refusal::NoSuchPlace);
     }
     if over_limit(ynd) {
         return Err(Refusal::AtLimit);
     }
-    if 255 < c {
+    if 255 < to.count {
         return Err(Refusal::AtLimit);
     }
-    if 4294967295 < after {
+    if 4294967295 < to.after {
         return Err(Refusal::AtLimit);
     }
-    if nodes < n {
+    if nodes.len() < n {
         return Err(Refusal::TooShort(Lent::Nodes));
     }
-    if links < after {
+    if links.len() < to.after {
         return Err(Refusal::TooShort(Lent::Links));
     }
     Ok(())
@@ -64,7 +64,7 @@ fn place_links(
 {
     let w = nodes[p];
     nodes[p] = with_range(w, at as u32, new.len() as u8);
-    links[at..at + new.len()].copy_from_slice(new);
+    put_at(links, at, new);
 }
 
 // The links of the node at a place are the new ones, in their order.
@@ -81,16 +81,11 @@ pub fn put_links(
         ≡ put_links (memory ynd nodes.old links.old junctions heights refs) place
         new.now }
 {
-    let n = ynd.node_count as usize;
-    let l = ynd.link_count as usize;
-    let r = link_range(nodes, place);
-    let e = held_in(r, l);
-    let after = pool_after(e, new.len(), l);
-    room_for_links(ynd, n, place, new.len(), after, nodes.len(), links.len())?;
-    let at = place_for(r.start, e, new.len(), l);
-    place_links(nodes, links, place, at, new);
+    let to = placing(link_range(nodes, place), new.len(), ynd.link_count as usize);
+    room_for_links(ynd, nodes, links, place, to)?;
+    place_links(nodes, links, place, to.start, new);
     Ok(Ynd {
-        link_count: after as u32,
+        link_count: to.after as u32,
         ..ynd
     })
 }

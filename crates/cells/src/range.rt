@@ -1,5 +1,5 @@
 // The range of links that a node has, and of heightmap values that a junction has.
-ghost use Rattle.std.specs.Prelude.{◌≡◌, ◌-◌, ◌*◌, ◌<◌, min};
+ghost use Rattle.std.specs.Prelude.{◌≡◌, ◌-◌, ◌*◌, ◌<◌, min, take, drop};
 ghost use Rattle.cells.specs.NodeWords.{link_start, link_count, value_start, value_count};
 ghost use Rattle.cells.specs.Edit.{start_at, link_range, value_range, held_in};
 ghost use Rattle.cells.specs.Entries.{stored_start};
@@ -89,6 +89,14 @@ pub fn cut(start: usize, count: usize, pool: usize) -> usize
     ensures { result ≡ min count (pool - start) }
 {
     count.min(pool.saturating_sub(start))
+}
+
+// `count` entries of a pool from `start` on, cut where the pool ends.
+pub fn part<T>(pool: &[T], start: usize, count: usize) -> &[T]
+    ensures { result.now ≡ take count (drop start pool.now) }
+{
+    let from = start.min(pool.len());
+    &pool[from..from + cut(from, count, pool.len())]
 }
 
 // The start that a node with `count` links stores behind `before` links of other nodes (T-05: 0 if it has none).

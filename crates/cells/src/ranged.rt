@@ -10,9 +10,9 @@ ghost use Rattle.numbers.specs.declared.refusal.Refusal.TheVariants.{LinksOutsid
 
 use crate::fill::{copy_links, copy_values};
 use crate::from_file::{path_junction, path_node};
-use crate::junction::{JunctionWords, junction_words};
+use crate::junction::JunctionWords;
 use crate::link::LinkWords;
-use crate::node::{NodeWords, node_words};
+use crate::node::NodeWords;
 use crate::range::{Range, map_size};
 use numbers::refusal::Refusal;
 use records::bytes::{byte_at, u16_at};
@@ -93,7 +93,7 @@ impl Ranged for FileNodes<'_> {
     }
 
     fn entry(self, i: usize, first: u32) -> NodeWords {
-        node_words(path_node(node_at(self.n, (i * 40) as u32), first))
+        NodeWords::from(path_node(node_at(self.n, (i * 40) as u32), first))
     }
 
     fn fill_part(self, i: usize, held: usize, parts: &mut [LinkWords]) {
@@ -138,7 +138,7 @@ impl Ranged for FileJunctions<'_> {
     }
 
     fn entry(self, i: usize, first: u32) -> JunctionWords {
-        junction_words(path_junction(junction_at(self.j, (i * 12) as u32), first))
+        JunctionWords::from(path_junction(junction_at(self.j, (i * 12) as u32), first))
     }
 
     fn fill_part(self, i: usize, held: usize, parts: &mut [u8]) {

@@ -1,10 +1,14 @@
 // Where the new entries of a range go, and how many entries there are in all afterwards.
-ghost use Rattle.std.specs.Prelude.{◌≡◌, ◌+◌, ◌<◌};
+ghost use Rattle.std.specs.Prelude.{◌≡◌, ◌+◌, ◌<◌, ◌≤◌, length};
+ghost use Rattle.records.specs.Put.{put};
+ghost use Rattle.cells.specs.Edit.{held_in};
 ghost use Rattle.cells.specs.Replace.{place_for, pool_after};
+
+use crate::range::{Range, held_in};
 
 // c new entries in place of e from s on, of l.
 #[tactic(auto, using(numbers::proofs::Refusing::tested), unfolding(crate::specs::Replace::place_for))]
-pub(crate) fn place_for(s: usize, e: usize, c: usize, l: usize) -> usize
+fn place_for(s: usize, e: usize, c: usize, l: usize) -> usize
     ensures { result ≡ place_for s e c l }
 {
     if c == 0 {
@@ -17,7 +21,7 @@ pub(crate) fn place_for(s: usize, e: usize, c: usize, l: usize) -> usize
 }
 
 #[tactic(auto, using(numbers::proofs::Refusing::tested), unfolding(crate::specs::Replace::pool_after))]
-pub(crate) fn pool_after(e: usize, c: usize, l: usize) -> usize
+fn pool_after(e: usize, c: usize, l: usize) -> usize
     requires { l + c < 18446744073709551616 }
     ensures { result ≡ pool_after e c l }
 {
@@ -25,4 +29,36 @@ pub(crate) fn pool_after(e: usize, c: usize, l: usize) -> usize
         return l;
     }
     l + c
+}
+
+// New entries: from where on, how many, and how many there are in all afterwards.
+#[derive(Clone, Copy)]
+pub(crate) struct Placed {
+    pub(crate) start: usize,
+    pub(crate) count: usize,
+    pub(crate) after: usize,
+}
+
+// c new entries in place of the range's, of l.
+pub(crate) fn placing(r: Range, c: usize, l: usize) -> Placed
+    requires { l + c < 18446744073709551616 }
+    ensures start { result.start ≡ place_for r.start (held_in r l) c l }
+    ensures count { result.count ≡ c }
+    ensures after { result.after ≡ pool_after (held_in r l) c l }
+    ensures inside { (result.start ≤ l) × (result.start + c ≤ result.after) }
+{
+    let e = held_in(r, l);
+    Placed {
+        start: place_for(r.start, e, c, l),
+        count: c,
+        after: pool_after(e, c, l),
+    }
+}
+
+// The entries from `at` on are the new ones.
+pub(crate) fn put_at<T: Copy>(list: &mut [T], at: usize, new: &[T])
+    requires { at + length new.now ≤ length list.old }
+    ensures { list.new ≡ put list.old at new.now }
+{
+    list[at..at + new.len()].copy_from_slice(new);
 }

@@ -5,10 +5,10 @@ ghost use Rattle.cells.specs.Blocks.{link_record, junction_record, ref_record};
 ghost use Rattle.cells.specs.Words.{to_node};
 ghost use Rattle.records.specs.Records.{node_bytes};
 
-use crate::junction::{JunctionWords, PathJunction, path_junction_of};
+use crate::junction::{JunctionWords, PathJunction};
 use crate::junction_ref::{RefWords, ref_of};
-use crate::link::{LinkWords, PathLink, link_of};
-use crate::node::{NodeWords, PathNode, node_of};
+use crate::link::{LinkWords, PathLink};
+use crate::node::{NodeWords, PathNode};
 use numbers::position::quantise;
 use numbers::steps::{steps_xy, steps_z};
 use records::junction::{NodeJunction, junction_bytes};
@@ -45,16 +45,19 @@ fn file_node(n: PathNode, start: u16, count: u8) -> Node
     }
 }
 
-fn file_link(l: PathLink) -> NodeLink
-    ensures { result ≡ file_link l }
-{
-    NodeLink {
-        area_id: l.area_id,
-        node_id: l.node_id,
-        flags0: l.flags0,
-        flags1: l.flags1,
-        flags2: l.flags2,
-        link_length: l.length,
+impl From<PathLink> for NodeLink {
+    ghost from_gives = { λ l n. n ≡ file_link l };
+
+    #[tactic(auto, unfolding(crate::specs::Entries::file_link))]
+    fn from(l: PathLink) -> NodeLink {
+        NodeLink {
+            area_id: l.area_id,
+            node_id: l.node_id,
+            flags0: l.flags0,
+            flags1: l.flags1,
+            flags2: l.flags2,
+            link_length: l.length,
+        }
     }
 }
 
@@ -84,19 +87,19 @@ pub(crate) fn node_record(w: NodeWords, start: u16, count: u8) -> [u8; 40]
     requires { count ≤ 31 }
     ensures { result ≡ node_bytes (file_node start count (to_node w)) }
 {
-    node_bytes(file_node(node_of(w), start, count))
+    node_bytes(file_node(PathNode::from(w), start, count))
 }
 
 pub(crate) fn link_record(w: LinkWords) -> [u8; 8]
     ensures { result ≡ link_record w }
 {
-    link_bytes(file_link(link_of(w)))
+    link_bytes(PathLink::from(w).into())
 }
 
 pub(crate) fn junction_record(w: JunctionWords, start: u16) -> [u8; 12]
     ensures { result ≡ junction_record start w }
 {
-    junction_bytes(file_junction(path_junction_of(w), start))
+    junction_bytes(file_junction(PathJunction::from(w), start))
 }
 
 pub(crate) fn ref_record(w: RefWords) -> [u8; 8]

@@ -43,7 +43,7 @@ impl Ynd {
     }
 
     // How many entries of each list it has.
-    pub(crate) fn counts(self) -> Counts
+    pub fn counts(self) -> Counts
         ensures { result ≡ counts_of self }
     {
         Counts {

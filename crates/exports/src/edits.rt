@@ -6,9 +6,9 @@ ghost use Rattle.cells.specs.Words.{to_link, to_ref, to_junction};
 ghost use Rattle.exports.specs.Cells.{lent, called, call_of};
 
 use crate::words::{tell_ynd, ynd_of};
-use cells::junction::path_junction_of;
+use cells::junction::PathJunction;
 use cells::junction_ref::ref_of;
-use cells::link::link_of;
+use cells::link::PathLink;
 use cells::node::NodeWords;
 use numbers::math::Vec3;
 
@@ -49,7 +49,7 @@ pub extern "C" fn ynd_add_link(
         (add_link (lent ynd.old nodes.old links.old junctions heights refs) at
         (to_link link.now)) }
 {
-    let r = cells::add_link::add_link(ynd_of(*ynd), nodes, links, at, link_of(*link));
+    let r = cells::add_link::add_link(ynd_of(*ynd), nodes, links, at, PathLink::from(*link));
     tell_ynd(r, ynd, place)
 }
 
@@ -91,7 +91,7 @@ pub extern "C" fn ynd_add_junction(
         ynd_of(*ynd),
         junctions,
         heights,
-        path_junction_of(*junction),
+        PathJunction::from(*junction),
         values,
     );
     tell_ynd(r, ynd, place)

@@ -10,10 +10,10 @@ ghost use Rattle.exports.specs.Found.{told, told_of, value_told, stored_told};
 
 use crate::answers::{answer, tell, tell_as};
 use crate::words::ynd_of;
-use cells::junction::{junction_words, path_junction_of};
+use cells::junction::{JunctionWords, PathJunction};
 use cells::junction_ref::{ref_of, ref_words};
-use cells::link::{link_of, link_words};
-use cells::node::{NodeWords, node_of, node_words};
+use cells::link::{LinkWords, PathLink};
+use cells::node::{NodeWords, PathNode};
 use numbers::math::Vec3;
 
 #[unsafe(no_mangle)]
@@ -28,7 +28,7 @@ pub extern "C" fn ynd_get_node(
         ≡ told_of (got_node (node_entry (to_ynd ynd.now) nodes.now at) nodes.now) node_words node.old }
 {
     let r = cells::get::get_node(ynd_of(*ynd), nodes, at);
-    tell_as(r, node_words, node, place)
+    tell_as(r, NodeWords::from, node, place)
 }
 
 // Link k of the node at a place.
@@ -47,7 +47,7 @@ pub extern "C" fn ynd_get_link(
         at k) links.now) link_words link.old }
 {
     let r = cells::get::get_link(ynd_of(*ynd), nodes, links, at, k);
-    tell_as(r, link_words, link, place)
+    tell_as(r, LinkWords::from, link, place)
 }
 
 // The ref at a place: area, number, junction, unk0.
@@ -79,7 +79,7 @@ pub extern "C" fn ynd_get_junction(
         junctions.now) junction_words junction.old }
 {
     let r = cells::get::get_junction(ynd_of(*ynd), junctions, at);
-    tell_as(r, junction_words, junction, place)
+    tell_as(r, JunctionWords::from, junction, place)
 }
 
 // Value k of the junction at a place.
@@ -113,7 +113,7 @@ pub extern "C" fn ynd_put_node(
     ensures { told result place.new nodes.new
         ≡ stored_told (put_node (to_ynd ynd.now) nodes.old at (to_node node.now)) }
 {
-    let r = cells::put::put_node(ynd_of(*ynd), nodes, at, node_of(*node));
+    let r = cells::put::put_node(ynd_of(*ynd), nodes, at, PathNode::from(*node));
     answer(r, place)
 }
 
@@ -151,7 +151,7 @@ pub extern "C" fn ynd_put_link(
         ≡ stored_told (put_link (to_ynd ynd.now) nodes.now links.old at k
         (to_link link.now)) }
 {
-    let r = cells::put::put_link(ynd_of(*ynd), nodes, links, at, k, link_of(*link));
+    let r = cells::put::put_link(ynd_of(*ynd), nodes, links, at, k, PathLink::from(*link));
     answer(r, place)
 }
 
@@ -183,7 +183,7 @@ pub extern "C" fn ynd_put_junction(
         ≡ stored_told (put_junction (to_ynd ynd.now) junctions.old at
         (to_junction junction.now)) }
 {
-    let r = cells::put::put_junction(ynd_of(*ynd), junctions, at, path_junction_of(*junction));
+    let r = cells::put::put_junction(ynd_of(*ynd), junctions, at, PathJunction::from(*junction));
     answer(r, place)
 }
 

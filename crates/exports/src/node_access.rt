@@ -8,7 +8,7 @@ ghost use Rattle.cells.specs.Special.{special_of, special_value, is_ped_special,
 ghost use Rattle.cells.specs.Words.{to_node, node_words};
 ghost use Rattle.numbers.specs.Positions.{quantised, dequantised};
 
-use cells::node::{NodeWords, PathNode, node_of, node_words};
+use cells::node::{NodeWords, PathNode};
 use cells::special::{NodeSpecial, NodeSpeed};
 use numbers::math::Vec3;
 
@@ -16,126 +16,126 @@ use numbers::math::Vec3;
 pub extern "C" fn ynd_node_off_road(node: &NodeWords) -> bool
     ensures { result ≡ has_bit 3 (to_node node.now).flags0 }
 {
-    node_of(*node).off_road()
+    PathNode::from(*node).off_road()
 }
 
 #[unsafe(no_mangle)]
 pub extern "C" fn ynd_node_no_big_vehicles(node: &NodeWords) -> bool
     ensures { result ≡ has_bit 5 (to_node node.now).flags0 }
 {
-    node_of(*node).no_big_vehicles()
+    PathNode::from(*node).no_big_vehicles()
 }
 
 #[unsafe(no_mangle)]
 pub extern "C" fn ynd_node_cannot_go_left(node: &NodeWords) -> bool
     ensures { result ≡ has_bit 7 (to_node node.now).flags0 }
 {
-    node_of(*node).cannot_go_left()
+    PathNode::from(*node).cannot_go_left()
 }
 
 #[unsafe(no_mangle)]
 pub extern "C" fn ynd_node_slip_road(node: &NodeWords) -> bool
     ensures { result ≡ has_bit 0 (to_node node.now).flags1 }
 {
-    node_of(*node).slip_road()
+    PathNode::from(*node).slip_road()
 }
 
 #[unsafe(no_mangle)]
 pub extern "C" fn ynd_node_indicate_keep_left(node: &NodeWords) -> bool
     ensures { result ≡ has_bit 1 (to_node node.now).flags1 }
 {
-    node_of(*node).indicate_keep_left()
+    PathNode::from(*node).indicate_keep_left()
 }
 
 #[unsafe(no_mangle)]
 pub extern "C" fn ynd_node_indicate_keep_right(node: &NodeWords) -> bool
     ensures { result ≡ has_bit 2 (to_node node.now).flags1 }
 {
-    node_of(*node).indicate_keep_right()
+    PathNode::from(*node).indicate_keep_right()
 }
 
 #[unsafe(no_mangle)]
 pub extern "C" fn ynd_node_left_turns_only(node: &NodeWords) -> bool
     ensures { result ≡ has_bit 7 (to_node node.now).flags1 }
 {
-    node_of(*node).left_turns_only()
+    PathNode::from(*node).left_turns_only()
 }
 
 #[unsafe(no_mangle)]
 pub extern "C" fn ynd_node_is_ped_node(node: &NodeWords) -> bool
     ensures { result ≡ ped_kind ((to_node node.now).flags1 / 8) }
 {
-    node_of(*node).is_ped_node()
+    PathNode::from(*node).is_ped_node()
 }
 
 #[unsafe(no_mangle)]
 pub extern "C" fn ynd_node_no_gps(node: &NodeWords) -> bool
     ensures { result ≡ has_bit 0 (to_node node.now).flags2 }
 {
-    node_of(*node).no_gps()
+    PathNode::from(*node).no_gps()
 }
 
 #[unsafe(no_mangle)]
 pub extern "C" fn ynd_node_is_junction(node: &NodeWords) -> bool
     ensures { result ≡ has_bit 2 (to_node node.now).flags2 }
 {
-    node_of(*node).is_junction()
+    PathNode::from(*node).is_junction()
 }
 
 #[unsafe(no_mangle)]
 pub extern "C" fn ynd_node_is_disabled_unk1(node: &NodeWords) -> bool
     ensures { result ≡ has_bit 4 (to_node node.now).flags2 }
 {
-    node_of(*node).is_disabled_unk1()
+    PathNode::from(*node).is_disabled_unk1()
 }
 
 #[unsafe(no_mangle)]
 pub extern "C" fn ynd_node_highway(node: &NodeWords) -> bool
     ensures { result ≡ has_bit 6 (to_node node.now).flags2 }
 {
-    node_of(*node).highway()
+    PathNode::from(*node).highway()
 }
 
 #[unsafe(no_mangle)]
 pub extern "C" fn ynd_node_is_disabled_unk0(node: &NodeWords) -> bool
     ensures { result ≡ has_bit 7 (to_node node.now).flags2 }
 {
-    node_of(*node).is_disabled_unk0()
+    PathNode::from(*node).is_disabled_unk0()
 }
 
 #[unsafe(no_mangle)]
 pub extern "C" fn ynd_node_is_disabled(node: &NodeWords) -> bool
     ensures { result ≡ disabled (to_node node.now).flags2 }
 {
-    node_of(*node).is_disabled()
+    PathNode::from(*node).is_disabled()
 }
 
 #[unsafe(no_mangle)]
 pub extern "C" fn ynd_node_tunnel(node: &NodeWords) -> bool
     ensures { result ≡ has_bit 0 (to_node node.now).flags3 }
 {
-    node_of(*node).tunnel()
+    PathNode::from(*node).tunnel()
 }
 
 #[unsafe(no_mangle)]
 pub extern "C" fn ynd_node_heuristic_value(node: &NodeWords) -> u8
     ensures { result ≡ field_of 1 7 (to_node node.now).flags3 }
 {
-    node_of(*node).heuristic_value()
+    PathNode::from(*node).heuristic_value()
 }
 
 #[unsafe(no_mangle)]
 pub extern "C" fn ynd_node_density(node: &NodeWords) -> u8
     ensures { result ≡ field_of 0 4 (to_node node.now).flags4 }
 {
-    node_of(*node).density()
+    PathNode::from(*node).density()
 }
 
 #[unsafe(no_mangle)]
 pub extern "C" fn ynd_node_dead_endness(node: &NodeWords) -> u8
     ensures { result ≡ field_of 4 3 (to_node node.now).flags4 * 16 }
 {
-    node_of(*node).dead_endness()
+    PathNode::from(*node).dead_endness()
 }
 
 #[unsafe(no_mangle)]
@@ -143,7 +143,7 @@ pub extern "C" fn ynd_node_set_off_road(node: &mut NodeWords, on: bool)
     ensures { node.new ≡ node_words
         (with_flags0 (to_node node.old) (with_bit 3 (to_node node.old).flags0 on)) }
 {
-    *node = node_words(node_of(*node).set_off_road(on));
+    *node = NodeWords::from(PathNode::from(*node).set_off_road(on));
 }
 
 #[unsafe(no_mangle)]
@@ -151,7 +151,7 @@ pub extern "C" fn ynd_node_set_no_big_vehicles(node: &mut NodeWords, on: bool)
     ensures { node.new ≡ node_words
         (with_flags0 (to_node node.old) (with_bit 5 (to_node node.old).flags0 on)) }
 {
-    *node = node_words(node_of(*node).set_no_big_vehicles(on));
+    *node = NodeWords::from(PathNode::from(*node).set_no_big_vehicles(on));
 }
 
 #[unsafe(no_mangle)]
@@ -159,7 +159,7 @@ pub extern "C" fn ynd_node_set_cannot_go_left(node: &mut NodeWords, on: bool)
     ensures { node.new ≡ node_words
         (with_flags0 (to_node node.old) (with_bit 7 (to_node node.old).flags0 on)) }
 {
-    *node = node_words(node_of(*node).set_cannot_go_left(on));
+    *node = NodeWords::from(PathNode::from(*node).set_cannot_go_left(on));
 }
 
 #[unsafe(no_mangle)]
@@ -167,7 +167,7 @@ pub extern "C" fn ynd_node_set_slip_road(node: &mut NodeWords, on: bool)
     ensures { node.new ≡ node_words
         (with_flags1 (to_node node.old) (with_bit 0 (to_node node.old).flags1 on)) }
 {
-    *node = node_words(node_of(*node).set_slip_road(on));
+    *node = NodeWords::from(PathNode::from(*node).set_slip_road(on));
 }
 
 #[unsafe(no_mangle)]
@@ -175,7 +175,7 @@ pub extern "C" fn ynd_node_set_indicate_keep_left(node: &mut NodeWords, on: bool
     ensures { node.new ≡ node_words
         (with_flags1 (to_node node.old) (with_bit 1 (to_node node.old).flags1 on)) }
 {
-    *node = node_words(node_of(*node).set_indicate_keep_left(on));
+    *node = NodeWords::from(PathNode::from(*node).set_indicate_keep_left(on));
 }
 
 #[unsafe(no_mangle)]
@@ -183,7 +183,7 @@ pub extern "C" fn ynd_node_set_indicate_keep_right(node: &mut NodeWords, on: boo
     ensures { node.new ≡ node_words
         (with_flags1 (to_node node.old) (with_bit 2 (to_node node.old).flags1 on)) }
 {
-    *node = node_words(node_of(*node).set_indicate_keep_right(on));
+    *node = NodeWords::from(PathNode::from(*node).set_indicate_keep_right(on));
 }
 
 #[unsafe(no_mangle)]
@@ -191,7 +191,7 @@ pub extern "C" fn ynd_node_set_left_turns_only(node: &mut NodeWords, on: bool)
     ensures { node.new ≡ node_words
         (with_flags1 (to_node node.old) (with_bit 7 (to_node node.old).flags1 on)) }
 {
-    *node = node_words(node_of(*node).set_left_turns_only(on));
+    *node = NodeWords::from(PathNode::from(*node).set_left_turns_only(on));
 }
 
 #[unsafe(no_mangle)]
@@ -199,7 +199,7 @@ pub extern "C" fn ynd_node_set_no_gps(node: &mut NodeWords, on: bool)
     ensures { node.new ≡ node_words
         (with_flags2 (to_node node.old) (with_bit 0 (to_node node.old).flags2 on)) }
 {
-    *node = node_words(node_of(*node).set_no_gps(on));
+    *node = NodeWords::from(PathNode::from(*node).set_no_gps(on));
 }
 
 #[unsafe(no_mangle)]
@@ -207,7 +207,7 @@ pub extern "C" fn ynd_node_set_is_junction(node: &mut NodeWords, on: bool)
     ensures { node.new ≡ node_words
         (with_flags2 (to_node node.old) (with_bit 2 (to_node node.old).flags2 on)) }
 {
-    *node = node_words(node_of(*node).set_is_junction(on));
+    *node = NodeWords::from(PathNode::from(*node).set_is_junction(on));
 }
 
 #[unsafe(no_mangle)]
@@ -215,7 +215,7 @@ pub extern "C" fn ynd_node_set_highway(node: &mut NodeWords, on: bool)
     ensures { node.new ≡ node_words
         (with_flags2 (to_node node.old) (with_bit 6 (to_node node.old).flags2 on)) }
 {
-    *node = node_words(node_of(*node).set_highway(on));
+    *node = NodeWords::from(PathNode::from(*node).set_highway(on));
 }
 
 #[unsafe(no_mangle)]
@@ -223,7 +223,7 @@ pub extern "C" fn ynd_node_set_tunnel(node: &mut NodeWords, on: bool)
     ensures { node.new ≡ node_words
         (with_flags3 (to_node node.old) (with_bit 0 (to_node node.old).flags3 on)) }
 {
-    *node = node_words(node_of(*node).set_tunnel(on));
+    *node = NodeWords::from(PathNode::from(*node).set_tunnel(on));
 }
 
 #[unsafe(no_mangle)]
@@ -231,7 +231,7 @@ pub extern "C" fn ynd_node_set_heuristic_value(node: &mut NodeWords, v: u8)
     ensures { node.new ≡ node_words
         (with_flags3 (to_node node.old) (with_field 1 7 (to_node node.old).flags3 v)) }
 {
-    *node = node_words(node_of(*node).set_heuristic_value(v));
+    *node = NodeWords::from(PathNode::from(*node).set_heuristic_value(v));
 }
 
 #[unsafe(no_mangle)]
@@ -239,7 +239,7 @@ pub extern "C" fn ynd_node_set_density(node: &mut NodeWords, v: u8)
     ensures { node.new ≡ node_words
         (with_flags4 (to_node node.old) (with_field 0 4 (to_node node.old).flags4 v)) }
 {
-    *node = node_words(node_of(*node).set_density(v));
+    *node = NodeWords::from(PathNode::from(*node).set_density(v));
 }
 
 // The kind of node: the value of flags1's upper five bits.
@@ -247,7 +247,7 @@ pub extern "C" fn ynd_node_set_density(node: &mut NodeWords, v: u8)
 pub extern "C" fn ynd_node_special(node: &NodeWords) -> u8
     ensures { result ≡ special_value (special_of (field_of 3 5 (to_node node.now).flags1)) }
 {
-    node_of(*node).special().value()
+    PathNode::from(*node).special().value()
 }
 
 // Of a value over 31 the low five bits are stored.
@@ -257,7 +257,7 @@ pub extern "C" fn ynd_node_set_special(node: &mut NodeWords, v: u8)
         (with_flags1 (to_node node.old)
         (with_field 3 5 (to_node node.old).flags1 (special_value (special_of v)))) }
 {
-    *node = node_words(node_of(*node).set_special(NodeSpecial::from_value(v)));
+    *node = NodeWords::from(PathNode::from(*node).set_special(NodeSpecial::from_value(v)));
 }
 
 // The speed: 0 slow, 1 normal, 2 fast, 3 faster.
@@ -265,7 +265,7 @@ pub extern "C" fn ynd_node_set_special(node: &mut NodeWords, v: u8)
 pub extern "C" fn ynd_node_speed(node: &NodeWords) -> u8
     ensures { result ≡ speed_value (speed_of (field_of 1 2 (to_node node.now).flags5)) }
 {
-    node_of(*node).speed().value()
+    PathNode::from(*node).speed().value()
 }
 
 #[tactic(auto, unfolding(cells::specs::Special::speed_of))]
@@ -287,7 +287,7 @@ pub extern "C" fn ynd_node_set_speed(node: &mut NodeWords, v: u8)
         (with_flags5 (to_node node.old)
         (with_field 1 2 (to_node node.old).flags5 (speed_value (speed_of v)))) }
 {
-    *node = node_words(node_of(*node).set_speed(speed_of(v)));
+    *node = NodeWords::from(PathNode::from(*node).set_speed(speed_of(v)));
 }
 
 // Whether a kind is one of the three kinds of ped node.
@@ -311,7 +311,7 @@ pub extern "C" fn ynd_node_new(
     ensures { node.new ≡ node_words
         (new_node area_id node_id (dequantised (quantised (record { x = x; y = y; z = z })))) }
 {
-    *node = node_words(PathNode::new(area_id, node_id, Vec3 { x, y, z }));
+    *node = NodeWords::from(PathNode::new(area_id, node_id, Vec3 { x, y, z }));
 }
 
 // The position is stored in whole steps.
@@ -320,5 +320,5 @@ pub extern "C" fn ynd_node_set_position(node: &mut NodeWords, x: f32, y: f32, z:
     ensures { node.new ≡ node_words
         (with_position (to_node node.old) (dequantised (quantised (record { x = x; y = y; z = z })))) }
 {
-    *node = node_words(node_of(*node).set_position(Vec3 { x, y, z }));
+    *node = NodeWords::from(PathNode::from(*node).set_position(Vec3 { x, y, z }));
 }

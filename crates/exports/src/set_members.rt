@@ -11,15 +11,15 @@ ghost use Rattle.exports.specs.SetTold.{sizes_given, count_told, change_told};
 
 use crate::answers::tell;
 use crate::words::ynd_of;
+use cells::count::Counts;
 use cells::node::NodeWords;
 use numbers::refusal::Refusal;
-use sets::parts::PerList;
 
-fn sizes_of(s: [usize; 5]) -> PerList
+fn sizes_of(s: [usize; 5]) -> Counts
     ensures { result ≡ sizes_given s }
 {
     let [nodes, links, junctions, heights, refs] = s;
-    PerList {
+    Counts {
         nodes,
         links,
         junctions,

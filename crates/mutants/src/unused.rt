@@ -1,14 +1,14 @@
 // T-10, for the edits of must-fail/: a node's words hold its unused fields, here unused4, the last word.
 ghost use Rattle.std.specs.Prelude.{◌≡◌};
 
-use cells::node::PathNode;
+use cells::node::{NodeWords, PathNode};
 
 // The last word of a node.
 #[tactic(auto, unfolding(cells::specs::Words::node_words))]
 pub fn last_word(n: PathNode) -> u32
     ensures { result ≡ n.unused4 }
 {
-    let words = cells::node::node_words(n);
+    let words = NodeWords::from(n);
     let last = words[12];
     last
 }
@@ -18,7 +18,7 @@ pub fn last_word(n: PathNode) -> u32
 pub fn last_word_in_arms(n: PathNode) -> u32
     ensures { result ≡ n.unused4 }
 {
-    let words = cells::node::node_words(n);
+    let words = NodeWords::from(n);
     if 255 < n.unused4 {
         return words[12];
     }

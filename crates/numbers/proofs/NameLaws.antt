@@ -208,3 +208,8 @@ module _ (b : List ℕ) where
 
   pub suffix_is : (z : Bool) → z ≡ starts (take (length b - (length b - 4)) (drop (length b - 4) b)) ynd → starts (drop (length b - 4) b) ynd ≡ z
   suffix_is z e = ap (λ (x : List ℕ). starts x ynd) (sym (to_end b (length b - 4))) ∙ sym e
+
+-- for the functions
+pub ruleset area_laws = (area_short, area_is, suffix_is)
+
+pub ruleset parsed_laws = (parsed_is, parsed_text, ok_is, err_is)

@@ -194,3 +194,6 @@ pub round_unsigned : (a c : ℕ) → T (unsigned (round binary32 false a c))
 round_unsigned a c =
     subst (λ (x : Float). T (unsigned x)) (sym (round_is binary32 false a c))
     (units_unsigned (nearest (a * 2 ^ 149 / (c * 2 ^ (size (a * 2 ^ 149 / c) - 24))) (compare (a * 2 ^ 149 % (c * 2 ^ (size (a * 2 ^ 149 / c) - 24)) * 2) (c * 2 ^ (size (a * 2 ^ 149 / c) - 24)))) (size (a * 2 ^ 149 / c) - 24))
+
+-- for a function that takes a number or none
+pub ruleset float_laws = (nan_is, not_nan, number_bits)

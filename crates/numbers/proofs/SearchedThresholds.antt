@@ -229,3 +229,8 @@ read_before (suc w) n rest h =
 
 pub digits_back : (n : ℕ) → n < 2 ^ 32 → hex_read 0 (hex_before 8 n []) ≡ n
 digits_back n h = read_before 8 n [] h
+
+-- for the functions
+pub ruleset reach_laws = (j_in, k_some, compared)
+
+pub ruleset turning_laws = (least_entry, turning, at_or_above, below_it)

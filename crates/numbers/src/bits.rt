@@ -9,6 +9,7 @@ pub fn bits_of(x: f32) -> u32
     if x.is_nan() { 0x7fc0_0000 } else { x.to_bits() }
 }
 
+#[tactic(auto, using(crate::proofs::Patterns::nan_pattern, crate::proofs::Patterns::number_pattern))]
 pub fn float_of(n: u32) -> f32
     ensures { result ≡ from_bits binary32 n }
 {

@@ -46,6 +46,7 @@ fn estimate(s: f32, b: u32) -> u32
 }
 
 // The same as `length_of_bits`, for a k that may be the answer, or one more.
+#[tactic(auto, using(crate::proofs::SquareLaws::between_is, crate::proofs::SquareLaws::before_one))]
 fn length_near(k: u32, b: u32) -> u8
     requires { (k ≤ 255) × (b ≤ 0x7f80_0000) }
     ensures { result ≡ length_of (from_bits binary32 b) }
@@ -78,6 +79,7 @@ fn length_under(s: f32, b: u32) -> u8
     length_near(k, b)
 }
 
+#[tactic(auto, using(crate::proofs::Dots::dot_laws))]
 pub fn length_between(a: Vec3, b: Vec3) -> u8
     ensures { result ≡ length_between a b }
 {

@@ -21,6 +21,7 @@ fn digit_of(n: u32) -> u8
 }
 
 // The file name of an area below 10,000.
+#[tactic(auto, unfolding(crate::specs::Names::decimal, crate::specs::Names::name_of_area, crate::specs::Names::named))]
 fn name_of_area(area: u32) -> FileName
     ensures { result ≡ named (name_of_area area) }
 {
@@ -62,6 +63,7 @@ fn is_slash(c: u8) -> bool
 }
 
 // What stands after the last slash.
+#[tactic(auto, using(crate::proofs::NameLaws::base_whole))]
 fn base_of(s: &[u8]) -> &[u8]
     ensures { result.now ≡ base_of s.now }
 {
@@ -72,6 +74,7 @@ fn base_of(s: &[u8]) -> &[u8]
 }
 
 // Whether s, in lower case, starts with the word.
+#[tactic(auto, using(crate::proofs::NameLaws::starts_short, crate::proofs::NameLaws::starts_decided))]
 fn starts_with(s: &[u8], word: &[u8]) -> bool
     ensures { result ≡ starts s.now word.now }
 {
@@ -82,6 +85,7 @@ fn starts_with(s: &[u8], word: &[u8]) -> bool
 }
 
 // The number between the two words.
+#[tactic(auto, using(crate::proofs::NameLaws::parsed_laws))]
 fn parsed_of(t: &[u8]) -> Option<u32>
     ensures { result ≡ parsed t.now }
 {
@@ -89,6 +93,7 @@ fn parsed_of(t: &[u8]) -> Option<u32>
     text.parse().ok()
 }
 
+#[tactic(auto, using(crate::proofs::NameLaws::area_laws))]
 fn area_of_base(b: &[u8]) -> Option<u32>
     ensures { result ≡ area_of_base b.now }
 {
@@ -103,6 +108,7 @@ fn area_of_base(b: &[u8]) -> Option<u32>
     None
 }
 
+#[tactic(auto, unfolding(crate::specs::Names::area_id_from_file_name))]
 pub fn area_id_from_file_name(name: &[u8]) -> Option<u32>
     ensures { result ≡ area_id_from_file_name name.now }
 {

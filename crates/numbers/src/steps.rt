@@ -34,6 +34,7 @@ fn limit(negative: bool) -> i16
 //   cut to -32768 (along x and y from -8192 down to above -8192.25, along z from -1024 down to above -1024.03125)
 //   has the field of this case too, though an i16 holds it: the limit of its sign is the step that it has.
 // - Infinite is field 255 with the fraction 0: the limit of the sign.
+#[tactic(auto, using(crate::proofs::StepLaws::cut_in))]
 fn steps_of_number(b: u32, k: u32) -> i16
     requires { (k ≤ 5) × (b % 0x8000_0000 ≤ 0x7f80_0000) }
     ensures { result ≡ step_of k (from_bits binary32 b) }
@@ -59,6 +60,7 @@ fn steps_of_number(b: u32, k: u32) -> i16
 
 // The same for any pattern. NaN is field 255 with another fraction than 0, so a pattern above infinity's but for the
 // sign: 0.
+#[tactic(auto, using(crate::proofs::Patterns::nan_pattern), unfolding(crate::specs::Steps::step_of))]
 fn steps_of_bits(b: u32, k: u32) -> i16
     requires { k ≤ 5 }
     ensures { result ≡ step_of k (from_bits binary32 b) }
@@ -71,6 +73,7 @@ fn steps_of_bits(b: u32, k: u32) -> i16
 }
 
 // The same, from the f32.
+#[tactic(auto, using(crate::proofs::Patterns::float_laws), unfolding(crate::specs::Steps::step_of))]
 fn steps(x: f32, k: u32) -> i16
     requires { k ≤ 5 }
     ensures { result ≡ step_of k x }
@@ -84,6 +87,7 @@ fn steps(x: f32, k: u32) -> i16
 }
 
 // What n steps stand for, 2 ^ k of them a metre.
+#[tactic(auto, using(crate::proofs::StepLaws::divided, crate::proofs::StepLaws::power_is))]
 fn metres(n: i16, k: u32) -> f32
     requires { k ≤ 5 }
     ensures { result ≡ unstep k n }

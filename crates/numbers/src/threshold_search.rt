@@ -15,6 +15,7 @@ fn digits_below(k: u32) -> u32
 
 // Whether the root of the number with the pattern b rounds to k or more: the square of the middle between k and the
 // f32 before it against the number, both in units of 2^(2 * j - 50).
+#[tactic(auto, using(crate::proofs::SearchedThresholds::reach_laws))]
 fn whole_reaches(k: u32, j: u32, b: u32) -> bool
     requires { Searched k j b }
     ensures { result ≡ whole_reaches k j b }
@@ -25,6 +26,7 @@ fn whole_reaches(k: u32, j: u32, b: u32) -> bool
 }
 
 // Entry k of the table: the least pattern, from +0 up, whose rounded root is k or more. `lo` is below it, `hi` is not.
+#[tactic(auto, using(crate::proofs::SearchedThresholds::turning_laws), unfolding(crate::specs::Table::thresholds))]
 pub fn threshold(k: u8) -> u32
     ensures { Least k result }
 {
@@ -69,6 +71,7 @@ fn line_of(n: u32) -> [u8; 9]
 }
 
 // The line that shows entry k.
+#[tactic(auto, using(crate::proofs::SearchedThresholds::least_only))]
 pub fn threshold_line(k: u8) -> [u8; 9]
     ensures { LineOfLeast k result }
 {

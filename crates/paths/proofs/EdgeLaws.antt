@@ -137,3 +137,6 @@ module _ (m : Memory) where
         short = short;
         lead_in = λ p b q e. omega (arith, next_inside (nodes_of m) p b q e, ap length same_numbers, numbers_long n m.nodes fits);
       }
+
+-- for the function that follows
+pub ruleset edge_laws = (edge_past, edge_out, edge_left)

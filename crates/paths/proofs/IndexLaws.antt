@@ -13,6 +13,7 @@ use Rattle.paths.specs.Scratch.{chain_at}
 use Rattle.paths.specs.Index.{number_at, head_at, next_at, followed, headed, linked, First, Reach, here, there, Index, Found}
 use Rattle.paths.proofs.Counts.{same?}
 use Rattle.std.specs.Prelude.{Some, None}
+use Rattle.cells.proofs.Lookups.LookupLaws.{find_at, find_other, find_past}
 
 -- of the places with a number there is a first
 first_of : (num : ℕ → ℕ) (k b j : ℕ) → j < b → num j ≡ k → (w : ℕ) × (w ≤ j) × (num w ≡ k) × First num w
@@ -279,3 +280,6 @@ found_in nodes n k r fits f lr = let g = f.found lr in first_at nodes n k fits r
 
 pub absent_in : (nodes : List (List ℕ)) (n k r : ℕ) → n ≤ length nodes → Found n n (number_at nodes) k r → n ≤ r → None ≡ first_in n nodes k
 absent_in nodes n k r fits f le = first_no nodes n k fits (f.absent le)
+
+-- for the function that finds a node
+pub ruleset find_laws = (find_at, find_other, find_past)

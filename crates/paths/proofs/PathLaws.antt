@@ -184,3 +184,8 @@ module _ (y : Ynd) (nodes links : List (List ℕ)) (l : Lent y nodes links) (p q
         whole_path k lc lp _ _
         ((λ i. ec i ++ drop steps choices) ∙ ap (λ (k : ℕ). choices_to (from_at s) (by_at s) steps q ++ drop k choices) (sym long-c))
         ((λ i. et i ++ drop (steps + 1) places) ∙ ap (λ (k : ℕ). places_to (from_at s) steps q ++ drop k places) (sym long-t))
+
+-- for the functions
+pub ruleset path_laws = (accepted, lent_so, own_nodes, own_lent, answered)
+
+pub ruleset found_laws = (found_room, answer_unreachable, length-take-le)

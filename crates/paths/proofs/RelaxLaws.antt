@@ -129,3 +129,6 @@ still_ready r s t long e h = record {
   room = record { few = h.room.few; room = omega (arith, h.room.room) };
   entered = still_entered r.nodes.now r.ynd.node_count s t e h.entered;
 }
+
+-- for the search
+pub ruleset search_laws = (search_up, search_label, search_less, still_ready)

@@ -7,6 +7,7 @@ use cells::node::NodeWords;
 use cells::node_words::number_of;
 
 // No chain has a place but place 0.
+#[tactic(auto, using(crate::proofs::IndexLaws::head_cleared))]
 fn clear_heads(scratch: &mut [u32], n: usize)
     requires { 4 * n ≤ length scratch.old }
     ensures { (h : ℕ) → h < n → head_at scratch.new h ≡ 0 }
@@ -75,6 +76,7 @@ pub(crate) fn enter_all(nodes: &[NodeWords], scratch: &mut [u32])
 }
 
 // The first node that has the number.
+#[tactic(auto, using(crate::proofs::IndexLaws::found_in, crate::proofs::IndexLaws::absent_in))]
 fn first_in(nodes: &[NodeWords], scratch: &[u32], k: u16) -> Option<usize>
     requires { Room nodes.now scratch.now × (0 < length nodes.now)
         × AllEntered nodes.now (length nodes.now) scratch.now }
@@ -89,6 +91,7 @@ fn first_in(nodes: &[NodeWords], scratch: &[u32], k: u16) -> Option<usize>
 }
 
 // What `node` finds, without a search through all nodes.
+#[tactic(auto, using(crate::proofs::IndexLaws::find_laws))]
 pub(crate) fn node_in(nodes: &[NodeWords], scratch: &[u32], k: u16) -> Option<usize>
     requires { Room nodes.now scratch.now × (0 < length nodes.now)
         × AllEntered nodes.now (length nodes.now) scratch.now }

@@ -22,6 +22,7 @@ pub struct Shortest {
 }
 
 // The remembered path to the place `goal`, backwards, in as many choices as its label says.
+#[tactic(auto, using(crate::proofs::FillLaws::fill_start, crate::proofs::FillLaws::fill_places))]
 fn fill(scratch: &[u32], goal: usize, choices: &mut [u8], places: &mut [u32])
     requires { Traced scratch.now goal (length choices.old) × (length places.old ≡ length choices.old + 1) }
     ensures { (choices.new
@@ -75,6 +76,7 @@ impl Search<'_> {
     ghost use Rattle.paths.specs.Going.{nodes_in};
 
     // The path from the start to the place `to`, in a scratch that is long enough.
+    #[tactic(auto, using(crate::proofs::PathLaws::found_laws))]
     fn find_path(
         &self,
         to: usize,
@@ -110,6 +112,7 @@ impl Search<'_> {
 // A walk from one place to another by the cell's own links whose lengths add up to least, whatever the lists that are
 // not lent. `choices` and `places` get it. The scratch has four entries for each node: once that is asked it may hold
 // anything; before, a refusal changes nothing.
+#[tactic(auto, using(crate::proofs::PathLaws::path_laws))]
 pub fn shortest_path(
     ynd: Ynd,
     nodes: &[NodeWords],

@@ -59,6 +59,7 @@ pub(crate) fn put_label(scratch: &mut [u32], v: usize, k: u64, u: usize, b: usiz
 }
 
 // The place v stands at i of the order.
+#[tactic(auto, unfolding(crate::specs::Scratch::placed, crate::specs::Scratch::indexed, crate::specs::Scratch::stood))]
 pub(crate) fn stand(scratch: &mut [u32], i: usize, v: usize)
     requires { (4 * i + 2 < length scratch.old) × (4 * v + 2 < length scratch.old) × (i < 65536) × (v < 65536) }
     ensures { scratch.new ≡ stood scratch.old i v }

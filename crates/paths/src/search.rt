@@ -51,6 +51,7 @@ fn length_named(w: &LinkWords) -> u64
 }
 
 // The label k, by the choice b from the place u, for the place v: it takes it, and waits, if it is smaller.
+#[tactic(auto, using(crate::proofs::ScratchLaws::put, crate::proofs::SearchLaws::taken_by))]
 fn offer(queue: &mut Queue, scratch: &mut [u32], v: usize, k: u64, u: usize, b: usize)
     requires { Kept queue.old.n scratch.old × (v < queue.old.n) × (u < queue.old.n) × (b < 256)
         × (k < label_at scratch.old v → Fits k) }
@@ -69,6 +70,7 @@ impl Search<'_> {
     ghost use Rattle.paths.specs.Going.{nodes_in, Ready, Going};
 
     // Where the choice b leads from the node at place p.
+    #[tactic(auto, using(crate::proofs::EdgeLaws::edge_laws))]
     fn follow(&self, scratch: &[u32], p: usize, b: usize) -> Option<Edge>
         requires { Ready self.now scratch.now × (p < length self.now.nodes.now) × (b < 256) }
         ensures { result ≡ edge_of (nodes_in self.now) p b }
@@ -127,6 +129,7 @@ impl Search<'_> {
     }
 
     // The labels of all places that a walk from the start reaches.
+    #[tactic(auto, using(crate::proofs::RelaxLaws::search_laws))]
     pub(crate) fn run(&self, scratch: &mut [u32])
         requires { 4 * self.now.ynd.node_count ≤ length scratch.old }
         ensures { Searching (nodes_in self.now) self.now.start

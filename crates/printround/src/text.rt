@@ -8,7 +8,7 @@ ghost use Rattle.printround.specs.Text.{head_of, line_text, line_of, lines_of, e
 ghost use Rattle.printround.specs.Text.{round_of, bad_input};
 
 use cells::area::own_area;
-use cells::node::{NodeWords, node_of};
+use cells::node::{NodeWords, PathNode};
 use cells::node_words::number_of;
 use numbers::position::{Quantised, quantise};
 use std::alloc::{AllocError, Global};
@@ -53,7 +53,7 @@ fn line_with(alloc: Global, k: usize, number: u16, q: Quantised) -> Result<Strin
 fn steps_of(w: NodeWords) -> Quantised
     ensures { result ≡ steps_of (node_with [] w) }
 {
-    let n = node_of(w);
+    let n = PathNode::from(w);
     quantise(n.position)
 }
 

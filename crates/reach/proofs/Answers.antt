@@ -12,7 +12,8 @@ use Rattle.cells.specs.Memory.{over_limit}
 use Rattle.reach.specs.Reach.{distances, within, ordered, nearest_of, left, places_within}
 use Rattle.reach.specs.Reach.{within_causes, within_call, nearest_causes, nearest_answer, nearest_call}
 use Rattle.reach.proofs.OrderLaws.{ordered_long}
-use Rattle.reach.proofs.CutLaws.{Cut, cut_within, cut_ordered, cut_nearest}
+use Rattle.numbers.proofs.Refusing.{tested}
+use Rattle.reach.proofs.CutLaws.{cut_nodes, Cut, cut_within, cut_ordered, cut_nearest}
 use Rattle.std.specs.Prelude.{Ok, Err}
 use Rattle.numbers.specs.declared.refusal.Refusal.TheVariants.{TooShort}
 use Rattle.numbers.specs.declared.refusal.Lent.TheVariants as lent
@@ -57,3 +58,6 @@ module _ (ynd : Ynd) (nodes : List (List ℕ)) (x y : ℤ) (under : over_limit y
   nearest_found =
       cut_nearest far (distances x y nodes) m ynd.node_count cut
       ∙ rw (under, le-ltb (length nodes) ynd.node_count held) refl
+
+-- the laws that the call `nearest` goes by, for the check
+pub ruleset nearest_laws = (tested, cut_nodes, nearest_found)

@@ -8,3 +8,4 @@ pub mod SinkLaws
 pub mod UnheapLaws
 pub mod PackLaws
 pub mod PartLaws
+pub mod Rules

@@ -8,12 +8,15 @@ use mathlib.Core.Bool.{Bool, true, false, cond}
 use mathlib.Core.List.{List, [], ◌∷◌, ◌++◌, append-nil}
 use mathlib.Core.Option.{some}
 use lib.Dec.{leb, ltb}
-use lib.ListN.{length, drop, set, length-append}
+use lib.Ieee.{binary32, of_bits}
+use lib.ListN.{get_or, length, drop, set, length-append}
 use lib.Seq.{drop-cons, set_at, append_snoc}
 use borrow.Author.Tests.{le-leb, lt-leb, lt-ltb, le-ltb, ltb-true, ltb-false}
+use Rattle.numbers.specs.Steps.{step_of}
+use Rattle.cells.specs.Words.{to_node}
 use Rattle.cells.specs.Lists.{join_to}
-use Rattle.reach.specs.Reach.{only_if, within, nearest_of}
-use Rattle.reach.specs.Parts.{bounded}
+use Rattle.reach.specs.Reach.{stored, only_if, within, nearest_of}
+use Rattle.reach.specs.Parts.{bounded, far_from, square_apart, raised_step}
 
 -- ---- a distance as far as a limit
 
@@ -105,3 +108,14 @@ module _ (d : ℕ → ℕ) where
   pub nearest_one : nearest_of d 1 ≡ some 0
   unfolding nearest_of
   nearest_one = refl
+
+-- ---- the laws that each function goes by, for the check
+
+-- the steps of a node as the code reads them
+pub far_read : (x y : ℕ) (w : List ℕ) → far_from x y w ≡ square_apart x (raised_step (step_of 2 (of_bits binary32 (get_or w 2 0)))) + square_apart y (raised_step (step_of 2 (of_bits binary32 (get_or w 3 0))))
+unfolding far_from stored to_node
+far_read x y w = refl
+
+pub ruleset bounded_laws = (bounded_under, bounded_over, far_read)
+
+pub ruleset nearest_laws = (below_limit, not_below, nearest_here, nearest_there, nearest_one)

@@ -19,6 +19,7 @@ pub(crate) struct Point<'a> {
 }
 
 // A step, counted from the lowest.
+#[tactic(auto, using(crate::proofs::DistanceLaws::raised_up, crate::proofs::Casts::stored_sum))]
 fn raised(n: i16) -> u16
     ensures { result ≡ raised_step n }
 {
@@ -43,6 +44,7 @@ fn square_apart(a: u16, bits: u32) -> u64
 }
 
 impl<'a> Point<'a> {
+    #[tactic(auto, using(crate::proofs::DistanceLaws::far_of))]
     pub(crate) fn new(nodes: &'a [NodeWords], x: i16, y: i16) -> Self
         ensures { (result.nodes.now ≡ nodes.now) × (distances_from result ≡ distances x y nodes.now) }
     {
@@ -55,6 +57,7 @@ impl<'a> Point<'a> {
 
     // The squared distance of a node, as far as the limit. Where x alone reaches it, y is not looked at. The sum of two
     // squares passes 32 bits.
+    #[tactic(auto, using(crate::proofs::TurnLaws::bounded_laws))]
     pub(crate) fn distance_up_to(&self, w: &NodeWords, limit: u64) -> u64
         ensures { result ≡ bounded limit (far_from self.now.x self.now.y w.now) }
     {
@@ -67,6 +70,7 @@ impl<'a> Point<'a> {
     }
 
     // The whole squared distance.
+    #[tactic(auto, unfolding(cells::specs::Words::to_node, crate::specs::Reach::stored, crate::specs::Parts::far_from))]
     pub(crate) fn square_distance(&self, w: &NodeWords) -> u64
         ensures { (result ≡ far_from self.now.x self.now.y w.now) × (result ≤ 8589672450) }
     {
@@ -74,6 +78,7 @@ impl<'a> Point<'a> {
     }
 
     // The squared distance of the node at p, with the place below it.
+    #[tactic(auto, unfolding(crate::specs::Parts::far, crate::specs::Heap::key_of))]
     pub(crate) fn key_of(&self, p: u32) -> u64
         requires { Place (length self.now.nodes.now) p }
         ensures { result ≡ key_of (distances_from self.now) p }

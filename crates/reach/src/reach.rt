@@ -18,6 +18,7 @@ pub struct NearestNode {
 
 impl Point<'_> {
     // How many nodes are within reach. Nothing is stored.
+    #[tactic(auto, using(crate::proofs::TurnLaws::within_none, crate::proofs::TurnLaws::within_few))]
     fn count_within(&self, radius: u16) -> usize
         ensures { result ≡ length (within (distances_from self.now) radius (length self.now.nodes.now)) }
     {
@@ -32,6 +33,7 @@ impl Point<'_> {
     }
 
     // Whether they go into a list of `room` entries. They are counted only where there are more nodes than that.
+    #[tactic(auto, using(crate::proofs::TurnLaws::within_few))]
     fn has_room(&self, radius: u16, room: usize) -> bool
         ensures { result ≡ leb (length (within (distances_from self.now) radius (length self.now.nodes.now))) room }
     {
@@ -39,6 +41,7 @@ impl Point<'_> {
     }
 
     // Lists them, and counts them.
+    #[tactic(auto, using(crate::proofs::TurnLaws::within_none))]
     fn fill_within(&self, radius: u16, places: &mut [u32]) -> usize
         requires { (length self.now.nodes.now ≤ 65536)
             × (length (within (distances_from self.now) radius (length self.now.nodes.now)) ≤ length places.old) }
@@ -58,6 +61,7 @@ impl Point<'_> {
     }
 
     // The nearest node.
+    #[tactic(auto, using(crate::proofs::TurnLaws::nearest_laws), unfolding(crate::specs::Parts::far))]
     fn nearest_of(&self) -> NearestNode
         requires { 0 < length self.now.nodes.now }
         ensures { Ok (Some result) ≡ nearest_answer (distances_from self.now)
@@ -110,7 +114,7 @@ pub fn within(
 }
 
 // The node with the least squared distance, the lowest place where equal; nothing in a cell without nodes.
-#[tactic(auto, using(numbers::proofs::Refusing::tested), unfolding(crate::specs::Reach::nearest_call, crate::specs::Reach::nearest_causes, crate::specs::Reach::nearest_of))]
+#[tactic(auto, using(crate::proofs::Answers::nearest_laws), unfolding(crate::specs::Reach::nearest_call, crate::specs::Reach::nearest_causes, crate::specs::Reach::nearest_of))]
 pub fn nearest(
     ynd: Ynd,
     nodes: &[NodeWords],

@@ -12,7 +12,8 @@ use Rattle.records.specs.Put.{put}
 use Rattle.records.specs.Root.{root_bytes}
 use Rattle.records.specs.Layout.{pages, header_size, header_bytes, gap_for, padded, start_of, end_of, lay, offset, total, section_bytes}
 use Rattle.records.specs.declared.root.Root.{Root}
-use Rattle.records.proofs.Puts.{put_put, put_nil}
+use Rattle.records.proofs.LittleEndian.{bytes_length}
+use Rattle.records.proofs.Puts.{put_put, put_nil, put_out, joined_turn}
 
 -- ---- one block
 
@@ -177,3 +178,6 @@ pub found_in : (r : Root) (bs : List (List ℕ)) (rest : List ℕ) (i : ℕ)
     → take (length (get_or bs i [])) (drop (offset header_size (map length bs) i) (section_bytes r bs ++ rest)) ≡ get_or bs i []
 unfolding section_bytes
 found_in r bs rest i = rw (append_assoc (header_bytes r) (lay header_size bs) rest) (rw (header_length r) at (found (header_bytes r) bs rest i))
+
+-- for the function that puts the header
+pub ruleset header_laws = (bytes_length, put_out, joined_turn, header_length)

@@ -5,13 +5,14 @@ use native.Mathlib.Nat.{add-zero, zero-add}
 use native.Mathlib.Numerals.{add-one}
 use mathlib.Core.Path.{◌≡◌, refl, ap, sym, ◌∙◌}
 use mathlib.Core.List.{List, [], ◌∷◌, ◌++◌, append_assoc, append-nil}
-use lib.ListN.{length, get_or, set, take, drop, length-append, length-drop, length-set, take-append-drop, drop_of_length-le}
+use lib.ListN.{length-replicate, length, get_or, set, take, drop, length-append, length-drop, length-set, take-append-drop, drop_of_length-le}
 use borrow.Author.Tests.{le-leb, lt-leb, leb-true, leb-false}
 use borrow.Rule.Slice.PartMut.{put_mid}
 use mathlib.Core.Bool.{Bool, true, false, cond}
 use lib.Dec.{leb}
 use Rattle.std.proofs.lemmas.List.{set-append_left}
 use lib.Seq.{length-take-le, take_at, drop-append-add, drop-drop, set_split, drop-cons, append_snoc}
+use Rattle.records.proofs.LittleEndian.{bytes_length, byte_whole, le_bytes16, le_bytes32, le_bytes64}
 use Rattle.records.specs.Put.{put, put_in, end_inside, joined}
 use Rattle.std.specs.Prelude.{Ok, Err}
 use Rattle.numbers.specs.declared.refusal.Refusal.{Refusal}
@@ -133,3 +134,11 @@ joined_ended f l₀ l whole at p xs i h before = ended l₀ l at p (joined f (dr
 -- one thing is put, and another behind it
 pub then : {A : Type 0} (l l' l'' : List A) (at p : ℕ) (x y : List A) → l' ≡ put l at x → l'' ≡ put l' p y → p ≡ at + length x → at ≤ length l → l'' ≡ put l at (x ++ y)
 then l l' l'' at p x y e f g h = f ∙ (λ i. put (e i) (g i) y) ∙ put_put l at x y h
+
+-- for a function that puts bytes where there is room
+pub ruleset put_laws = (put_fits, put_out, put_part, part_long, end_found, end_outside, length-replicate)
+
+-- for a function that puts a number's bytes
+pub ruleset number_laws = (bytes_length, le_bytes16, le_bytes32, le_bytes64, put_part)
+
+pub ruleset byte_laws = (byte_whole, set_put)

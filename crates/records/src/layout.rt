@@ -60,6 +60,7 @@ fn lay(end: &mut usize, size: usize) -> u64
 }
 
 // The places of so many refs, heightmap bytes, junctions, links and nodes.
+#[tactic(auto, unfolding(crate::specs::Layout::offset, crate::specs::Layout::total, crate::specs::Layout::places_of))]
 pub fn lay_out(refs: u32, heightmap: u32, junctions: u32, links: u32, nodes: u32) -> Places
     ensures { result ≡ places_of (sizes refs heightmap junctions links nodes) }
 {
@@ -75,6 +76,7 @@ pub fn lay_out(refs: u32, heightmap: u32, junctions: u32, links: u32, nodes: u32
 }
 
 // The root and the page block, at the section's start. Nothing is stored in a section that is too short for them.
+#[tactic(auto, using(crate::proofs::Laid::header_laws))]
 pub fn put_header(section: &mut [u8], root: Root) -> Result<(), Refusal>
     ensures section_after { section.new ≡ put_in section.old 0 (header_bytes root) }
     ensures value { result ≡ stored_to header_size (length section.old) }

@@ -15,6 +15,7 @@ fn end_inside(at: usize, count: usize, len: usize) -> Result<usize, Refusal>
 }
 
 // The bytes of one slice, over those of the section from `at` on.
+#[tactic(auto, using(crate::proofs::Puts::put_laws))]
 pub fn put_bytes(section: &mut [u8], at: usize, bytes: &[u8]) -> Result<(), Refusal>
     ensures section_after { section.new ≡ put_in section.old at bytes.now }
     ensures value { result ≡ stored_to (at + length bytes.now) (length section.old) }
@@ -25,6 +26,7 @@ pub fn put_bytes(section: &mut [u8], at: usize, bytes: &[u8]) -> Result<(), Refu
 }
 
 // Zeros, over the section's bytes from `at` on.
+#[tactic(auto, using(crate::proofs::Puts::put_laws))]
 pub fn put_zeros(section: &mut [u8], at: usize, count: usize) -> Result<(), Refusal>
     ensures section_after { section.new ≡ put_in section.old at (replicate count 0) }
     ensures value { result ≡ stored_to (at + count) (length section.old) }

@@ -25,6 +25,7 @@ pub struct Root {
 
 // The root at the section's start, read in the order of the file. What is skipped: the word at 4 and the pages
 // address, and the first ref count.
+#[tactic(auto, unfolding(crate::specs::Root::root_of, crate::specs::Root::unknowns_of))]
 pub fn root_of(s: &[u8]) -> Root
     ensures { result ≡ root_of s.now }
 {
@@ -88,6 +89,7 @@ fn twice(n: u16) -> u32
 }
 
 // The root as written, in words of 32 bits.
+#[tactic(auto, unfolding(crate::specs::Root::root_words))]
 pub fn root_words(root: Root) -> [u32; 28]
     ensures { result ≡ root_words root }
 {

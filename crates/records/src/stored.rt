@@ -56,6 +56,7 @@ impl Stored for u8 {
         s[at]
     }
 
+    #[tactic(auto, using(crate::proofs::Puts::byte_laws), unfolding(crate::specs::Bytes::number_bytes))]
     fn write(self, section: &mut [u8], at: usize) {
         section[at] = self;
     }
@@ -76,10 +77,12 @@ impl Stored for u16 {
 
     ghost same = { le16_same };
 
+    #[tactic(auto, using(crate::proofs::LittleEndian::reads16))]
     fn read(s: &[u8], at: usize) -> u16 {
         u16::from_le_bytes([s[at], s[at + 1]])
     }
 
+    #[tactic(auto, using(crate::proofs::Puts::number_laws))]
     fn write(self, section: &mut [u8], at: usize) {
         section[at..at + 2].copy_from_slice(&self.to_le_bytes());
     }
@@ -104,6 +107,7 @@ impl Stored for u32 {
         u32::from_le_bytes([s[at], s[at + 1], s[at + 2], s[at + 3]])
     }
 
+    #[tactic(auto, using(crate::proofs::Puts::number_laws))]
     fn write(self, section: &mut [u8], at: usize) {
         section[at..at + 4].copy_from_slice(&self.to_le_bytes());
     }
@@ -128,6 +132,7 @@ impl Stored for u64 {
         u64::from(u32::read(s, at)) + (u64::from(u32::read(s, at + 4)) << 32)
     }
 
+    #[tactic(auto, using(crate::proofs::Puts::number_laws))]
     fn write(self, section: &mut [u8], at: usize) {
         section[at..at + 8].copy_from_slice(&self.to_le_bytes());
     }
@@ -148,10 +153,12 @@ impl Stored for i16 {
 
     ghost same = { signed_same };
 
+    #[tactic(auto, using(crate::proofs::LittleEndian::signed_is))]
     fn read(s: &[u8], at: usize) -> i16 {
         u16::read(s, at).cast_signed()
     }
 
+    #[tactic(auto, using(crate::proofs::LittleEndian::bits_is))]
     fn write(self, section: &mut [u8], at: usize) {
         self.cast_unsigned().write(section, at);
     }
@@ -177,6 +184,7 @@ pub(crate) fn stored_at<T: Stored>(s: &[u8], at: usize) -> T
 }
 
 // All bytes of a value.
+#[tactic(auto, using(crate::proofs::Puts::put_over))]
 pub(crate) fn bytes_of<T: Stored, const N: usize>(x: T) -> [u8; N]
     requires { T.SIZE ≡ N }
     ensures { result ≡ T.bytes x }

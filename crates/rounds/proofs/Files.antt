@@ -17,7 +17,7 @@ use Rattle.std.proofs.lemmas.Bool.Decides.{nat_tests}
 use Rattle.records.specs.Bytes.{byte_at, le16, bytes16, number_bytes}
 use Rattle.records.specs.Put.{put}
 use Rattle.records.proofs.Puts.{then}
-use Rattle.numbers.proofs.Refusing.{not_refused}
+use Rattle.numbers.proofs.Refusing.{not_refused, tests}
 use Rattle.cells.proofs.Sequences.Tests.{by_test}
 use Rattle.rounds.specs.Round.{rest_bytes, file_bytes, has_version, round_left, rest_read, written_left, written}
 use Rattle.std.specs.Prelude.{Result, Ok}
@@ -159,3 +159,9 @@ module _ (head : List ℕ) (start : ℕ) (choices file : List ℕ) where
       let same-n : n ≡ length bytes = cc in
       let fits : length bytes ≤ length file = ltb-false _ _ f in
       record { long = same-n; few = ltb-false _ _ e; room = omega arith; stored = rw (e, f) }))
+
+-- ---- the laws that each function goes by, for the check
+
+pub ruleset read_laws = (tests, rest_held)
+
+pub ruleset write_laws = (tests, file_long)

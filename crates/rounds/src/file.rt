@@ -40,7 +40,7 @@ fn has_version(file: &[u8], version: u16) -> bool
 }
 
 // Reads what follows a head of `at` bytes.
-#[tactic(auto, using(numbers::proofs::Refusing::tests), unfolding(crate::specs::Round::rest_read))]
+#[tactic(auto, using(crate::proofs::Files::read_laws), unfolding(crate::specs::Round::rest_read))]
 fn read_rest(file: &[u8], at: u32, choices: &mut [u8]) -> Result<Round, Refusal>
     requires { at ≤ 7 }
     ensures { round_left result choices.new
@@ -111,7 +111,7 @@ pub fn read_version(file: &[u8], choices: &mut [u8]) -> Result<VersionRound, Ref
 // ---- writing
 
 // Writes a round behind the bytes that say its version.
-#[tactic(auto, using(numbers::proofs::Refusing::tests, crate::proofs::Files::file_long), unfolding(crate::specs::Round::written))]
+#[tactic(auto, using(crate::proofs::Files::write_laws), unfolding(crate::specs::Round::written))]
 fn write_after(head: &[u8], start: u16, choices: &[u8], file: &mut [u8]) -> Result<usize, Refusal>
     ensures { written_left result file.new
         ≡ written head.now start choices.now file.old }

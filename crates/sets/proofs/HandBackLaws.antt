@@ -18,11 +18,12 @@ use Rattle.cells.proofs.Reading.Fits.{Whole, whole}
 use Rattle.sets.specs.CellSet.{CellSet, ynd_of, set_causes}
 use Rattle.sets.specs.Leave.{first_of_area, leave_causes, start_of}
 use Rattle.sets.specs.Join.{stored, set_lengths, cell_lengths}
-use Rattle.sets.specs.SetParts.{named_of, areas_of, count_of, counts_in, Holding}
+use Rattle.cells.specs.RenumberParts.{counts_of}
+use Rattle.sets.specs.SetParts.{named_of, areas_of, count_of, Holding}
 use Rattle.sets.specs.SetStored.{member_in, ask_causes}
 use Rattle.sets.specs.HandBack.{copied, leaver, lack_of_back, hand_causes, hand_back}
 use Rattle.sets.specs.MemberParts.{between, part_memory, Given, Giving}
-use Rattle.sets.specs.declared.parts.PerList.{PerList}
+use Rattle.cells.specs.declared.count.Counts.{Counts}
 use Rattle.sets.specs.declared.member.MemberPart.{MemberPart}
 use Rattle.sets.proofs.PartLaws.{start_next}
 use Rattle.sets.proofs.LeaveLaws.{found_is, named_some, named_none}
@@ -62,7 +63,7 @@ copied_cell from m w =
       words = v.unknowns;
     }
 
-pub given_part : (p : MemberPart) (y : CellSet) (m : Memory) (k : PerList) → k ≡ counts_in p.ynd
+pub given_part : (p : MemberPart) (y : CellSet) (m : Memory) (k : Counts) → k ≡ counts_of p.ynd
     → (N L J R : List (List ℕ)) (H : List ℕ)
     → N ≡ stored 0 (take k.nodes (between p.a.nodes p.e.nodes y.nodes)) m.nodes
     → L ≡ stored 0 (take k.links (between p.a.links p.e.links y.links)) m.links
@@ -73,12 +74,12 @@ pub given_part : (p : MemberPart) (y : CellSet) (m : Memory) (k : PerList) → k
 unfolding copied
 given_part p y m k ek N L J R H eN eL eJ eH eR =
     λ i. memory p.ynd
-    ((eN ∙ ap (λ (q : PerList). stored 0 (take q.nodes (between p.a.nodes p.e.nodes y.nodes)) m.nodes) ek) i)
-    ((eL ∙ ap (λ (q : PerList). stored 0 (take q.links (between p.a.links p.e.links y.links)) m.links) ek) i)
-    ((eJ ∙ ap (λ (q : PerList). stored 0 (take q.junctions (between p.a.junctions p.e.junctions y.junctions))
+    ((eN ∙ ap (λ (q : Counts). stored 0 (take q.nodes (between p.a.nodes p.e.nodes y.nodes)) m.nodes) ek) i)
+    ((eL ∙ ap (λ (q : Counts). stored 0 (take q.links (between p.a.links p.e.links y.links)) m.links) ek) i)
+    ((eJ ∙ ap (λ (q : Counts). stored 0 (take q.junctions (between p.a.junctions p.e.junctions y.junctions))
     m.junctions) ek) i)
-    ((eH ∙ ap (λ (q : PerList). stored 0 (take q.heights (between p.a.heights p.e.heights y.heights)) m.heights) ek) i)
-    ((eR ∙ ap (λ (q : PerList). stored 0 (take q.refs (between p.a.refs p.e.refs y.refs)) m.refs) ek) i)
+    ((eH ∙ ap (λ (q : Counts). stored 0 (take q.heights (between p.a.heights p.e.heights y.heights)) m.heights) ek) i)
+    ((eR ∙ ap (λ (q : Counts). stored 0 (take q.refs (between p.a.refs p.e.refs y.refs)) m.refs) ek) i)
 
 -- the struct lent doesn't matter
 own_words : (from m : Memory) (v : Ynd)
@@ -181,17 +182,17 @@ module _ (y : CellSet) (area : ℕ) (m : Memory) where
           let h = k.may.whole in
           record {
             nodes = given 10 15 _ _ _ _ h.nodes_hold _ (ap (λ (v : Ynd). v.node_count) k.own)
-                (ap (λ (q : PerList). q.nodes) k.starts) (ap (λ (q : PerList). q.nodes) k.ends)
+                (ap (λ (q : Counts). q.nodes) k.starts) (ap (λ (q : Counts). q.nodes) k.ends)
                 k.lie.nodes_end t.nodes_fit;
             links = given 11 16 _ _ _ _ h.links_hold _ (ap (λ (v : Ynd). v.link_count) k.own)
-                (ap (λ (q : PerList). q.links) k.starts) (ap (λ (q : PerList). q.links) k.ends)
+                (ap (λ (q : Counts). q.links) k.starts) (ap (λ (q : Counts). q.links) k.ends)
                 k.lie.links_end t.links_fit;
             junctions = given 12 17 _ _ _ _ h.junctions_hold _ (ap (λ (v : Ynd). v.junction_count) k.own)
-                (ap (λ (q : PerList). q.junctions) k.starts) (ap (λ (q : PerList). q.junctions) k.ends)
+                (ap (λ (q : Counts). q.junctions) k.starts) (ap (λ (q : Counts). q.junctions) k.ends)
                 k.lie.junctions_end t.junctions_fit;
             heights = given 13 18 _ _ _ _ h.heights_hold _ (ap (λ (v : Ynd). v.heightmap_count) k.own)
-                (ap (λ (q : PerList). q.heights) k.starts) (ap (λ (q : PerList). q.heights) k.ends) k.lie.heights_end
+                (ap (λ (q : Counts). q.heights) k.starts) (ap (λ (q : Counts). q.heights) k.ends) k.lie.heights_end
                 t.heights_fit;
             refs = given 14 19 _ _ _ _ h.refs_hold _ (ap (λ (v : Ynd). v.ref_count) k.own)
-                (ap (λ (q : PerList). q.refs) k.starts) (ap (λ (q : PerList). q.refs) k.ends) k.lie.refs_end t.refs_fit;
+                (ap (λ (q : Counts). q.refs) k.starts) (ap (λ (q : Counts). q.refs) k.ends) k.lie.refs_end t.refs_fit;
           }

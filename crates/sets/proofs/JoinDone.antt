@@ -19,8 +19,9 @@ use Rattle.sets.specs.MemberList.{cells_of, node_count, nodes_together, any_over
 use Rattle.sets.specs.CellSet.{CellSet, cell_set, words_at, total, parts_in, members_of}
 use Rattle.sets.specs.Leave.{SetLeft, set_left, used, start_of, first_of_area}
 use Rattle.sets.specs.Join.{entry_of, stored, lack_for, set_lengths, cell_lengths, join_causes, with_cell, join_cell}
-use Rattle.sets.specs.SetParts.{starts_of, areas_of, bare, bare_cell, counts_in, entry_causes}
-use Rattle.sets.specs.declared.parts.PerList.{PerList}
+use Rattle.cells.specs.RenumberParts.{counts_of}
+use Rattle.sets.specs.SetParts.{starts_of, areas_of, bare, bare_cell, entry_causes}
+use Rattle.cells.specs.declared.count.Counts.{Counts}
 use Rattle.sets.proofs.PartLaws.{start_all}
 use Rattle.sets.proofs.CellSetLaws.{members_many, areas_held}
 use Rattle.sets.proofs.RoomLaws.{bare_many, from_together, from_over}
@@ -55,7 +56,7 @@ over_alike z m =
     over_more (members_of z) m ∙ ap (λ (b : Bool). b || over_limit m.ynd) (from_over p 0 ws) ∙ sym (over_more (bare ws) (bare_cell m.ynd)) in
     λ i. ltb 9 (long i) || (ltb 65536 (sum i) || any i)
 
-module _ (count : ℕ) (y : CellSet) (m : Memory) (sizes : PerList) where
+module _ (count : ℕ) (y : CellSet) (m : Memory) (sizes : Counts) where
   abbrev pub z : CellSet
   z = used count y
 
@@ -83,7 +84,7 @@ module _ (count : ℕ) (y : CellSet) (m : Memory) (sizes : PerList) where
     pub refused_join : (x : Refusal) → Err x ≡ asked area → set_left (Err x) (length z.members) y ≡ join_cell count y m sizes
     refused_join x e = ap left e ∙ call_is
 
-    pub asked_is : (lens haves : PerList) → lens ≡ set_lengths y → haves ≡ cell_lengths m → (a : Answer)
+    pub asked_is : (lens haves : Counts) → lens ≡ set_lengths y → haves ≡ cell_lengths m → (a : Answer)
         → a ≡ decided (entry_causes (take h y.members) y.nodes lens haves m.ynd sizes area room) → a ≡ asked area
     asked_is lens haves el ec a e =
         e ∙ (λ i. decided (entry_causes (front_is y.members count h eh i) y.nodes (el i) (ec i) m.ynd sizes area room))
@@ -91,7 +92,7 @@ module _ (count : ℕ) (y : CellSet) (m : Memory) (sizes : PerList) where
     end : (size : ℕ) → start_of size z.members h ≡ total (words_at size z.members)
     end size = ap (start_of size z.members) (least_is y.members count h eh) ∙ start_all size z.members
 
-    module _ (d : (Ok tt) ≡ asked area) (s : PerList) (es : s ≡ starts_of z.members h) (k : PerList) (ek : k ≡ counts_in m.ynd) where
+    module _ (d : (Ok tt) ≡ asked area) (s : Counts) (es : s ≡ starts_of z.members h) (k : Counts) (ek : k ≡ counts_of m.ynd) where
       fits : AllFit z.members (set_lengths y) (cell_lengths m) m.ynd sizes
       fits = (may z.members y.nodes (set_lengths y) (cell_lengths m) m.ynd sizes area room d).fit
 
@@ -119,11 +120,11 @@ module _ (count : ℕ) (y : CellSet) (m : Memory) (sizes : PerList) where
           let e = least_is y.members count h eh in
           (λ i. set_left (Ok tt) (e i + 1) (record {
             members = set y.members (e i) (eW i);
-            nodes = (eN ∙ (λ j. stored ((ap (λ (q : PerList). q.nodes) es ∙ end 15) j) (take (ek j).nodes m.nodes) y.nodes)) i;
-            links = (eL ∙ (λ j. stored ((ap (λ (q : PerList). q.links) es ∙ end 16) j) (take (ek j).links m.links) y.links)) i;
-            junctions = (eJ ∙ (λ j. stored ((ap (λ (q : PerList). q.junctions) es ∙ end 17) j) (take (ek j).junctions m.junctions) y.junctions)) i;
-            heights = (eH ∙ (λ j. stored ((ap (λ (q : PerList). q.heights) es ∙ end 18) j) (take (ek j).heights m.heights) y.heights)) i;
-            refs = (eR ∙ (λ j. stored ((ap (λ (q : PerList). q.refs) es ∙ end 19) j) (take (ek j).refs m.refs) y.refs)) i;
+            nodes = (eN ∙ (λ j. stored ((ap (λ (q : Counts). q.nodes) es ∙ end 15) j) (take (ek j).nodes m.nodes) y.nodes)) i;
+            links = (eL ∙ (λ j. stored ((ap (λ (q : Counts). q.links) es ∙ end 16) j) (take (ek j).links m.links) y.links)) i;
+            junctions = (eJ ∙ (λ j. stored ((ap (λ (q : Counts). q.junctions) es ∙ end 17) j) (take (ek j).junctions m.junctions) y.junctions)) i;
+            heights = (eH ∙ (λ j. stored ((ap (λ (q : Counts). q.heights) es ∙ end 18) j) (take (ek j).heights m.heights) y.heights)) i;
+            refs = (eR ∙ (λ j. stored ((ap (λ (q : Counts). q.refs) es ∙ end 19) j) (take (ek j).refs m.refs) y.refs)) i;
           }))
           ∙ ap left d
           ∙ call_is

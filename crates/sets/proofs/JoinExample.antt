@@ -14,7 +14,7 @@ use Rattle.sets.specs.MemberList.{nodes_together, any_over, over_set}
 use Rattle.sets.specs.CellSet.{CellSet, cell_set, ynd_of, words_at, total, parts_of, parts_in, members_of, holds_list}
 use Rattle.sets.specs.Leave.{set_left, first_of_area}
 use Rattle.sets.specs.Join.{per_list, stored, part_fits, lack_for, join_causes, with_cell, join_cell}
-use Rattle.sets.specs.declared.parts.PerList.{PerList}
+use Rattle.cells.specs.declared.count.Counts.{Counts}
 use Rattle.std.specs.Prelude.{Ok, Err}
 use Rattle.numbers.specs.declared.refusal.Refusal.TheVariants.{TooShort, AtLimit, AreaTaken}
 use Rattle.numbers.specs.declared.refusal.Lent.TheVariants as lent
@@ -47,7 +47,7 @@ nodes_only members nodes = cell_set members nodes [] [] [] []
 abbrev cell : ℕ → Memory
 cell area = memory (words 1 0) (node area ∷ node 66 ∷ []) [] [] [] []
 
-abbrev room : ℕ → PerList
+abbrev room : ℕ → Counts
 room n = per_list n 0 0 0 0
 
 -- area 5, with an entry to spare; room for one more entry, and for three more nodes

@@ -19,7 +19,7 @@ use Rattle.cells.specs.Lists.{every}
 use Rattle.sets.specs.CellSet.{words_at, total, room_for, holds_list}
 use Rattle.sets.specs.Join.{part_fits, lack_for}
 use Rattle.sets.specs.SetParts.{bare, bare_cell, areas_of, entry_causes}
-use Rattle.sets.specs.declared.parts.PerList.{PerList}
+use Rattle.cells.specs.declared.count.Counts.{Counts}
 use Rattle.sets.proofs.RoomLaws.{bare_many, bare_together, fit_true, tail_done}
 use Rattle.std.specs.Prelude.{Ok, Err}
 use Rattle.numbers.specs.Refusals.{Answer}
@@ -93,7 +93,7 @@ both_done xs ys e = go (decided xs) (decided ys) (sym (decided_append xs ys) ∙
     go (Ok tt) b e = (refl, e)
     go (Err x) b e = not_refused e
 
-module _ (ws : List (List ℕ)) (lens haves : PerList) (y : Ynd) (sizes : PerList) where
+module _ (ws : List (List ℕ)) (lens haves : Counts) (y : Ynd) (sizes : Counts) where
   pub record AllFit : Type 0 where
     pub nodes : Fitting 15 ws lens.nodes haves.nodes y.node_count sizes.nodes
     pub links : Fitting 16 ws lens.links haves.links y.link_count sizes.links
@@ -173,7 +173,7 @@ module _ (ws : List (List ℕ)) (y : Ynd) where
 
 -- ---- the answer
 
-module _ (ws nodes : List (List ℕ)) (lens haves : PerList) (y : Ynd) (sizes : PerList) (area room : ℕ) where
+module _ (ws nodes : List (List ℕ)) (lens haves : Counts) (y : Ynd) (sizes : Counts) (area room : ℕ) where
   abbrev found : Option ℕ
   found = first_with (areas_of ws nodes) area
 

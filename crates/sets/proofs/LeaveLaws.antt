@@ -11,7 +11,7 @@ use Rattle.sets.specs.MemberList.{unless}
 use Rattle.sets.specs.CellSet.{CellSet, cell_set, words_at, total}
 use Rattle.sets.specs.Leave.{SetLeft, set_left, closed, start_of, without, first_of_area, leave_causes, left_by, leave_area}
 use Rattle.sets.specs.SetParts.{named_of, starts_of, areas_of}
-use Rattle.sets.specs.declared.parts.PerList.{PerList}
+use Rattle.cells.specs.declared.count.Counts.{Counts}
 use Rattle.sets.proofs.MemberLaws.{first_has}
 use Rattle.sets.proofs.PartLaws.{total_below, start_next, start_all}
 use Rattle.sets.proofs.CellSetLaws.{areas_many, areas_held}
@@ -32,7 +32,7 @@ module _ (y : CellSet) (j : ℕ) where
       (omega (arith, start_next size ws j lt), omega (arith, start_all size ws, total_below (words_at size ws) (j + 1)), omega (arith, start_all size ws))
 
   -- the six lists, closed
-  pub taken_out : (a e t : PerList) → a ≡ starts_of ws j → e ≡ starts_of ws (j + 1) → t ≡ starts_of ws (length ws) → (W N L J R : List (List ℕ)) (H : List ℕ)
+  pub taken_out : (a e t : Counts) → a ≡ starts_of ws j → e ≡ starts_of ws (j + 1) → t ≡ starts_of ws (length ws) → (W N L J R : List (List ℕ)) (H : List ℕ)
       → W ≡ closed j (j + 1) (length ws) ws
       → N ≡ closed a.nodes e.nodes t.nodes y.nodes → L ≡ closed a.links e.links t.links y.links
       → J ≡ closed a.junctions e.junctions t.junctions y.junctions → H ≡ closed a.heights e.heights t.heights y.heights

@@ -23,7 +23,7 @@ use Rattle.sets.specs.SetStored.{member_in, ask_causes, entry_with, with_member}
 use Rattle.sets.specs.Lent.{Lies}
 use Rattle.sets.specs.MemberParts.{entry_ask, opened, held_by, part_memory, PartsLie}
 use Rattle.sets.specs.MemberEdit.{set_edited, lists_left, edited_in, edit_by, add_causes}
-use Rattle.sets.specs.declared.parts.PerList.{PerList}
+use Rattle.cells.specs.declared.count.Counts.{Counts}
 use Rattle.sets.specs.declared.member.MemberPart.{MemberPart}
 use Rattle.sets.proofs.PartLaws.{start_all}
 use Rattle.sets.proofs.RoomLaws.{members_over, few_members, bare_together, from_together}
@@ -39,7 +39,7 @@ pub held_many : (ws : List (List ℕ)) → 9 < length ws → per_list 0 0 0 0 0 
 unfolding held_by
 held_many ws h = rw (lt-ltb 9 (length ws) h)
 
-pub held_few : (ws : List (List ℕ)) (t : PerList) → length ws ≤ 9 → t ≡ starts_of ws (length ws) → t ≡ held_by ws
+pub held_few : (ws : List (List ℕ)) (t : Counts) → length ws ≤ 9 → t ≡ starts_of ws (length ws) → t ≡ held_by ws
 unfolding held_by
 held_few ws t h e = rw (le-ltb 9 (length ws) h) e
 
@@ -56,11 +56,11 @@ alike_lies k ws have len e h few =
     le-leb (total (words_at k ws)) have (let z : total (words_at k ws) ≤ have = omega (arith, e few, start_all k ws) in z)
     ∙ sym (le-leb (total (words_at k ws)) len h)
 
-pub held_is : (ws : List (List ℕ)) (t : PerList) → t ≡ held_by ws → length ws ≤ 9 → t ≡ starts_of ws (length ws)
+pub held_is : (ws : List (List ℕ)) (t : Counts) → t ≡ held_by ws → length ws ≤ 9 → t ≡ starts_of ws (length ws)
 unfolding held_by
 held_is ws t e few = rw (le-ltb 9 (length ws) few) at e
 
-module _ (ws : List (List ℕ)) (j : ℕ) (a b : PerList) (n : Alike 15 ws a.nodes b.nodes)
+module _ (ws : List (List ℕ)) (j : ℕ) (a b : Counts) (n : Alike 15 ws a.nodes b.nodes)
     (l : Alike 16 ws a.links b.links)
     (i : Alike 17 ws a.junctions b.junctions) (h : Alike 18 ws a.heights b.heights) (r : Alike 19 ws a.refs b.refs)
   where
@@ -78,7 +78,7 @@ module _ (ws : List (List ℕ)) (j : ℕ) (a b : PerList) (n : Alike 15 ws a.nod
 
 -- ---- bounds, whatever lists aren't lent
 
-pub lens_lie : (ws : List (List ℕ)) (lens : PerList) (j : ℕ) (o : Result MemberPart Refusal) (p : MemberPart) → o ≡ opened ws lens j
+pub lens_lie : (ws : List (List ℕ)) (lens : Counts) (j : ℕ) (o : Result MemberPart Refusal) (p : MemberPart) → o ≡ opened ws lens j
     → o ≡ Ok p
     → PartsLie p.a p.e lens × (j < length ws)
 lens_lie ws lens j o p eo e =
@@ -89,7 +89,7 @@ lens_lie ws lens j o p eo e =
     λ i. per_list (many lens.nodes i) (many lens.links i) (many lens.junctions i)
     (length-replicate {A = ℕ} lens.heights 0 i)
     (many lens.refs i) in
-    let k = open_in y j p lens (ap (λ (l : PerList). decided (entry_ask ws l j)) (sym same) ∙ ask_held y j)
+    let k = open_in y j p lens (ap (λ (l : Counts). decided (entry_ask ws l j)) (sym same) ∙ ask_held y j)
     (sym e ∙ eo) in
     (rw same at k.lie, k.may.there)
 
@@ -127,13 +127,13 @@ module _ (y : CellSet) (j : ℕ) (p : MemberPart) (k : OpenAt y j p) (words : le
   unfolding with_member
   part_back = λ i. record {
     members = own_entry i;
-    nodes = (ap (λ (s : PerList). put y.nodes s.nodes part.nodes) (sym k.starts) ∙ put_back y.nodes p.a.nodes _) i;
-    links = (ap (λ (s : PerList). put y.links s.links part.links) (sym k.starts) ∙ put_back y.links p.a.links _) i;
-    junctions = (ap (λ (s : PerList). put y.junctions s.junctions part.junctions) (sym k.starts)
+    nodes = (ap (λ (s : Counts). put y.nodes s.nodes part.nodes) (sym k.starts) ∙ put_back y.nodes p.a.nodes _) i;
+    links = (ap (λ (s : Counts). put y.links s.links part.links) (sym k.starts) ∙ put_back y.links p.a.links _) i;
+    junctions = (ap (λ (s : Counts). put y.junctions s.junctions part.junctions) (sym k.starts)
         ∙ put_back y.junctions p.a.junctions _) i;
-    heights = (ap (λ (s : PerList). put y.heights s.heights part.heights) (sym k.starts)
+    heights = (ap (λ (s : Counts). put y.heights s.heights part.heights) (sym k.starts)
         ∙ put_back y.heights p.a.heights _) i;
-    refs = (ap (λ (s : PerList). put y.refs s.refs part.refs) (sym k.starts) ∙ put_back y.refs p.a.refs _) i;
+    refs = (ap (λ (s : Counts). put y.refs s.refs part.refs) (sym k.starts) ∙ put_back y.refs p.a.refs _) i;
   }
 
   -- ---- an edit
@@ -205,30 +205,30 @@ edit_not y j edit causes x e =
 
 -- ---- by the lists that a call is lent; t is what the others count as
 
-module _ (ws : List (List ℕ)) (t : PerList) (et : t ≡ held_by ws) where
+module _ (ws : List (List ℕ)) (t : Counts) (et : t ≡ held_by ws) where
   abbrev few_held : length ws ≤ 9 → t ≡ starts_of ws (length ws)
   few_held = held_is ws t et
 
   lie_nodes : (l : List (List ℕ)) → Lies 15 ws l → Alike 15 ws t.nodes (length l)
-  lie_nodes l = alike_lies 15 ws t.nodes (length l) (λ few. ap (λ (q : PerList). q.nodes) (few_held few))
+  lie_nodes l = alike_lies 15 ws t.nodes (length l) (λ few. ap (λ (q : Counts). q.nodes) (few_held few))
 
   lie_links : (l : List (List ℕ)) → Lies 16 ws l → Alike 16 ws t.links (length l)
-  lie_links l = alike_lies 16 ws t.links (length l) (λ few. ap (λ (q : PerList). q.links) (few_held few))
+  lie_links l = alike_lies 16 ws t.links (length l) (λ few. ap (λ (q : Counts). q.links) (few_held few))
 
   lie_junctions : (l : List (List ℕ)) → Lies 17 ws l → Alike 17 ws t.junctions (length l)
-  lie_junctions l = alike_lies 17 ws t.junctions (length l) (λ few. ap (λ (q : PerList). q.junctions) (few_held few))
+  lie_junctions l = alike_lies 17 ws t.junctions (length l) (λ few. ap (λ (q : Counts). q.junctions) (few_held few))
 
   lie_heights : (l : List ℕ) → Lies 18 ws l → Alike 18 ws t.heights (length l)
-  lie_heights l = alike_lies 18 ws t.heights (length l) (λ few. ap (λ (q : PerList). q.heights) (few_held few))
+  lie_heights l = alike_lies 18 ws t.heights (length l) (λ few. ap (λ (q : Counts). q.heights) (few_held few))
 
   lie_refs : (l : List (List ℕ)) → Lies 19 ws l → Alike 19 ws t.refs (length l)
-  lie_refs l = alike_lies 19 ws t.refs (length l) (λ few. ap (λ (q : PerList). q.refs) (few_held few))
+  lie_refs l = alike_lies 19 ws t.refs (length l) (λ few. ap (λ (q : Counts). q.refs) (few_held few))
 
   module _ (j : ℕ) (N L J R : List (List ℕ)) (H : List ℕ) where
     abbrev y : CellSet
     y = cell_set ws N L J H R
 
-    abbrev Asked : PerList → Type 0
+    abbrev Asked : Counts → Type 0
     Asked lens = decided (entry_ask ws lens j) ≡ decided (ask_causes y j)
 
     pub lent_nodes : Lies 16 ws L → Lies 17 ws J → Lies 18 ws H → Lies 19 ws R

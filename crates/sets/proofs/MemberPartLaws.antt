@@ -22,7 +22,7 @@ use Rattle.sets.specs.Join.{set_lengths}
 use Rattle.sets.specs.SetParts.{Holds, count_of, starts_of, bare, list_causes}
 use Rattle.sets.specs.SetStored.{member_in, ask_causes}
 use Rattle.sets.specs.MemberParts.{entry_ask, opened, between, part_memory, PartsLie}
-use Rattle.sets.specs.declared.parts.PerList.{PerList}
+use Rattle.cells.specs.declared.count.Counts.{Counts}
 use Rattle.sets.specs.declared.member.MemberPart.{MemberPart}
 use Rattle.sets.proofs.PartLaws.{total_below, start_next, part_of}
 use Rattle.sets.proofs.CellSetLaws.{member_at_law}
@@ -96,7 +96,7 @@ module _ (y : CellSet) (j : ℕ) where
       refused : {P : Type 0} {a : Refusal} → ◌≡◌ {A = Answer} (Ok tt) (Err a) → P
       refused d = not_refused (sym d)
 
-  module _ (k : May) (a e : PerList) (ea : a ≡ starts_of ws j) (ee : e ≡ starts_of ws (j + 1)) where
+  module _ (k : May) (a e : Counts) (ea : a ≡ starts_of ws j) (ee : e ≡ starts_of ws (j + 1)) where
     rises : (size : ℕ) → start_of size ws j ≤ start_of size ws (j + 1)
     rises size = omega (arith, start_next size ws j k.there)
 
@@ -181,7 +181,7 @@ module _ (y : CellSet) (j : ℕ) (lt : j < length y.members) (h : Holds y) where
 abbrev pub member_part : List (List ℕ) → ℕ → MemberPart
 member_part ws j = record { ynd = ynd_of (get_or ws j []); a = starts_of ws j; e = starts_of ws (j + 1) }
 
-module _ (ws : List (List ℕ)) (lens : PerList) (j : ℕ) where
+module _ (ws : List (List ℕ)) (lens : Counts) (j : ℕ) where
   refused : {P : Type 0} {a : Refusal} → ◌≡◌ {A = Answer} (Ok tt) (Err a) → P
   refused d = not_refused (sym d)
 
@@ -219,7 +219,7 @@ module _ (ws : List (List ℕ)) (lens : PerList) (j : ℕ) where
       go (Ok tt) e = (refl, cc)
       go (Err m) e = let z : ◌≡◌ {A = ℕ} 0 1 = cc in absurd (omega arith)
 
-  pub open_done : (v : Ynd) (a e : PerList) → (Ok tt) ≡ decided (entry_ask ws lens j) → v ≡ ynd_of (get_or ws j [])
+  pub open_done : (v : Ynd) (a e : Counts) → (Ok tt) ≡ decided (entry_ask ws lens j) → v ≡ ynd_of (get_or ws j [])
       → a ≡ starts_of ws j → e ≡ starts_of ws (j + 1) → Ok (record { ynd = v; a = a; e = e }) ≡ opened ws lens j
   unfolding opened
   open_done v a e t ev ea ee =
@@ -240,7 +240,7 @@ pub record OpenAt (y : CellSet) (j : ℕ) (p : MemberPart) : Type 0 where
   pub ends : p.e ≡ starts_of y.members (j + 1)
   pub asked : decided (ask_causes y j) ≡ (Ok tt)
 
-pub open_in : (y : CellSet) (j : ℕ) (p : MemberPart) (lens : PerList)
+pub open_in : (y : CellSet) (j : ℕ) (p : MemberPart) (lens : Counts)
     → decided (entry_ask y.members lens j) ≡ decided (ask_causes y j) → Ok p ≡ opened y.members lens j → OpenAt y j p
 open_in y j p lens same e =
     let o = open_at y.members lens j p e in
@@ -259,11 +259,11 @@ open_in y j p lens same e =
     }
 
 -- by the lengths of the lists lent
-pub lens_held : (y : CellSet) (j : ℕ) (lens : PerList) → lens ≡ set_lengths y
+pub lens_held : (y : CellSet) (j : ℕ) (lens : Counts) → lens ≡ set_lengths y
     → decided (entry_ask y.members lens j) ≡ decided (ask_causes y j)
-lens_held y j lens e = ap (λ (l : PerList). decided (entry_ask y.members l j)) e ∙ ask_held y j
+lens_held y j lens e = ap (λ (l : Counts). decided (entry_ask y.members l j)) e ∙ ask_held y j
 
-module _ (y : CellSet) (j : ℕ) (lens : PerList) (same : decided (entry_ask y.members lens j) ≡ decided (ask_causes y j))
+module _ (y : CellSet) (j : ℕ) (lens : Counts) (same : decided (entry_ask y.members lens j) ≡ decided (ask_causes y j))
     (o : Result MemberPart Refusal) (eo : o ≡ opened y.members lens j) where
   pub is_open : (p : MemberPart) → o ≡ Ok p → OpenAt y j p
   is_open p e = open_in y j p lens same (sym e ∙ eo)

@@ -17,7 +17,7 @@ use Rattle.sets.specs.MemberList.{no_memory, member_at}
 use Rattle.sets.specs.CellSet.{CellSet, cell_set, word, ynd_of, words_at, total, parts_of, parts_in, members_of}
 use Rattle.sets.specs.Leave.{SetLeft, used}
 use Rattle.sets.specs.Join.{entry_of, stored, set_lengths, cell_lengths, part_of_cell, joined_member, with_cell, join_cell}
-use Rattle.sets.specs.declared.parts.PerList.{PerList}
+use Rattle.cells.specs.declared.count.Counts.{Counts}
 use Rattle.sets.proofs.PartLaws.{words_many, parts_many}
 use Rattle.sets.proofs.CellSetLaws.{members_many, member_at_law, members_same}
 use Rattle.sets.proofs.JoinLaws.{Fitting, AllFit, may}
@@ -94,7 +94,7 @@ seven (a ∷ b ∷ c ∷ d ∷ e ∷ []) h = absurd (omega arith)
 seven (a ∷ b ∷ c ∷ d ∷ e ∷ f ∷ []) h = absurd (omega arith)
 seven (a ∷ b ∷ c ∷ d ∷ e ∷ f ∷ g ∷ x ∷ xs) h = absurd (omega arith)
 
-pub ynd_entry : (y : Ynd) (sizes : PerList) → length y.unknowns ≡ 7 → ynd_of (entry_of y sizes) ≡ y
+pub ynd_entry : (y : Ynd) (sizes : Counts) → length y.unknowns ≡ 7 → ynd_of (entry_of y sizes) ≡ y
 unfolding ynd_of
 ynd_entry y sizes h = λ i. record {
   vft = y.vft;
@@ -110,7 +110,7 @@ ynd_entry y sizes h = λ i. record {
 
 -- ---- the members
 
-module _ (count : ℕ) (y : CellSet) (m : Memory) (sizes : PerList) (u : length m.ynd.unknowns ≡ 7)
+module _ (count : ℕ) (y : CellSet) (m : Memory) (sizes : Counts) (u : length m.ynd.unknowns ≡ 7)
     (fit : AllFit (take count y.members) (set_lengths y) (cell_lengths m) m.ynd sizes) where
   abbrev ws : List (List ℕ)
   ws = take count y.members
@@ -211,7 +211,7 @@ module _ (count : ℕ) (y : CellSet) (m : Memory) (sizes : PerList) (u : length 
 
 -- ---- the call
 
-module _ (count : ℕ) (y : CellSet) (m : Memory) (sizes : PerList) (u : length m.ynd.unknowns ≡ 7) where
+module _ (count : ℕ) (y : CellSet) (m : Memory) (sizes : Counts) (u : length m.ynd.unknowns ≡ 7) where
   abbrev area : ℕ
   area = first_area (take m.ynd.node_count m.nodes)
 

@@ -36,7 +36,7 @@ use Rattle.sets.specs.SetParts.{Holding, Holds, count_of, starts_of}
 use Rattle.sets.specs.SetStored.{member_in, entry_with, with_member}
 use Rattle.sets.specs.RenumberMember.{member_renumbered, correct_parts, others_corrected, renumbered_at}
 use Rattle.sets.specs.CorrectParts.{Table, Tells, change_in}
-use Rattle.sets.specs.declared.parts.PerList.{PerList}
+use Rattle.cells.specs.declared.count.Counts.{Counts}
 use Rattle.sets.proofs.PartLaws.{part_of}
 use Rattle.sets.proofs.CellSetLaws.{member_at_law, areas_held}
 use Rattle.sets.proofs.SetMemory.{cell_at_law}
@@ -153,7 +153,7 @@ module _ (y : CellSet) (j : ℕ) (lt : j < length y.members) (h : Holds y)
   few_nodes = (within v few).0
 
   -- what the code's call says of the new numbers
-  pub numbers_told : (ynd : Ynd) (at : PerList) → ynd ≡ v → at ≡ starts_of ws j
+  pub numbers_told : (ynd : Ynd) (at : Counts) → ynd ≡ v → at ≡ starts_of ws j
       → (S P : List ℕ) (a : Answer) (t p : List ℕ)
       → numbers_left a t p ≡ numbers_call ynd.node_count (drop at.nodes y.nodes) S P
       → numbers_left a t p ≡ numbers_call n N S P
@@ -338,7 +338,7 @@ module _ (y : CellSet) (j : ℕ) (lt : j < length y.members) (h : Holds y)
           m₁_call = ap (λ (z : Answer). left_by z m₁ p) (asked_part m₁ refl m₁_whole (length t) (length p) ∙ same_room)
 
           -- what the code's call says, where the member is and how it starts
-          pub called_at : (ynd : Ynd) (at : PerList) → ynd ≡ v → at ≡ starts_of ws j
+          pub called_at : (ynd : Ynd) (at : Counts) → ynd ≡ v → at ≡ starts_of ws j
               → (r : Result Ynd Refusal) (N' L' R' : List (List ℕ)) (P' : List ℕ)
               → renumbered_by ynd r (drop at.nodes N') (drop at.links L') y.junctions y.heights (drop at.refs R') P'
               ≡ renumber (memory ynd (drop at.nodes y.nodes) (drop at.links Lc) y.junctions y.heights

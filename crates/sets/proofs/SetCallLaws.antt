@@ -27,7 +27,7 @@ use Rattle.sets.specs.RenumberMember.{lists_after, renumbered_at, renumber_membe
 use Rattle.sets.specs.WriteMember as write
 use Rattle.sets.specs.WriteMember.{SetWritten, set_written, wrote_in, write_read_member}
 use Rattle.sets.specs.SetCallLaws.{CallsFollowTheorem, RefusedChangesNone, LaterCorrectsNone, OneMemberWalks}
-use Rattle.sets.specs.declared.parts.PerList.{PerList}
+use Rattle.cells.specs.declared.count.Counts.{Counts}
 use Rattle.sets.proofs.SetMemory.{cell_at_law}
 use Rattle.sets.proofs.SetLaws.{written_refused, places_stay}
 use Rattle.sets.proofs.MembersLeft.{leave_refused}
@@ -97,7 +97,7 @@ writing_refused y j s x e = go (decided (ask_causes y j)) e
     go (Ok tt) q = called b.answer refl q
     go (Err c) q = (refl, refl)
 
-joining_refused : (count : ℕ) (y : CellSet) (m : Memory) (sizes : PerList) (x : Refusal)
+joining_refused : (count : ℕ) (y : CellSet) (m : Memory) (sizes : Counts) (x : Refusal)
     → (join_cell count y m sizes).answer ≡ Err x
     → ((join_cell count y m sizes).lists ≡ y) × ((join_cell count y m sizes).count ≡ length (used count y).members)
 unfolding join_cell

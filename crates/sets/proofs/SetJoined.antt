@@ -35,7 +35,7 @@ use Rattle.sets.specs.SetParts.{Holding, Holds}
 use Rattle.sets.specs.HandBack.{copied, leaver, lack_of_back, hand_causes, hand_back}
 use Rattle.sets.specs.SetStored.{member_in}
 use Rattle.sets.specs.SetCallLaws.{joined_set, JoinStores, JoinStoresTheorem, ReadThenJoin, JoinThenLeave, JoinThenLeaveTheorem}
-use Rattle.sets.specs.declared.parts.PerList.{PerList}
+use Rattle.cells.specs.declared.count.Counts.{Counts}
 use Rattle.sets.proofs.CellSetLaws.{members_many}
 use Rattle.sets.proofs.JoinLaws.{Fitting, AllFit, all_fit, both_done, together_more, over_more}
 use Rattle.sets.proofs.RoomLaws.{fit_true, tail_done}
@@ -52,7 +52,7 @@ use Rattle.numbers.specs.declared.refusal.Refusal.TheVariants.{TooShort, AtLimit
 
 -- ---- what an accepted joining says
 
-module _ (count : ℕ) (y : CellSet) (m : Memory) (sizes : PerList) where
+module _ (count : ℕ) (y : CellSet) (m : Memory) (sizes : Counts) where
   abbrev before : CellSet
   before = used count y
 
@@ -158,7 +158,7 @@ over_words ms m d e =
 
 -- ---- the set after it
 
-module _ (count : ℕ) (y : CellSet) (m : Memory) (sizes : PerList) (seven : length m.ynd.unknowns ≡ 7)
+module _ (count : ℕ) (y : CellSet) (m : Memory) (sizes : Counts) (seven : length m.ynd.unknowns ≡ 7)
     (e : (join_cell count y m sizes).answer ≡ (Ok tt)) where
   abbrev es : List (List ℕ)
   es = take count y.members

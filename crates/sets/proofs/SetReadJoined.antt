@@ -28,7 +28,7 @@ use Rattle.sets.specs.SetStored.{member_in}
 use Rattle.sets.specs.SetClaim.{CellAsRead}
 use Rattle.sets.specs.SetCallsClaim.{cells_in, CallsUnnoticed}
 use Rattle.sets.specs.SetCallLaws.{joined_set, JoinStores}
-use Rattle.sets.specs.declared.parts.PerList.{PerList}
+use Rattle.cells.specs.declared.count.Counts.{Counts}
 use Rattle.sets.proofs.SetDemand.{as_read}
 use Rattle.sets.proofs.SetRead.{file_of, room, reads_5, reads_6, members, members_sound}
 use Rattle.sets.proofs.SetJoined.{join_stores, seven_read}
@@ -39,7 +39,7 @@ use Rattle.std.specs.Prelude.{Ok}
 abbrev empty : CellSet
 empty = cell_set ([] ∷ [] ∷ []) ([] ∷ [] ∷ [] ∷ [] ∷ []) ([] ∷ [] ∷ [] ∷ [] ∷ []) [] [] []
 
-abbrev two : PerList
+abbrev two : Counts
 two = per_list 2 2 0 0 0
 
 abbrev five : Memory

@@ -15,7 +15,7 @@ use Rattle.sets.specs.CellSet.{CellSet, cell_set}
 use Rattle.sets.specs.SetStored.{member_in, ask_causes, entry_with, with_member}
 use Rattle.sets.specs.MemberParts.{part_memory}
 use Rattle.sets.specs.WriteMember.{set_written, lists_after, wrote_in, write_read_member, write_member}
-use Rattle.sets.specs.declared.parts.PerList.{PerList}
+use Rattle.cells.specs.declared.count.Counts.{Counts}
 use Rattle.sets.specs.declared.member.MemberPart.{MemberPart}
 use Rattle.sets.proofs.SetLaws.{written_refused}
 use Rattle.sets.proofs.MemberPartLaws.{OpenAt, put_back}
@@ -80,11 +80,11 @@ module _ (y : CellSet) (j : ℕ) where
             let lists : cell_set W N L J H R ≡ with_member y j b.memory =
             λ i. record {
               members = (eW ∙ ap (λ (v : Ynd). set ws j (entry_with v (get_or ws j []))) own) i;
-              nodes = (eN ∙ ap (λ (q : PerList). put y.nodes q.nodes b.memory.nodes) s) i;
-              links = (eL ∙ ap (λ (q : PerList). put y.links q.links b.memory.links) s) i;
-              junctions = (eJ ∙ ap (λ (q : PerList). put y.junctions q.junctions b.memory.junctions) s) i;
-              heights = (eH ∙ ap (λ (q : PerList). put y.heights q.heights b.memory.heights) s) i;
-              refs = (eR ∙ ap (λ (q : PerList). put y.refs q.refs b.memory.refs) s) i;
+              nodes = (eN ∙ ap (λ (q : Counts). put y.nodes q.nodes b.memory.nodes) s) i;
+              links = (eL ∙ ap (λ (q : Counts). put y.links q.links b.memory.links) s) i;
+              junctions = (eJ ∙ ap (λ (q : Counts). put y.junctions q.junctions b.memory.junctions) s) i;
+              heights = (eH ∙ ap (λ (q : Counts). put y.heights q.heights b.memory.heights) s) i;
+              refs = (eR ∙ ap (λ (q : Counts). put y.refs q.refs b.memory.refs) s) i;
             } in
             let after : with_member y j b.memory ≡ lists_after b.answer y j b.memory
             = ap (λ (a : Result ℕ Refusal). lists_after a y j b.memory) says in

@@ -6,18 +6,19 @@ use Rattle.numbers.specs.Refusals.{Cause, when, decided}
 use Rattle.cells.specs.Memory.{Memory, memory}
 use Rattle.cells.specs.CellOf.{cell_of}
 use Rattle.cells.specs.Lookup.{is_some}
+use Rattle.cells.specs.RenumberParts.{lengths_of}
 use Rattle.cells.specs.declared.ynd.Ynd.{Ynd}
 use Rattle.sets.specs.Members.{area_of}
 use Rattle.sets.specs.MemberList.{over_set, unless}
 use Rattle.sets.specs.CellSet.{CellSet, words_at, total, members_of, holds_list}
 use Rattle.sets.specs.Leave.{SetLeft, set_left, used, first_of_area}
-use Rattle.sets.specs.declared.parts.PerList.{PerList}
+use Rattle.cells.specs.declared.count.Counts.{Counts}
 use Rattle.std.specs.Prelude.{Ok, Err}
 use Rattle.numbers.specs.declared.refusal.Refusal.TheVariants.{TooShort, AtLimit, AreaTaken}
 use Rattle.numbers.specs.declared.refusal.Lent.TheVariants as lent
 
 -- the entry of a cell whose parts have these sizes
-abbrev pub entry_of : Ynd → PerList → List ℕ
+abbrev pub entry_of : Ynd → Counts → List ℕ
 entry_of y sizes =
     y.vft ∷ y.vehicle_node_count ∷ y.ped_node_count ∷ get_or y.unknowns 0 0 ∷ get_or y.unknowns 1 0
     ∷ get_or y.unknowns 2 0 ∷ get_or y.unknowns 3 0 ∷ get_or y.unknowns 4 0 ∷ get_or y.unknowns 5 0
@@ -36,7 +37,7 @@ part_fits k size ws len have count room =
     && (leb count have && (leb count room && (ltb room 4294967296 && leb (total (words_at size ws) + room) len)))
 
 -- 7 each of the five lists that doesn't; the lists have these lengths, and the cell's those
-unfoldable pub lack_for : List (List ℕ) → PerList → PerList → Ynd → PerList → List Cause
+unfoldable pub lack_for : List (List ℕ) → Counts → Counts → Ynd → Counts → List Cause
 lack_for ws lens haves y sizes =
     when (not (part_fits 10 15 ws lens.nodes haves.nodes y.node_count sizes.nodes)) (TooShort lent.Nodes)
     ∷ when (not (part_fits 11 16 ws lens.links haves.links y.link_count sizes.links)) (TooShort lent.Links)
@@ -47,7 +48,8 @@ lack_for ws lens haves y sizes =
     ∷ when (not (part_fits 14 19 ws lens.refs haves.refs y.ref_count sizes.refs)) (TooShort lent.Refs)
     ∷ []
 
-abbrev pub per_list : ℕ → ℕ → ℕ → ℕ → ℕ → PerList
+-- a number for each of the five lists
+abbrev pub per_list : ℕ → ℕ → ℕ → ℕ → ℕ → Counts
 per_list nodes links junctions heights refs = record {
   nodes = nodes;
   links = links;
@@ -56,15 +58,15 @@ per_list nodes links junctions heights refs = record {
   refs = refs;
 }
 
-abbrev pub set_lengths : CellSet → PerList
-set_lengths y = per_list (length y.nodes) (length y.links) (length y.junctions) (length y.heights) (length y.refs)
+abbrev pub set_lengths : CellSet → Counts
+set_lengths y = lengths_of y.nodes y.links y.junctions y.heights y.refs
 
-abbrev pub cell_lengths : Memory → PerList
-cell_lengths m = per_list (length m.nodes) (length m.links) (length m.junctions) (length m.heights) (length m.refs)
+abbrev pub cell_lengths : Memory → Counts
+cell_lengths m = lengths_of m.nodes m.links m.junctions m.heights m.refs
 
 -- 18 the area is in the set; 14 the set with the cell is over a limit; 7 the first of the five lists that is too
 -- short for it; 7 at 10 a list of `room` entries for the members that is full
-unfoldable pub join_causes : CellSet → ℕ → Memory → PerList → List Cause
+unfoldable pub join_causes : CellSet → ℕ → Memory → Counts → List Cause
 join_causes y room m sizes =
     when (is_some (first_of_area y (area_of (cell_of m)))) AreaTaken
     ∷ when (over_set (members_of y ++ (m ∷ []))) AtLimit
@@ -72,7 +74,7 @@ join_causes y room m sizes =
     ++ (when (leb room (length y.members)) (TooShort lent.Members) ∷ []))
 
 -- the six lists y, whose set is z, after the cell joined: what its counts say is copied behind the others' parts
-unfoldable pub with_cell : CellSet → CellSet → Memory → PerList → CellSet
+unfoldable pub with_cell : CellSet → CellSet → Memory → Counts → CellSet
 with_cell y z m sizes = record {
   members = set y.members (length z.members) (entry_of m.ynd sizes);
   nodes = stored (total (words_at 15 z.members)) (take m.ynd.node_count m.nodes) y.nodes;
@@ -83,7 +85,7 @@ with_cell y z m sizes = record {
 }
 
 -- The set's entries are the first `count` of the members' list. A refusal leaves all six lists as they were.
-unfoldable pub join_cell : ℕ → CellSet → Memory → PerList → SetLeft
+unfoldable pub join_cell : ℕ → CellSet → Memory → Counts → SetLeft
 join_cell count y m sizes =
     unless (decided (join_causes (used count y) (length y.members) m sizes))
     (λ cause. set_left (Err cause) (length (used count y).members) y)
@@ -96,7 +98,7 @@ unfoldable pub part_of_cell : {A : Type 0} → ℕ → ℕ → ℕ → List A �
 part_of_cell at size n new l = take n new ++ take (size - n) (drop (at + n) l)
 
 -- the member that a cell is after it joined the members ws of the lists y
-abbrev pub joined_member : List (List ℕ) → CellSet → Memory → PerList → Memory
+abbrev pub joined_member : List (List ℕ) → CellSet → Memory → Counts → Memory
 joined_member ws y m sizes =
     memory m.ynd
     (part_of_cell (total (words_at 15 ws)) sizes.nodes m.ynd.node_count m.nodes y.nodes)

@@ -22,6 +22,8 @@ pub mod CrossParts
 pub mod SetSoundCall
 pub mod SetSoundParts
 pub mod MemberParts
+pub mod ListParts
+pub mod NumberedParts
 pub mod Lent
 pub mod HandBack
 pub mod MemberEdit

@@ -23,7 +23,7 @@ use Rattle.sets.specs.WriteMember.{write_read_member}
 use Rattle.sets.specs.CrossMember.{cross_member}
 use Rattle.sets.specs.SetRun.{run_set}
 use Rattle.sets.specs.SetCallsClaim.{cells_in}
-use Rattle.sets.specs.declared.parts.PerList.{PerList}
+use Rattle.cells.specs.declared.count.Counts.{Counts}
 use Rattle.std.specs.Prelude.{Ok, Err}
 use Rattle.numbers.specs.declared.refusal.Refusal.{Refusal}
 
@@ -59,7 +59,7 @@ pub record RefusedChangesNone : Type 0 where
   pub write_refused : (y : CellSet) (j : ℕ) (section : List ℕ) (cause : Refusal)
       → (write_read_member y j section).answer ≡ Err cause
       → ((write_read_member y j section).lists ≡ y) × ((write_read_member y j section).section ≡ section)
-  pub join_refused : (count : ℕ) (y : CellSet) (m : Memory) (sizes : PerList) (cause : Refusal)
+  pub join_refused : (count : ℕ) (y : CellSet) (m : Memory) (sizes : Counts) (cause : Refusal)
       → (join_cell count y m sizes).answer ≡ Err cause
       → ((join_cell count y m sizes).lists ≡ y) × ((join_cell count y m sizes).count ≡ length (used count y).members)
   pub leave_refused : (y : CellSet) (area : ℕ) (cause : Refusal) → (leave_area y area).answer ≡ Err cause
@@ -79,11 +79,11 @@ LaterCorrectsNone =
 -- ---- joining. A struct in memory has seven words of its own.
 
 -- the set that an accepted joining leaves, and the one before
-abbrev pub joined_set : ℕ → CellSet → Memory → PerList → CellSet
+abbrev pub joined_set : ℕ → CellSet → Memory → Counts → CellSet
 joined_set count y m sizes = used (join_cell count y m sizes).count (join_cell count y m sizes).lists
 
 -- What `join` stores is the cell that was joined, and the other members are as they were.
-pub record JoinStores (count : ℕ) (y : CellSet) (m : Memory) (sizes : PerList) : Type 0 where
+pub record JoinStores (count : ℕ) (y : CellSet) (m : Memory) (sizes : Counts) : Type 0 where
   pub one_more : length (joined_set count y m sizes).members ≡ length (used count y).members + 1
   pub counted : (join_cell count y m sizes).count ≡ length (used count y).members + 1
   pub others : (i : ℕ) → i < length (used count y).members
@@ -100,13 +100,13 @@ pub record JoinStores (count : ℕ) (y : CellSet) (m : Memory) (sizes : PerList)
 
 abbrev pub JoinStoresTheorem : Type 0
 JoinStoresTheorem =
-    (count : ℕ) (y : CellSet) (m : Memory) (sizes : PerList) → length m.ynd.unknowns ≡ 7
+    (count : ℕ) (y : CellSet) (m : Memory) (sizes : Counts) → length m.ynd.unknowns ≡ 7
     → (join_cell count y m sizes).answer ≡ (Ok tt) → JoinStores count y m sizes
 
 -- A cell read from two sections, then joined, is a member as read.
 abbrev pub ReadThenJoin : Type 0
 ReadThenJoin =
-    (system graphics : List ℕ) (lent : Memory) (count : ℕ) (y : CellSet) (sizes : PerList)
+    (system graphics : List ℕ) (lent : Memory) (count : ℕ) (y : CellSet) (sizes : Counts)
     → (read_of system graphics lent).answer ≡ (Ok tt)
     → (join_cell count y (read_of system graphics lent).memory sizes).answer ≡ (Ok tt)
     → CellAsRead (member_in (joined_set count y (read_of system graphics lent).memory sizes)
@@ -134,7 +134,7 @@ LeaveKeepsTheorem =
 
 -- Joining, then leaving, gives the set and the cell back: it is accepted, the cell that leaves is the one that joined,
 -- and the members are those before.
-pub record JoinThenLeave (count : ℕ) (y : CellSet) (m : Memory) (sizes : PerList) : Type 0 where
+pub record JoinThenLeave (count : ℕ) (y : CellSet) (m : Memory) (sizes : Counts) : Type 0 where
   pub left_again : (leave_area (joined_set count y m sizes) (area_of (cell_of m))).answer ≡ (Ok tt)
   pub it_leaves : first_of_area (joined_set count y m sizes) (area_of (cell_of m))
       ≡ some (length (used count y).members)
@@ -148,7 +148,7 @@ pub record JoinThenLeave (count : ℕ) (y : CellSet) (m : Memory) (sizes : PerLi
 
 abbrev pub JoinThenLeaveTheorem : Type 0
 JoinThenLeaveTheorem =
-    (count : ℕ) (y : CellSet) (m : Memory) (sizes : PerList) → length m.ynd.unknowns ≡ 7
+    (count : ℕ) (y : CellSet) (m : Memory) (sizes : Counts) → length m.ynd.unknowns ≡ 7
     → (join_cell count y m sizes).answer ≡ (Ok tt) → JoinThenLeave count y m sizes
 
 -- ---- a set of one member is its cell

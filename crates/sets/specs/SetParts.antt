@@ -11,8 +11,8 @@ use Rattle.sets.specs.Members.{map_from}
 use Rattle.sets.specs.MemberList.{over_set}
 use Rattle.sets.specs.CellSet.{CellSet, word, ynd_of, words_at, total, parts_of, lack_of}
 use Rattle.sets.specs.Leave.{start_of}
-use Rattle.sets.specs.Join.{per_list, lack_for}
-use Rattle.sets.specs.declared.parts.PerList.{PerList}
+use Rattle.sets.specs.Join.{lack_for}
+use Rattle.cells.specs.declared.count.Counts.{Counts}
 use Rattle.std.specs.Prelude.{Option, Some, None}
 use Rattle.numbers.specs.declared.refusal.Refusal.TheVariants.{TooShort, AtLimit, AreaTaken}
 use Rattle.numbers.specs.declared.refusal.Lent.TheVariants as lent
@@ -22,7 +22,7 @@ named_of (some i) = Some i
 named_of none = None
 
 -- where the parts of the member j start: behind those of the members before it
-abbrev pub starts_of : List (List ℕ) → ℕ → PerList
+abbrev pub starts_of : List (List ℕ) → ℕ → Counts
 starts_of ws j = record {
   nodes = start_of 15 ws j;
   links = start_of 16 ws j;
@@ -32,7 +32,7 @@ starts_of ws j = record {
 }
 
 -- the number for the list i, in their order
-abbrev pub of_list : ℕ → PerList → ℕ
+abbrev pub of_list : ℕ → Counts → ℕ
 of_list i p =
     cond (eqb i 0) p.nodes (cond (eqb i 1) p.links (cond (eqb i 2) p.junctions (cond (eqb i 3) p.heights p.refs)))
 
@@ -65,12 +65,8 @@ areas_of ws nodes =
 abbrev pub bare_cell : Ynd → Memory
 bare_cell y = memory y [] [] [] [] []
 
--- a cell's counts, as a number a list
-abbrev pub counts_in : Ynd → PerList
-counts_in y = per_list y.node_count y.link_count y.junction_count y.heightmap_count y.ref_count
-
 -- what joining is refused for, by the entries and the lists' lengths
-unfoldable pub entry_causes : List (List ℕ) → List (List ℕ) → PerList → PerList → Ynd → PerList → ℕ → ℕ → List Cause
+unfoldable pub entry_causes : List (List ℕ) → List (List ℕ) → Counts → Counts → Ynd → Counts → ℕ → ℕ → List Cause
 entry_causes ws nodes lens haves y sizes area room =
     when (is_some (first_with (areas_of ws nodes) area)) AreaTaken
     ∷ when (over_set (bare ws ++ (bare_cell y ∷ []))) AtLimit

@@ -15,24 +15,34 @@ use cells::area::{belongs_to, own_area};
 use cells::link::LinkWords;
 use cells::node::NodeWords;
 
-// A link, as it is after the numbers in the table became the new ones: it is changed if it names the area.
-fn relabel(w: LinkWords, area: u16, table: &[u32]) -> LinkWords
-    requires { (65536 ≤ length table.now) × Table table.now }
-    ensures { (o : Old) → Tells o table.now → result ≡ relabelled o area w }
-{
-    if w[0] == area {
-        return [w[0], table[w[1] as usize] as u16, w[2], w[3]];
-    }
-    w
+// The new numbers of an area's nodes, in a table.
+#[derive(Clone, Copy)]
+struct Renamed<'a> {
+    area: u16,
+    table: &'a [u32],
+    ghost long: { 65536 ≤ length table.now },
+    ghost few: { Table table.now },
 }
 
-// All these links.
-fn relabel_all(links: &mut [LinkWords], area: u16, table: &[u32])
-    requires { (65536 ≤ length table.now) × Table table.now }
-    ensures { (o : Old) → Tells o table.now → links.new ≡ map (relabelled o area) links.old }
-{
-    for w in links.iter_mut() {
-        *w = relabel(*w, area, table);
+impl<'a> Renamed<'a> {
+    // A link, as it is after the numbers in the table became the new ones: it is changed if it names the area.
+    fn relabel(self, w: LinkWords) -> LinkWords
+        ensures { (o : Old) → Tells o self.entry.table.now → result ≡ relabelled o self.entry.area w }
+    {
+        if w[0] == self.area {
+            return [w[0], self.table[w[1] as usize] as u16, w[2], w[3]];
+        }
+        w
+    }
+
+    // All these links.
+    fn relabel_all(self, links: &mut [LinkWords])
+        ensures { (o : Old) → Tells o self.entry.table.now
+            → links.new ≡ map (relabelled o self.entry.area) links.old }
+    {
+        for w in links.iter_mut() {
+            *w = self.relabel(*w);
+        }
     }
 }
 
@@ -60,27 +70,26 @@ fn correct_member(
     members: &[MemberWords],
     nodes: &[NodeWords],
     links: &mut [LinkWords],
-    table: &[u32],
+    renamed: Renamed,
     i: usize,
     j: usize,
-    area: u16,
 )
     requires { (i < length members.now) × (length members.now ≤ 9) × Holding 10 15 members.now (length nodes.now)
-        × Holding 11 16 members.now (length links.old) × (65536 ≤ length table.now) × Table table.now
-        × (area ≡ get_or (areas_of members.now nodes.now) j 0)
-        × (is_member j (first_with (areas_of members.now nodes.now) area) ≡ true) }
-    ensures { (o : Old) → Tells o table.now
+        × Holding 11 16 members.now (length links.old)
+        × (renamed.area ≡ get_or (areas_of members.now nodes.now) j 0)
+        × (is_member j (first_with (areas_of members.now nodes.now) renamed.area) ≡ true) }
+    ensures { (o : Old) → Tells o renamed.entry.table.now
         → links.new ≡ part_corrected (change_in members.now nodes.now j o) members.now i links.old }
 {
     if i == j {
         return;
     }
-    if belongs_to(area_of_member(members, nodes, i), area) {
+    if belongs_to(area_of_member(members, nodes, i), renamed.area) {
         return;
     }
     let start = count_before(members, 16, i);
     let count = word_at(members[i], 11);
-    relabel_all(&mut links[start..start + count], area, table);
+    renamed.relabel_all(&mut links[start..start + count]);
 }
 
 // The links of all members but the member j, by a table of the new numbers. Nothing is to be done where j is not the
@@ -101,7 +110,8 @@ pub(crate) fn correct_others(
     if !is_member(member_with(members, nodes, area), j) {
         return;
     }
+    let renamed = Renamed { area, table };
     for i in 0..members.len() {
-        correct_member(members, nodes, links, table, i, j, area);
+        correct_member(members, nodes, links, renamed, i, j);
     }
 }

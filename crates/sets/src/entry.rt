@@ -4,7 +4,7 @@ ghost use Rattle.std.specs.Prelude.{◌≡◌, ◌<◌, length};
 ghost use Rattle.sets.specs.CellSet.{word, ynd_of};
 ghost use Rattle.sets.specs.Join.{entry_of};
 
-use crate::parts::PerList;
+use cells::count::Counts;
 use cells::ynd::Ynd;
 
 pub type MemberWords = [u32; 20];
@@ -40,7 +40,7 @@ pub(crate) fn ynd_of(w: MemberWords) -> Ynd
 }
 
 // The entry of a cell whose parts have these sizes.
-pub(crate) fn entry_words(ynd: Ynd, sizes: PerList) -> MemberWords
+pub(crate) fn entry_words(ynd: Ynd, sizes: Counts) -> MemberWords
     requires { (sizes.nodes < 4294967296) × (sizes.links < 4294967296) × (sizes.junctions < 4294967296)
         × (sizes.heights < 4294967296) × (sizes.refs < 4294967296) }
     ensures { (result ≡ entry_of ynd sizes) × (length ynd.unknowns ≡ 7) }

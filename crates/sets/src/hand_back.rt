@@ -1,16 +1,16 @@
 // A cell handed back before it leaves its set (T-09).
-ghost use Rattle.std.specs.Prelude.{◌≡◌, [], length};
+ghost use Rattle.std.specs.Prelude.{◌≡◌, []};
 ghost use Rattle.cells.specs.Memory.{memory, left};
 ghost use Rattle.sets.specs.CellSet.{cell_set};
-ghost use Rattle.sets.specs.Join.{per_list};
 ghost use Rattle.sets.specs.HandBack.{copied, hand_back};
+ghost use Rattle.sets.specs.ListParts.{Same, memory_of, set_given, lengths_in, lengths_given};
 ghost use Rattle.sets.specs.MemberParts.{part_memory, Giving};
 
 use crate::entry::MemberWords;
-use crate::join::{append, counts_of};
+use crate::lists::{Given, Lists};
 use crate::member::{MemberPart, open_member};
 use crate::named::member_with;
-use crate::parts::{PerList, lengths};
+use cells::count::{Counts, lengths};
 use cells::junction::JunctionWords;
 use cells::link::LinkWords;
 use cells::node::NodeWords;
@@ -19,60 +19,21 @@ use cells::ynd::Ynd;
 use numbers::refusal::Refusal;
 
 // The cell whose lists are the parts of p, into lists that have room for it.
-fn give_part(
-    p: MemberPart,
-    nodes: &[NodeWords],
-    links: &[LinkWords],
-    junctions: &[JunctionWords],
-    heights: &[u8],
-    refs: &[LinkWords],
-    to_nodes: &mut [NodeWords],
-    to_links: &mut [LinkWords],
-    to_junctions: &mut [JunctionWords],
-    to_heights: &mut [u8],
-    to_refs: &mut [LinkWords],
-)
-    requires { Giving p (per_list (length nodes.now) (length links.now) (length junctions.now)
-        (length heights.now) (length refs.now))
-        (per_list (length to_nodes.old) (length to_links.old) (length to_junctions.old)
-        (length to_heights.old) (length to_refs.old)) }
-    ensures { memory p.ynd to_nodes.new to_links.new to_junctions.new to_heights.new to_refs.new
-        ≡ copied (part_memory p.ynd p.a p.e (cell_set [] nodes.now links.now junctions.now
-        heights.now refs.now)) (memory p.ynd to_nodes.old to_links.old to_junctions.old
-        to_heights.old to_refs.old) }
+fn give_part(p: MemberPart, from: Given, to: &mut Lists)
+    requires { Giving p (lengths_given from) (lengths_in to.old) }
+    ensures same { Same to.new to.old }
+    ensures value { memory_of p.ynd to.new
+        ≡ copied (part_memory p.ynd p.a p.e (set_given [] from.entry)) (memory_of p.ynd to.old) }
 {
-    let counts = counts_of(p.ynd);
-    let front = PerList {
+    let front = Counts {
         nodes: 0,
         links: 0,
         junctions: 0,
         heights: 0,
         refs: 0,
     };
-    let na = p.a.nodes;
-    let ne = p.e.nodes;
-    let la = p.a.links;
-    let le = p.e.links;
-    let ja = p.a.junctions;
-    let je = p.e.junctions;
-    let ha = p.a.heights;
-    let he = p.e.heights;
-    let ra = p.a.refs;
-    let re = p.e.refs;
-    append(
-        to_nodes,
-        to_links,
-        to_junctions,
-        to_heights,
-        to_refs,
-        front,
-        counts,
-        &nodes[na..ne],
-        &links[la..le],
-        &junctions[ja..je],
-        &heights[ha..he],
-        &refs[ra..re],
-    );
+    let part = from.between(p.a, p.e);
+    to.append(front, p.ynd.counts(), part);
 }
 
 // The cell that `leave` would take out, copied into the caller's lists. A refusal changes nothing, and neither does
@@ -109,18 +70,20 @@ pub fn hand_back(
         to_heights.len(),
         to_refs.len(),
     )?;
-    give_part(
-        p,
+    let from = Given {
         nodes,
         links,
         junctions,
         heights,
         refs,
-        to_nodes,
-        to_links,
-        to_junctions,
-        to_heights,
-        to_refs,
-    );
+    };
+    let mut to = Lists {
+        nodes: to_nodes,
+        links: to_links,
+        junctions: to_junctions,
+        heights: to_heights,
+        refs: to_refs,
+    };
+    give_part(p, from, &mut to);
     Ok(p.ynd)
 }

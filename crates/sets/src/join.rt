@@ -3,18 +3,20 @@ ghost use Rattle.std.specs.Prelude.{◌≡◌, List, [], ◌∷◌, ◌++◌, �
 ghost use Rattle.numbers.specs.Refusals.{decided};
 ghost use Rattle.cells.specs.Lookup.{first_with, is_some};
 ghost use Rattle.cells.specs.Memory.{memory};
+ghost use Rattle.cells.specs.RenumberParts.{counts_of};
 ghost use Rattle.sets.specs.MemberList.{over_set};
 ghost use Rattle.sets.specs.CellSet.{cell_set};
 ghost use Rattle.sets.specs.Leave.{left_after};
-ghost use Rattle.sets.specs.Join.{stored, part_fits, lack_for, join_cell};
-ghost use Rattle.sets.specs.SetParts.{named_of, areas_of, bare, bare_cell, counts_in, entry_causes, of_list};
+ghost use Rattle.sets.specs.Join.{part_fits, lack_for, join_cell};
+ghost use Rattle.sets.specs.SetParts.{named_of, areas_of, bare, bare_cell, entry_causes, of_list};
 
 use crate::entry::{MemberWords, entry_words};
-use crate::moves::put;
+use crate::lists::{Given, Lists};
 use crate::named::member_with;
-use crate::parts::{PerList, count_all, lengths, starts_of};
+use crate::parts::{count_all, of_list, starts_of};
 use crate::room::{any_over, holds_list};
 use cells::area::own_area;
+use cells::count::{Counts, lengths};
 use cells::junction::JunctionWords;
 use cells::link::LinkWords;
 use cells::node::NodeWords;
@@ -51,49 +53,54 @@ fn part_fits(
     room <= len - count_all(members, size)
 }
 
+// A cell that is to join, with what its own lists and the set's have, and the sizes of its parts.
+#[derive(Clone, Copy)]
+struct Joining {
+    ynd: Ynd,
+    lens: Counts,
+    haves: Counts,
+    sizes: Counts,
+}
+
 // The same of the list i, in the order of the five.
-fn fits_at(
-    members: &[MemberWords],
-    i: usize,
-    lens: PerList,
-    haves: PerList,
-    counts: PerList,
-    sizes: PerList,
-) -> bool
+fn fits_at(members: &[MemberWords], i: usize, cell: Joining) -> bool
     requires { (i < 5) × (length members.now ≤ 9) }
-    ensures { result ≡ part_fits (10 + i) (15 + i) members.now (of_list i lens) (of_list i haves)
-        (of_list i counts) (of_list i sizes) }
+    ensures { result ≡ part_fits (10 + i) (15 + i) members.now (of_list i cell.lens) (of_list i cell.haves)
+        (of_list i (counts_of cell.ynd)) (of_list i cell.sizes) }
 {
-    let (len, have, count) = (lens.at(i), haves.at(i), counts.at(i));
-    part_fits(members, 10 + i, 15 + i, len, have, count, sizes.at(i))
+    let len = of_list(cell.lens, i);
+    let have = of_list(cell.haves, i);
+    let count = of_list(cell.ynd.counts(), i);
+    part_fits(
+        members,
+        10 + i,
+        15 + i,
+        len,
+        have,
+        count,
+        of_list(cell.sizes, i),
+    )
 }
 
 // 7: whether each list has room for the cell.
 #[tactic(auto, using(numbers::proofs::Refusing::tested), unfolding(crate::specs::Join::lack_for))]
-fn check_fit(
-    members: &[MemberWords],
-    lens: PerList,
-    haves: PerList,
-    ynd: Ynd,
-    sizes: PerList,
-) -> Result<(), Refusal>
+fn check_fit(members: &[MemberWords], cell: Joining) -> Result<(), Refusal>
     requires { length members.now ≤ 9 }
-    ensures { result ≡ decided (lack_for members.now lens haves ynd sizes) }
+    ensures { result ≡ decided (lack_for members.now cell.lens cell.haves cell.ynd cell.sizes) }
 {
-    let counts = counts_of(ynd);
-    if !fits_at(members, 0, lens, haves, counts, sizes) {
+    if !fits_at(members, 0, cell) {
         return Err(Refusal::TooShort(Lent::Nodes));
     }
-    if !fits_at(members, 1, lens, haves, counts, sizes) {
+    if !fits_at(members, 1, cell) {
         return Err(Refusal::TooShort(Lent::Links));
     }
-    if !fits_at(members, 2, lens, haves, counts, sizes) {
+    if !fits_at(members, 2, cell) {
         return Err(Refusal::TooShort(Lent::Junctions));
     }
-    if !fits_at(members, 3, lens, haves, counts, sizes) {
+    if !fits_at(members, 3, cell) {
         return Err(Refusal::TooShort(Lent::Heightmap));
     }
-    if !fits_at(members, 4, lens, haves, counts, sizes) {
+    if !fits_at(members, 4, cell) {
         return Err(Refusal::TooShort(Lent::Refs));
     }
     Ok(())
@@ -130,82 +137,24 @@ fn has_area(members: &[MemberWords], nodes: &[NodeWords], area: u16) -> bool
 fn join_answer(
     members: &[MemberWords],
     nodes: &[NodeWords],
-    lens: PerList,
-    haves: PerList,
-    ynd: Ynd,
-    sizes: PerList,
+    cell: Joining,
     area: u16,
     room: usize,
 ) -> Result<(), Refusal>
     ensures { result
-        ≡ decided (entry_causes members.now nodes.now lens haves ynd sizes area room) }
+        ≡ decided (entry_causes members.now nodes.now cell.lens cell.haves cell.ynd cell.sizes area room) }
 {
     if has_area(members, nodes, area) {
         return Err(Refusal::AreaTaken);
     }
-    if over_with(members, ynd) {
+    if over_with(members, cell.ynd) {
         return Err(Refusal::AtLimit);
     }
-    check_fit(members, lens, haves, ynd, sizes)?;
+    check_fit(members, cell)?;
     if room <= members.len() {
         return Err(Refusal::TooShort(Lent::Members));
     }
     Ok(())
-}
-
-// What the cell's counts say of its lists, stored in the five lists from these places on.
-pub(crate) fn append(
-    nodes: &mut [NodeWords],
-    links: &mut [LinkWords],
-    junctions: &mut [JunctionWords],
-    heights: &mut [u8],
-    refs: &mut [LinkWords],
-    at: PerList,
-    counts: PerList,
-    new_nodes: &[NodeWords],
-    new_links: &[LinkWords],
-    new_junctions: &[JunctionWords],
-    new_heights: &[u8],
-    new_refs: &[LinkWords],
-)
-    requires { ((counts.nodes ≤ length new_nodes.now)
-        × (at.nodes + counts.nodes ≤ length nodes.old))
-        × ((counts.links ≤ length new_links.now)
-        × (at.links + counts.links ≤ length links.old))
-        × ((counts.junctions ≤ length new_junctions.now)
-        × (at.junctions + counts.junctions ≤ length junctions.old))
-        × ((counts.heights ≤ length new_heights.now)
-        × (at.heights + counts.heights ≤ length heights.old))
-        × ((counts.refs ≤ length new_refs.now)
-        × (at.refs + counts.refs ≤ length refs.old)) }
-    ensures { (nodes.new
-        ≡ stored at.nodes (take counts.nodes new_nodes.now) nodes.old)
-        × (links.new
-        ≡ stored at.links (take counts.links new_links.now) links.old)
-        × (junctions.new
-        ≡ stored at.junctions (take counts.junctions new_junctions.now) junctions.old)
-        × (heights.new
-        ≡ stored at.heights (take counts.heights new_heights.now) heights.old)
-        × (refs.new
-        ≡ stored at.refs (take counts.refs new_refs.now) refs.old) }
-{
-    put(nodes, at.nodes, &new_nodes[..counts.nodes]);
-    put(links, at.links, &new_links[..counts.links]);
-    put(junctions, at.junctions, &new_junctions[..counts.junctions]);
-    put(heights, at.heights, &new_heights[..counts.heights]);
-    put(refs, at.refs, &new_refs[..counts.refs]);
-}
-
-pub(crate) fn counts_of(ynd: Ynd) -> PerList
-    ensures { result ≡ counts_in ynd }
-{
-    PerList {
-        nodes: ynd.node_count as usize,
-        links: ynd.link_count as usize,
-        junctions: ynd.junction_count as usize,
-        heights: ynd.heightmap_count as usize,
-        refs: ynd.ref_count as usize,
-    }
 }
 
 // A cell joins: what its counts say is copied behind the other members' parts. Its parts get `sizes` entries, at least
@@ -225,7 +174,7 @@ pub fn join(
     new_junctions: &[JunctionWords],
     new_heights: &[u8],
     new_refs: &[LinkWords],
-    sizes: PerList,
+    sizes: Counts,
 ) -> Result<usize, Refusal>
     ensures { left_after (length (take count members.old)) result (cell_set members.new nodes.new links.new
         junctions.new heights.new refs.new)
@@ -237,25 +186,32 @@ pub fn join(
     let room = members.len();
     let held = count.min(room);
     let lens = lengths(nodes, links, junctions, heights, refs);
-    let have = lengths(new_nodes, new_links, new_junctions, new_heights, new_refs);
+    let haves = lengths(new_nodes, new_links, new_junctions, new_heights, new_refs);
     let area = own_area(new_nodes, ynd.node_count as usize);
-    join_answer(&members[..held], nodes, lens, have, ynd, sizes, area, room)?;
+    let cell = Joining {
+        ynd,
+        lens,
+        haves,
+        sizes,
+    };
+    join_answer(&members[..held], nodes, cell, area, room)?;
     let at = starts_of(&members[..held], held);
-    let counts = counts_of(ynd);
-    append(
+    let counts = ynd.counts();
+    let mut lists = Lists {
         nodes,
         links,
         junctions,
         heights,
         refs,
-        at,
-        counts,
-        new_nodes,
-        new_links,
-        new_junctions,
-        new_heights,
-        new_refs,
-    );
+    };
+    let given = Given {
+        nodes: new_nodes,
+        links: new_links,
+        junctions: new_junctions,
+        heights: new_heights,
+        refs: new_refs,
+    };
+    lists.append(at, counts, given);
     members[held] = entry_words(ynd, sizes);
     Ok(held + 1)
 }

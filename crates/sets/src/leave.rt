@@ -2,45 +2,37 @@
 ghost use Rattle.std.specs.Prelude.{◌≡◌, ◌≤◌, ◌<◌, length};
 ghost use Rattle.sets.specs.CellSet.{cell_set};
 ghost use Rattle.sets.specs.SetParts.{Holds};
+ghost use Rattle.sets.specs.ListParts.{Same, set_of};
 ghost use Rattle.sets.specs.Leave.{left_after, without, leave_area};
 
 use crate::entry::MemberWords;
+use crate::lists::Lists;
 use crate::moves::close;
 use crate::named::member_with;
-use crate::parts::{lengths, starts_of};
+use crate::parts::starts_of;
 use crate::room::check_set;
+use cells::count::lengths;
 use cells::junction::JunctionWords;
 use cells::link::LinkWords;
 use cells::node::NodeWords;
 use numbers::refusal::Refusal;
 
 // Closes the gap that the member j leaves in each list.
-fn take_out(
-    members: &mut [MemberWords],
-    nodes: &mut [NodeWords],
-    links: &mut [LinkWords],
-    junctions: &mut [JunctionWords],
-    heights: &mut [u8],
-    refs: &mut [LinkWords],
-    j: usize,
-)
-    requires { (j < length members.old) × (length members.old ≤ 9)
-        × Holds (cell_set members.old nodes.old links.old junctions.old heights.old refs.old) }
-    ensures { cell_set members.new nodes.new links.new junctions.new
-        heights.new refs.new
-        ≡ without (cell_set members.old nodes.old links.old junctions.old
-        heights.old refs.old) j }
+fn take_out(members: &mut [MemberWords], lists: &mut Lists, j: usize)
+    requires { (j < length members.old) × (length members.old ≤ 9) × Holds (set_of members.old lists.old) }
+    ensures same { Same lists.new lists.old }
+    ensures value { set_of members.new lists.new ≡ without (set_of members.old lists.old) j }
 {
     let m = members.len();
     let k = j + 1;
     let a = starts_of(members, j);
     let e = starts_of(members, k);
     let t = starts_of(members, m);
-    close(nodes, a.nodes, e.nodes, t.nodes);
-    close(links, a.links, e.links, t.links);
-    close(junctions, a.junctions, e.junctions, t.junctions);
-    close(heights, a.heights, e.heights, t.heights);
-    close(refs, a.refs, e.refs, t.refs);
+    close(lists.nodes, a.nodes, e.nodes, t.nodes);
+    close(lists.links, a.links, e.links, t.links);
+    close(lists.junctions, a.junctions, e.junctions, t.junctions);
+    close(lists.heights, a.heights, e.heights, t.heights);
+    close(lists.refs, a.refs, e.refs, t.refs);
     close(members, j, k, m);
 }
 
@@ -65,6 +57,13 @@ pub fn leave(
         return Err(Refusal::NoSuchPlace);
     };
     check_set(members, lengths(nodes, links, junctions, heights, refs))?;
-    take_out(members, nodes, links, junctions, heights, refs, j);
+    let mut lists = Lists {
+        nodes,
+        links,
+        junctions,
+        heights,
+        refs,
+    };
+    take_out(members, &mut lists, j);
     Ok(m - 1)
 }

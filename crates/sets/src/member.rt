@@ -5,8 +5,9 @@ ghost use Rattle.sets.specs.SetStored.{entry_with};
 ghost use Rattle.sets.specs.MemberParts.{entry_ask, opened, held_by};
 
 use crate::entry::{MemberWords, entry_words, word_at, ynd_of};
-use crate::parts::{PerList, starts_of};
+use crate::parts::starts_of;
 use crate::room::check_set;
+use cells::count::Counts;
 use cells::ynd::Ynd;
 use numbers::refusal::Refusal;
 
@@ -14,13 +15,13 @@ use numbers::refusal::Refusal;
 #[derive(Clone, Copy)]
 pub(crate) struct MemberPart {
     pub ynd: Ynd,
-    pub a: PerList,
-    pub e: PerList,
+    pub a: Counts,
+    pub e: Counts,
 }
 
 // What is asked for the member j of a set whose lists have these lengths.
 #[tactic(auto, using(numbers::proofs::Refusing::tested), unfolding(crate::specs::MemberParts::entry_ask))]
-fn check_member(members: &[MemberWords], lens: PerList, j: usize) -> Result<(), Refusal>
+fn check_member(members: &[MemberWords], lens: Counts, j: usize) -> Result<(), Refusal>
     ensures { result ≡ decided (entry_ask members.now lens j) }
 {
     if members.len() <= j {
@@ -31,7 +32,7 @@ fn check_member(members: &[MemberWords], lens: PerList, j: usize) -> Result<(), 
 
 pub(crate) fn open_member(
     members: &[MemberWords],
-    lens: PerList,
+    lens: Counts,
     j: usize,
 ) -> Result<MemberPart, Refusal>
     ensures value { result ≡ opened members.now lens j }
@@ -49,12 +50,12 @@ pub(crate) fn open_member(
 }
 
 // How many entries the parts in each list have together. With it a list that a call isn't lent counts as long enough.
-pub(crate) fn held(members: &[MemberWords]) -> PerList
+pub(crate) fn held(members: &[MemberWords]) -> Counts
     ensures { result ≡ held_by members.now }
 {
     let m = members.len();
     if 9 < m {
-        return PerList {
+        return Counts {
             nodes: 0,
             links: 0,
             junctions: 0,
@@ -69,7 +70,7 @@ pub(crate) fn held(members: &[MemberWords]) -> PerList
 fn entry_with(ynd: Ynd, w: MemberWords) -> MemberWords
     ensures { result ≡ entry_with ynd w }
 {
-    let sizes = PerList {
+    let sizes = Counts {
         nodes: word_at(w, 15),
         links: word_at(w, 16),
         junctions: word_at(w, 17),

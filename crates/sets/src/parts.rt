@@ -1,58 +1,23 @@
 // Where a member's parts of the five lists start.
 ghost use Rattle.std.specs.Prelude.{◌≡◌, ◌≤◌, ◌<◌, length, take, drop};
 ghost use Rattle.sets.specs.CellSet.{words_at, total};
-ghost use Rattle.sets.specs.Join.{per_list};
 ghost use Rattle.sets.specs.Leave.{start_of};
 ghost use Rattle.sets.specs.SetParts.{starts_of, count_of, of_list, Holding};
 
 use crate::entry::{MemberWords, word_at};
-use cells::junction::JunctionWords;
-use cells::link::LinkWords;
-use cells::node::NodeWords;
+use cells::count::Counts;
 
-// A number for each of the five lists.
-#[derive(Clone, Copy)]
-pub struct PerList {
-    pub nodes: usize,
-    pub links: usize,
-    pub junctions: usize,
-    pub heights: usize,
-    pub refs: usize,
-}
-
-impl PerList {
-    // The number for the list i, in their order.
-    pub(crate) fn at(self, i: usize) -> usize
-        requires { i < 5 }
-        ensures { result ≡ of_list i self }
-    {
-        match i {
-            0 => self.nodes,
-            1 => self.links,
-            2 => self.junctions,
-            3 => self.heights,
-            _ => self.refs,
-        }
-    }
-}
-
-// How many entries the five lists have.
-pub(crate) fn lengths(
-    nodes: &[NodeWords],
-    links: &[LinkWords],
-    junctions: &[JunctionWords],
-    heights: &[u8],
-    refs: &[LinkWords],
-) -> PerList
-    ensures { result ≡ per_list (length nodes.now) (length links.now)
-        (length junctions.now) (length heights.now) (length refs.now) }
+// The number for the list i of the five, in their order.
+pub(crate) fn of_list(k: Counts, i: usize) -> usize
+    requires { i < 5 }
+    ensures { result ≡ of_list i k }
 {
-    PerList {
-        nodes: nodes.len(),
-        links: links.len(),
-        junctions: junctions.len(),
-        heights: heights.len(),
-        refs: refs.len(),
+    match i {
+        0 => k.nodes,
+        1 => k.links,
+        2 => k.junctions,
+        3 => k.heights,
+        _ => k.refs,
     }
 }
 
@@ -93,7 +58,7 @@ pub(crate) fn own_entries<'a, T>(
 }
 
 // Where the parts of the member i start, or end if it is one behind the last.
-pub(crate) fn starts_of(members: &[MemberWords], i: usize) -> PerList
+pub(crate) fn starts_of(members: &[MemberWords], i: usize) -> Counts
     requires { (i ≤ length members.now) × (length members.now ≤ 9) }
     ensures { result ≡ starts_of members.now i }
 {
@@ -102,7 +67,7 @@ pub(crate) fn starts_of(members: &[MemberWords], i: usize) -> PerList
     let junctions = count_before(members, 17, i);
     let heights = count_before(members, 18, i);
     let refs = count_before(members, 19, i);
-    PerList {
+    Counts {
         nodes,
         links,
         junctions,

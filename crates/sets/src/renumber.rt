@@ -6,12 +6,13 @@ ghost use Rattle.cells.specs.Renumber.{renumbered_by, renumber, scratch_left};
 ghost use Rattle.sets.specs.CellSet.{cell_set, ynd_of};
 ghost use Rattle.sets.specs.SetParts.{Holds, starts_of};
 ghost use Rattle.sets.specs.SetStored.{member_in};
+ghost use Rattle.sets.specs.NumberedParts.{SameNumbered, numbered_set};
 ghost use Rattle.sets.specs.RenumberMember.{member_renumbered, renumbered_at, renumber_member};
 
 use crate::correct::correct_others;
 use crate::entry::MemberWords;
-use crate::member::{open_member, store_ynd};
-use crate::parts::{PerList, lengths};
+use crate::member::{MemberPart, open_member, store_ynd};
+use cells::count::{Counts, lengths};
 use cells::junction::JunctionWords;
 use cells::link::LinkWords;
 use cells::new_numbers::new_numbers;
@@ -35,71 +36,85 @@ fn numbers_at(
     new_numbers(&nodes[start..], n, scratch, places)
 }
 
-// The member's own entries, which start at these places.
-fn renumber_part(
-    ynd: Ynd,
-    at: PerList,
-    nodes: &mut [NodeWords],
-    links: &mut [LinkWords],
-    junctions: &[JunctionWords],
-    heights: &[u8],
-    refs: &mut [LinkWords],
-    scratch: &mut [u32],
-    places: &mut [u32],
-) -> Result<Ynd, Refusal>
-    requires { (at.nodes ≤ length nodes.old) × (at.links ≤ length links.old) × (at.refs ≤ length refs.old) }
-    ensures called { renumbered_by ynd result (drop at.nodes nodes.new) (drop at.links links.new) junctions.now
-        heights.now (drop at.refs refs.new) places.new
-        ≡ renumber (memory ynd (drop at.nodes nodes.old) (drop at.links links.old) junctions.now heights.now
-        (drop at.refs refs.old)) (length scratch.old) places.old }
-    ensures before { (take at.nodes nodes.new ≡ take at.nodes nodes.old)
-        × (take at.links links.new ≡ take at.links links.old) × (take at.refs refs.new ≡ take at.refs refs.old) }
-    ensures scratch_left { scratch_left result scratch.old scratch.new }
-{
-    let na = at.nodes;
-    let la = at.links;
-    let ra = at.refs;
-    recalculate_node_indices(
-        ynd,
-        &mut nodes[na..],
-        &mut links[la..],
-        junctions,
-        heights,
-        &mut refs[ra..],
-        scratch,
-        places,
-    )
+// The five lists, those of them to be written that renumbering changes.
+#[derive(Drop)]
+struct Numbered<'a> {
+    nodes: &'a mut [NodeWords],
+    links: &'a mut [LinkWords],
+    junctions: &'a [JunctionWords],
+    heights: &'a [u8],
+    refs: &'a mut [LinkWords],
 }
 
-// The member j, in lists that hold the set.
+impl<'a> Numbered<'a> {
+    // The own entries of a member, which start at these places.
+    fn renumber_part(
+        &mut self,
+        ynd: Ynd,
+        at: Counts,
+        scratch: &mut [u32],
+        places: &mut [u32],
+    ) -> Result<Ynd, Refusal>
+        requires { (at.nodes ≤ length self.old.nodes.now) × (at.links ≤ length self.old.links.now)
+            × (at.refs ≤ length self.old.refs.now) }
+        ensures same { SameNumbered self.new self.old }
+        ensures called { renumbered_by ynd result (drop at.nodes self.new.nodes.now) (drop at.links self.new.links.now)
+            self.old.junctions.now self.old.heights.now (drop at.refs self.new.refs.now) places.new
+            ≡ renumber (memory ynd (drop at.nodes self.old.nodes.now) (drop at.links self.old.links.now)
+            self.old.junctions.now self.old.heights.now (drop at.refs self.old.refs.now)) (length scratch.old) places.old }
+        ensures before { (take at.nodes self.new.nodes.now ≡ take at.nodes self.old.nodes.now)
+            × (take at.links self.new.links.now ≡ take at.links self.old.links.now)
+            × (take at.refs self.new.refs.now ≡ take at.refs self.old.refs.now) }
+        ensures scratch_left { scratch_left result scratch.old scratch.new }
+    {
+        recalculate_node_indices(
+            ynd,
+            &mut self.nodes[at.nodes..],
+            &mut self.links[at.links..],
+            self.junctions,
+            self.heights,
+            &mut self.refs[at.refs..],
+            scratch,
+            places,
+        )
+    }
+}
+
+// The member j, whose part is p, in lists that hold the set. At `exit` the lists stand in their order.
 fn renumber_held(
-    ynd: Ynd,
-    at: PerList,
+    p: MemberPart,
     members: &mut [MemberWords],
-    nodes: &mut [NodeWords],
-    links: &mut [LinkWords],
-    junctions: &[JunctionWords],
-    heights: &[u8],
-    refs: &mut [LinkWords],
+    lists: Numbered,
     scratch: &mut [u32],
     places: &mut [u32],
     j: usize,
 ) -> Result<(), Refusal>
-    requires { (j < length members.old) × (length members.old ≤ 9) × (over_limit ynd ≡ false)
-        × (ynd ≡ ynd_of (get_or members.old j [])) × (at ≡ starts_of members.old j)
-        × Holds (cell_set members.old nodes.old links.old junctions.now heights.now refs.old) }
-    ensures called { member_renumbered result
-        (cell_set members.new nodes.new links.new junctions.now heights.now refs.new) places.new
-        ≡ renumbered_at (cell_set members.old nodes.old links.old junctions.now heights.now refs.old) j
-        (renumber (member_in (cell_set members.old nodes.old links.old junctions.now heights.now refs.old) j)
-        (length scratch.old) places.old) }
+    requires { (j < length members.old) × (length members.old ≤ 9) × (over_limit p.ynd ≡ false)
+        × (p.ynd ≡ ynd_of (get_or members.old j [])) × (p.a ≡ starts_of members.old j)
+        × Holds (numbered_set members.old lists) }
+    ensures called { member_renumbered result (cell_set members.new lists.exit.0.now lists.exit.1.0.now
+        lists.entry.junctions.now lists.entry.heights.now lists.exit.1.1.1.1.0.now) places.new
+        ≡ renumbered_at (numbered_set members.old lists.entry) j
+        (renumber (member_in (numbered_set members.old lists.entry) j) (length scratch.old) places.old) }
     ensures scratch_left { scratch_left result scratch.old scratch.new }
 {
-    numbers_at(nodes, at.nodes, ynd.node_count as usize, scratch, places)?;
+    let Numbered {
+        nodes,
+        links,
+        junctions,
+        heights,
+        refs,
+    } = lists;
+    numbers_at(nodes, p.a.nodes, p.ynd.node_count as usize, scratch, places)?;
     correct_others(members, nodes, links, scratch, j);
-    let next = renumber_part(
-        ynd, at, nodes, links, junctions, heights, refs, scratch, places,
-    )?;
+    let mut corrected = Numbered {
+        nodes,
+        links,
+        junctions,
+        heights,
+        refs,
+    };
+    let next = corrected.renumber_part(p.ynd, p.a, scratch, places)?;
     store_ynd(members, j, next);
     Ok(())
 }
@@ -126,7 +141,12 @@ pub fn renumber_member(
 {
     let lens = lengths(nodes, links, junctions, heights, refs);
     let p = open_member(members, lens, member)?;
-    renumber_held(
-        p.ynd, p.a, members, nodes, links, junctions, heights, refs, scratch, places, member,
-    )
+    let lists = Numbered {
+        nodes,
+        links,
+        junctions,
+        heights,
+        refs,
+    };
+    renumber_held(p, members, lists, scratch, places, member)
 }

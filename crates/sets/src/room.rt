@@ -7,7 +7,8 @@ ghost use Rattle.sets.specs.CellSet.{room_for, holds_list, lack_of};
 ghost use Rattle.sets.specs.SetParts.{bare, list_causes};
 
 use crate::entry::{MemberWords, word_at, ynd_of};
-use crate::parts::{PerList, count_all};
+use crate::parts::count_all;
+use cells::count::Counts;
 use cells::room::over_limit;
 use numbers::refusal::{Lent, Refusal};
 
@@ -32,7 +33,7 @@ pub(crate) fn holds_list(members: &[MemberWords], k: usize, size: usize, len: us
 
 // 7: whether the lists, of these lengths, hold the members.
 #[tactic(auto, using(numbers::proofs::Refusing::tested), unfolding(crate::specs::CellSet::lack_of))]
-fn check_lists(members: &[MemberWords], lens: PerList) -> Result<(), Refusal>
+fn check_lists(members: &[MemberWords], lens: Counts) -> Result<(), Refusal>
     requires { length members.now ≤ 9 }
     ensures { result ≡ decided (lack_of members.now lens.nodes lens.links lens.junctions lens.heights lens.refs) }
 {
@@ -76,7 +77,7 @@ pub(crate) fn over_set(members: &[MemberWords]) -> bool
 
 // 14 for a set over a limit, 7 for lists of these lengths that don't hold it.
 #[tactic(auto, using(numbers::proofs::Refusing::tested), unfolding(crate::specs::SetParts::list_causes))]
-pub(crate) fn check_set(members: &[MemberWords], lens: PerList) -> Result<(), Refusal>
+pub(crate) fn check_set(members: &[MemberWords], lens: Counts) -> Result<(), Refusal>
     ensures { result ≡ decided (list_causes members.now lens.nodes lens.links lens.junctions lens.heights lens.refs) }
 {
     if over_set(members) {

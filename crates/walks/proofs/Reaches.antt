@@ -167,3 +167,6 @@ places_few ns (b ∷ bs) p = go (next ns p b) (places_few ns bs)
 pub room_sure : (m : Memory) (bs : List ℕ) (s room : ℕ) → length bs < room → true ≡ leb (length (route_in m bs s).places) room
 unfolding route_in
 room_sure m bs s room h = sym (le-leb (length (route (nodes_of m) bs s).places) room (omega (arith, places_few (nodes_of m) bs s)))
+
+-- for the functions that follow
+pub ruleset reached_laws = (reached_start, advance, halt_counted, finish_counted)

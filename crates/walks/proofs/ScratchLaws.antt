@@ -131,3 +131,9 @@ module _ (n : ℕ) (nodes : List (List ℕ)) (s : List ℕ) (r : Ready n nodes s
       cells.unnamed (numbers_in n nodes) s r.leads k t is-t
           (λ lt e. let below : t < n = omega (arith, long) in nowhere below (sym (number_in n nodes t below) ∙ e)),
     )
+
+-- for the function that makes the index
+pub ruleset index_laws = (index_starts, index_turn, indexed_start, indexed_turn)
+
+-- for the function that looks a number up
+pub ruleset number_laws = (number_there, number_not)

@@ -277,3 +277,13 @@ module _ (m : Memory) where
             go None o h = h
             go (Some w) (Some r) h = ap Some h
             go (Some w) None h = absurd h
+
+-- ---- the laws of each call, for its function
+
+pub ruleset node_cases = (node_no_place, node_over, node_nodes_short, node_links_short, node_junctions_short, node_refs_short)
+
+pub ruleset junction_cases = (junction_no_place, junction_over, junction_list_short)
+
+pub ruleset values_cases = (values_no_place, values_over, junctions_short, heights_short, values_short, values_copied)
+
+pub ruleset link_cases = (link_no_place, link_over, link_nodes_short, link_links_short, link_answered, link_said)

@@ -91,3 +91,6 @@ module _ (m : Memory) (scratch : List ℕ) where
       none : (b : Bool) → verdict b ≡ (Ok false) → b ≡ false
       none true e = let z : ◌≡◌ {A = ℕ} 0 1 = cc in absurd (omega arith)
       none false e = refl
+
+-- for the function
+pub ruleset sound_cases = (limit_passed, nodes_short, links_short, refs_short, scratch_short, judged_call)

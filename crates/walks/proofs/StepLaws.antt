@@ -157,3 +157,6 @@ module _ (m : Memory) where
           go : (o : Option ℕ) → step_to (Ok (place_of o)) ≡ step_of (arrive o)
           go (some q) = refl
           go none = refl
+
+-- for the function that follows a choice
+pub ruleset next_laws = (next_none, next_left, next_own)

@@ -49,3 +49,6 @@ module _ (m : Memory) (bs : List ℕ) (s : ℕ) (visited : List ℕ) where
                 → walk_left (Ok (traced (route_in (lent m.ynd m.nodes m.links) bs s)))
                 (over (route_in (lent m.ynd m.nodes m.links) bs s).places visited) ≡ walk_call m bs s visited
             whole h = rw (lt-leb _ _ inside, within, le-ltb _ _ nodes, le-ltb _ _ links, le-ltb _ _ h)
+
+-- for the function
+pub ruleset walk_laws = (no_place, limit_passed, nodes_short, links_short, visited_short, ends)

@@ -6,13 +6,13 @@ ghost use Rattle.walks.specs.Shown.{shown_node, seen_junction, shown_junction, v
 ghost use Rattle.walks.specs.Shown.{seen_link, shown_link};
 ghost use Rattle.walks.specs.ShownParts.{seen_of};
 
-use crate::part::{chosen, part};
+use crate::part::chosen;
 use cells::junction::JunctionWords;
-use cells::link::{LinkWords, link_of};
+use cells::link::{LinkWords, PathLink};
 use cells::lookup::junction_of;
-use cells::node::{NodeWords, node_of};
+use cells::node::{NodeWords, PathNode};
 use cells::node_words::{area_of, number_of};
-use cells::range::{cut, link_count, link_start, value_count, value_start};
+use cells::range::{cut, link_count, link_start, part, value_count, value_start};
 use cells::room::over_limit;
 use cells::ynd::Ynd;
 use numbers::refusal::{Lent, Refusal};
@@ -68,7 +68,7 @@ pub struct SeenLink {
 fn seen_of(w: NodeWords, count: usize, junction: Option<usize>) -> SeenNode
     ensures { result ≡ seen_of w count junction }
 {
-    let n = node_of(w);
+    let n = PathNode::from(w);
     let position = PositionBits {
         x: w[2],
         y: w[3],
@@ -95,6 +95,7 @@ fn seen_of(w: NodeWords, count: usize, junction: Option<usize>) -> SeenNode
 }
 
 // What the node at a place shows, whatever the heights.
+#[tactic(auto, using(crate::proofs::ShownLaws::node_cases))]
 pub fn shown_node(
     ynd: Ynd,
     nodes: &[NodeWords],
@@ -146,6 +147,7 @@ fn seen_junction(w: JunctionWords) -> SeenJunction
 }
 
 // The junction at a place, whatever the other lists. Its values are those of `shown_values`.
+#[tactic(auto, using(crate::proofs::ShownLaws::junction_cases))]
 pub fn shown_junction(
     ynd: Ynd,
     junctions: &[JunctionWords],
@@ -181,6 +183,7 @@ fn values_at<'a>(ynd: Ynd, junctions: &[JunctionWords], heights: &'a [u8], place
 
 // The heightmap values of the junction at a place, copied to the front of `values`, whatever the lists that are not
 // lent.
+#[tactic(auto, using(crate::proofs::ShownLaws::values_cases))]
 pub fn shown_values(
     ynd: Ynd,
     junctions: &[JunctionWords],
@@ -212,10 +215,11 @@ pub fn shown_values(
     Ok(v.len())
 }
 
+#[tactic(auto, unfolding(cells::specs::Words::to_link))]
 fn seen_link(w: LinkWords) -> SeenLink
     ensures { result ≡ seen_link (link_of w).body }
 {
-    let l = link_of(w);
+    let l = PathLink::from(w);
     SeenLink {
         flags0: l.flags0,
         flags1: l.flags1,
@@ -225,6 +229,7 @@ fn seen_link(w: LinkWords) -> SeenLink
 }
 
 // The link that a byte chooses at a place, whatever the lists that are not lent.
+#[tactic(auto, using(crate::proofs::ShownLaws::link_cases))]
 pub fn shown_link(
     ynd: Ynd,
     nodes: &[NodeWords],

@@ -9,17 +9,17 @@ ghost use Rattle.walks.specs.Sound.{differing};
 ghost use Rattle.walks.specs.SoundCall.{verdict, indexed, sound_left, sound_call};
 ghost use Rattle.walks.specs.SoundParts.{all_numbers, Ready, word_named, word_sound, words_sound, none_or};
 
-use crate::part::part;
 use cells::area::{belongs_to, own_area};
 use cells::link::LinkWords;
 use cells::node::NodeWords;
 use cells::node_words::{area_of, number_of};
-use cells::range::{link_count, link_start};
+use cells::range::{link_count, link_start, part};
 use cells::room::over_limit;
 use cells::ynd::Ynd;
 use numbers::refusal::{Lent, Refusal};
 
 // The place of the last node that has it, for each number that a node has. Entries of other numbers stay as they were.
+#[tactic(auto, using(crate::proofs::ScratchLaws::index_laws))]
 fn index_numbers(nodes: &[NodeWords], scratch: &mut [u32])
     requires { (length nodes.now ≤ 4294967295) × (65536 ≤ length scratch.old) }
     ensures { (scratch.new ≡ indexed (all_numbers nodes.now) 0 scratch.old)
@@ -59,6 +59,7 @@ impl Named<'_> {
     }
 
     // Whether a node has the number. An entry of the scratch counts only if the node that it leads to has the number.
+    #[tactic(auto, using(cells::proofs::Sequences::Tests::by_test, crate::proofs::ScratchLaws::number_laws))]
     fn has(&self, k: u16) -> bool
         ensures { result ≡ is_some (first_with (all_numbers self.now.nodes.now) k) }
     {
@@ -122,6 +123,7 @@ fn judge(nodes: &[NodeWords], links: &[LinkWords], refs: &[LinkWords], scratch: 
 
 // Whether the cell is sound, whatever its junctions and heightmaps. The scratch then holds each number's last place;
 // a refusal changes nothing.
+#[tactic(auto, using(crate::proofs::SoundCases::sound_cases))]
 pub fn sound(
     ynd: Ynd,
     nodes: &[NodeWords],

@@ -51,6 +51,7 @@ struct Yard<'a> {
 
 impl Yard<'_> {
     // Where a choice leads from the node at a place, or how it ends the walk.
+    #[tactic(auto, using(crate::proofs::StepLaws::next_laws))]
     fn follow(&self, place: usize, choice: u8) -> Result<usize, End>
         requires { place < self.now.ynd.node_count }
         ensures { result ≡ step_in (lent self.now.ynd self.now.nodes.now self.now.links.now) place choice }
@@ -68,6 +69,7 @@ impl Yard<'_> {
 
     // How many places a walk visits. Nothing is stored. The loop isn't shared with `store` by a closure: what that
     // may be asked at each place would be longer than the loop.
+    #[tactic(auto, using(crate::proofs::Reaches::reached_laws))]
     fn places_visited(&self, start: usize, choices: &[u8]) -> usize
         requires { start < self.now.ynd.node_count }
         ensures { result
@@ -85,6 +87,7 @@ impl Yard<'_> {
 
     // Whether the places that a walk visits go into a list of `room` entries. They are counted only where there are
     // as many choices.
+    #[tactic(auto, using(crate::proofs::Reaches::room_sure))]
     fn has_room(&self, start: usize, choices: &[u8], room: usize) -> bool
         requires { start < self.now.ynd.node_count }
         ensures { result
@@ -123,6 +126,7 @@ impl Yard<'_> {
 
 // A walk from a place, by a byte a choice, whatever the lists that are not lent. `visited` gets the places; a refusal
 // changes nothing.
+#[tactic(auto, using(crate::proofs::WalkCases::walk_laws))]
 pub fn walk(
     ynd: Ynd,
     nodes: &[NodeWords],

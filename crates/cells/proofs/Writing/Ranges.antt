@@ -1,11 +1,11 @@
 -- A node's links and a junction's values: ranges that are cut where they leave the list.
-use Prim.Native.Nat.{ℕ, zero, suc, ◌-◌, ◌*◌, ◌%◌, ◌≤◌, min}
+use Prim.Native.Nat.{ℕ, ◌-◌, ◌*◌, ◌%◌, ◌≤◌, min}
 use native.Mathlib.Omega.{arith}
-use native.Mathlib.Nat.{zero-min, min-zero, suc-min-suc, mul-le-mul}
+use native.Mathlib.Nat.{mul-le-mul}
 use mathlib.Core.Path.{◌≡◌, ap, ◌∙◌, fun_ext}
-use mathlib.Core.List.{List, [], ◌∷◌}
+use mathlib.Core.List.{List}
 use lib.ListN.{length, get_or, take, drop, length-take, length-drop}
-use lib.Seq.{take_all}
+use Rattle.std.proofs.lemmas.List.{take_min}
 use Rattle.records.proofs.RecordBack.{link_length_law}
 use Rattle.cells.specs.Words.{to_link}
 use Rattle.cells.specs.NodeWords.{link_start, link_count, value_start, value_count}
@@ -15,24 +15,6 @@ use Rattle.cells.specs.Blocks.{link_record, links_records}
 use Rattle.cells.proofs.Sequences.Joined.{joined_length}
 
 module _ {A : Type 0} where
-  take_min : (c : ℕ) (l : List A) → take (min c (length l)) l ≡ take c l
-  take_min zero l = ap (λ (k : ℕ). take k l) (zero-min (length l))
-  take_min (suc c) [] = ap (λ (k : ℕ). take k []) (min-zero (suc c))
-  take_min (suc c) (x ∷ xs) = ap (λ (k : ℕ). take k (x ∷ xs)) (suc-min-suc c (length xs)) ∙ ap (λ (r : List A). x ∷ r) (take_min c xs)
-
-  drop_min : (c : ℕ) (l : List A) → drop (min c (length l)) l ≡ drop c l
-  drop_min zero l = ap (λ (k : ℕ). drop k l) (zero-min (length l))
-  drop_min (suc c) [] = ap (λ (k : ℕ). drop k []) (min-zero (suc c))
-  drop_min (suc c) (x ∷ xs) = ap (λ (k : ℕ). drop k (x ∷ xs)) (suc-min-suc c (length xs)) ∙ drop_min c xs
-
-  -- the part of a slice that is lent: n entries from t on
-  pub cut_part : (l : List A) (s c t n : ℕ) → t ≡ min s (length l) → n ≡ min c (length (take (length l - t) (drop t l)))
-      → take n (take (length l - t) (drop t l)) ≡ take c (drop s l)
-  cut_part l s c t n e f =
-      let r = take (length l - t) (drop t l) in
-      ap (λ (k : ℕ). take k r) f ∙ take_min c r
-      ∙ ap (take c) (take_all (length l - t) (drop t l) (omega (arith, length-drop t l)) ∙ ap (λ (k : ℕ). drop k l) e ∙ drop_min s l)
-
   -- the first entries, as many as there are of a count
   pub front : (l : List A) (count n : ℕ) → n ≡ min (length l) count → take n l ≡ take count l
   front l count n e =

@@ -16,13 +16,13 @@ bound nodes p l e s at held start is =
     (omega arith, omega arith)
 
 pub overflow_sub-at : goal.overflow_sub-at
-overflow_sub-at c = (bound c.args.nodes.now c.args.p c.args.l c.args.e _ _ c.requires.1 c.link_start-s.ensures c.behind_of-at.ensures).1
+overflow_sub-at c = (bound c.args.nodes.now c.args.p c.args.ynd.link_count c.args.e _ _ c.requires.1 c.link_start-s.ensures c.behind_of-at.ensures).1
 
 pub overflow_cast-at : goal.overflow_cast-at
 overflow_cast-at c =
-    let b = bound c.args.nodes.now c.args.p c.args.l c.args.e _ _ c.requires.1 c.link_start-s.ensures c.behind_of-at.ensures in
+    let b = bound c.args.nodes.now c.args.p c.args.ynd.link_count c.args.e _ _ c.requires.1 c.link_start-s.ensures c.behind_of-at.ensures in
     omega (arith, c.requires.0.few)
 
 pub insert-requires : goal.insert-requires
 insert-requires c =
-    ((bound c.args.nodes.now c.args.p c.args.l c.args.e _ _ c.requires.1 c.link_start-s.ensures c.behind_of-at.ensures).0, c.requires.0.links_fit)
+    ((bound c.args.nodes.now c.args.p c.args.ynd.link_count c.args.e _ _ c.requires.1 c.link_start-s.ensures c.behind_of-at.ensures).0, c.requires.0.links_fit)

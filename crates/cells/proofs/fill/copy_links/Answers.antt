@@ -15,5 +15,5 @@ unfolding links_from
 loop-k-preserved c =
     let a = c.args in
     let l = c.loop-k in
-    fill_turn (λ k. link_words (path_link (link_at a.l.now ((a.from + k) * 8)))) a.links.now l.links l.k c.link_words.result [] (omega arith) l.invariant
-    (c.link_words.ensures ∙ ap link_words (c.from.ensures ∙ ap path_link c.link_at.ensures))
+    fill_turn (λ k. link_words (path_link (link_at a.l.now ((a.from + k) * 8)))) a.links.now l.links l.k c.from.result [] (omega arith) l.invariant
+    (c.from.ensures ∙ ap link_words (c.from-link.ensures ∙ ap path_link c.link_at.ensures))

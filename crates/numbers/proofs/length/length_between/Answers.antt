@@ -1,11 +1,9 @@
-use Rattle.std.proofs.Common.{◌≡◌, ◌<◌, not, T, sym, ap, ◌∙◌, subst, lit≤}
+use Rattle.std.proofs.Common.{◌≡◌, ◌<◌, not, T, sym, subst, lit≤}
 use lib.Ieee.{Float, binary32, sub, lt, is_nan, to_bits, of_bits}
-use Rattle.numbers.specs.Lengths.{length_of}
 use Rattle.numbers.specs.Squares.{squared}
 use Rattle.numbers.specs.declared.math.Vec3.{Vec3}
-use Rattle.numbers.proofs.Dots.{dot_fits, dot_unsigned, dot_back, dot_pattern}
+use Rattle.numbers.proofs.Dots.{dot_back, dot_pattern}
 use Rattle.numbers.proofs.Orders.{lt_number, lt_bits}
-use Rattle.numbers.proofs.SquareLaws.{not_below}
 use Rattle.numbers.proofs.length.length_between.Goals as goal
 
 back : (a b : Vec3) → of_bits binary32 (to_bits binary32 (squared a b)) ≡ squared a b
@@ -21,14 +19,3 @@ pub length_under-requires : goal.length_under-requires
 length_under-requires c =
     let args = c.args in
     (pattern args.a args.b (lt_number (squared args.a args.b) (of_bits binary32 0x477e_0100) c.if-s.true) (subst T (sym c.if-s.true) tt), sym (back args.a args.b))
-
-pub returns-then-s : goal.returns-then-s
-returns-then-s c =
-    let args = c.args in
-    c.length_under.ensures ∙ ap length_of (back args.a args.b)
-
-pub returns : goal.returns
-returns c =
-    let a = c.args.a in
-    let b = c.args.b in
-    not_below (squared a b) (dot_fits (sub binary32 b.x a.x) (sub binary32 b.y a.y) (sub binary32 b.z a.z)) (dot_unsigned (sub binary32 b.x a.x) (sub binary32 b.y a.y) (sub binary32 b.z a.z)) c.if-s.false

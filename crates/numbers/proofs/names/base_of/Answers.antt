@@ -1,13 +1,7 @@
 use Rattle.std.proofs.Common.{◌≡◌, ℕ, ◌+◌, ◌<◌, ◌∙◌, true, false, length, get_or, sym, rules}
 use Rattle.numbers.specs.Names.{slash}
-use Rattle.numbers.proofs.NameLaws.{after_slash, base_whole, to_end}
+use Rattle.numbers.proofs.NameLaws.{after_slash, to_end}
 use Rattle.numbers.proofs.names.base_of.Goals as goal
-
-pub returns-in-None : goal.returns-in-None
-returns-in-None c =
-    let s = c.args.s.now in
-    let h : (k : ℕ) → k < length s → slash (get_or s k 0) ≡ false = λ k l. search rules in
-    base_whole s h
 
 pub returns-in-Some : goal.returns-in-Some
 returns-in-Some c =

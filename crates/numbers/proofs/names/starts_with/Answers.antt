@@ -1,14 +1,7 @@
-use Rattle.std.proofs.Common.{◌≡◌, ℕ, ◌<◌, true, false, length, get_or, rules, ◌∙◌}
-use borrow.Author.Tests.{lt-leb}
+use Rattle.std.proofs.Common.{◌≡◌, ℕ, ◌<◌, true, false, length, get_or, rules}
 use Rattle.std.specs.Char.{to_ascii_lowercase}
-use Rattle.numbers.proofs.NameLaws.{starts_short, starts_decided}
+use Rattle.numbers.proofs.NameLaws.{starts_decided}
 use Rattle.numbers.proofs.names.starts_with.Goals as goal
-
-pub returns-else-word-s : goal.returns-else-word-s
-returns-else-word-s c =
-    let s = c.args.s.now in
-    let word = c.args.word.now in
-    lt-leb (length word) (length s) c.if-word-s.false ∙ starts_short s word c.if-word-s.false
 
 pub returns-then-word-s : goal.returns-then-word-s
 returns-then-word-s c =

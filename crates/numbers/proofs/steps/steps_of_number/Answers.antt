@@ -5,7 +5,6 @@ use mir.ValLaws.{to_z-of_z}
 use Rattle.numbers.specs.Steps.{step_of}
 use Rattle.numbers.specs.Cases.{field, fraction, StepCase, InCase, case_step}
 use Rattle.numbers.specs.Cases.{too_small, within_range, beyond_range, infinite}
-use Rattle.numbers.proofs.StepLaws.{cut_in}
 use Rattle.numbers.proofs.CaseLaws.{case_gives}
 use Rattle.numbers.proofs.steps.steps_of_number.Goals as goal
 
@@ -20,9 +19,6 @@ none b n e = omega arith
 
 pub returns-then-field-k : goal.returns-then-field-k
 returns-then-field-k c = gives c.args.k c.args.b c.requires.0 too_small c.if-field-k.true
-
-pub signed-requires : goal.signed-requires
-signed-requires c = omega (arith, cut_in c.args.b c.args.k (omega arith))
 
 pub returns-then-field-k-2 : goal.returns-then-field-k-2
 returns-then-field-k-2 c =

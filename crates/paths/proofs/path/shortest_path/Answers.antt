@@ -1,15 +1,13 @@
 use mathlib.Core.Path.{sym, ap, ◌∙◌, subst}
-use mathlib.Core.List.{List}
 use lib.ListN.{length}
 use lib.Seq.{length-take-le}
 use Rattle.std.specs.Prelude.{Result, Err}
 use Rattle.std.proofs.lemmas.Result.{err_from_is_err_and}
 use Rattle.numbers.specs.declared.refusal.Refusal.{Refusal}
 use Rattle.cells.specs.Memory.{memory}
-use Rattle.cells.specs.Cell.{Node}
-use Rattle.paths.specs.PathCall.{Searched, PathLeft, refused}
+use Rattle.paths.specs.PathCall.{PathLeft, refused}
 use Rattle.paths.specs.declared.path.Shortest.{Shortest}
-use Rattle.paths.proofs.PathLaws.{accepted, lent_so, own_nodes, own_lent, answered}
+use Rattle.paths.proofs.PathLaws.{accepted, lent_so, own_lent}
 use Rattle.paths.proofs.path.shortest_path.Goals as goal
 
 pub returns-in_err-check_asked : goal.returns-in_err-check_asked
@@ -38,21 +36,3 @@ invariant_of-search c =
       whole = length-take-le a.ynd.node_count a.nodes.now ok.nodes_fit;
       inside = ok.from_in;
     }
-
-pub find_path-requires : goal.find_path-requires
-find_path-requires c =
-    let a = c.args in
-    let ok = accepted a.ynd (length a.nodes.now) (length a.links.now) a.from a.to (length a.scratch.now)
-    (sym c.check_asked.ensures ∙ c.in_ok-check_asked.was) in
-    (ok.to_in, ok.scratch_fits)
-
-pub returns : goal.returns
-returns c =
-    let a = c.args in
-    let ok = accepted a.ynd (length a.nodes.now) (length a.links.now) a.from a.to (length a.scratch.now)
-    (sym c.check_asked.ensures ∙ c.in_ok-check_asked.was) in
-    answered a.ynd a.nodes.now a.links.now a.from a.to a.scratch.now a.choices.now a.places.now _ _ _ _
-    (sym c.check_asked.ensures ∙ c.in_ok-check_asked.was)
-    (subst (λ (ns : List Node). Searched ns a.ynd.node_count a.from a.to a.choices.now a.places.now c.find_path.result
-    c.find_path.new.choices c.find_path.new.places)
-    (own_nodes a.ynd a.nodes.now a.links.now ok.nodes_fit) c.find_path.ensures)

@@ -5,14 +5,6 @@ use Rattle.paths.proofs.ScratchLaws.{put}
 use Rattle.paths.proofs.SearchLaws.{taken_by}
 use Rattle.paths.proofs.search.offer.Goals as goal
 
-pub push-requires : goal.push-requires
-push-requires c =
-    let a = c.args in
-    let p = c.requires in
-    let q : Put a.queue.now.n a.v a.k a.u a.b a.scratch.now c.put_label.new.scratch
-    = rw c.put_label.ensures (put a.queue.now.n a.scratch.now p.0 a.v a.k a.u a.b p.1 p.2 p.3) in
-    (q.kept, p.1)
-
 pub returns : goal.returns
 returns c =
     let a = c.args in

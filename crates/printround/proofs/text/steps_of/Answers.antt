@@ -8,4 +8,4 @@ use Rattle.printround.proofs.text.steps_of.Goals as goal
 
 pub returns : goal.returns
 unfolding steps_of to_node body_of
-returns c = c.quantise.ensures ∙ ap (λ (n : PathNode). quantised n.position) c.node_of-n.ensures
+returns c = c.quantise.ensures ∙ ap (λ (n : PathNode). quantised n.position) c.from-n.ensures

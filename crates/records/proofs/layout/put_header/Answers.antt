@@ -1,29 +1,15 @@
 -- The root's words, one behind the other; then the page block.
-use Rattle.std.proofs.Common.{◌≡◌, ℕ, ◌+◌, ◌*◌, List, ◌++◌, length, get_or, replicate, sym, refl, ap, ◌∙◌, arith}
+use Rattle.std.proofs.Common.{◌≡◌, ℕ, ◌+◌, ◌*◌, List, ◌++◌, length, replicate, sym, refl, ap, ◌∙◌, arith}
 use lib.ListN.{set, length-append}
 use Rattle.std.proofs.lemmas.List.{set-append_right}
 use Rattle.records.specs.Root.{root_bytes}
 use Rattle.records.specs.Bytes.{bytes32}
 use Rattle.records.specs.Put.{put, joined}
 use Rattle.records.specs.Layout.{pages, header_bytes}
-use Rattle.records.proofs.LittleEndian.{bytes_length}
-use Rattle.records.proofs.Puts.{put_fits, put_out, put_part, part_long, set_inside, then, joined_turn, joined_ended}
+use Rattle.records.proofs.Puts.{put_fits, put_part, part_long, set_inside, then, joined_ended}
 use Rattle.records.proofs.RootWords.{words_joined}
 use Rattle.records.proofs.Laid.{root_length, header_length}
 use Rattle.records.proofs.layout.put_header.Goals as goal
-
-pub returns-then-section-lt-HEADER_SIZE-clause-section_after : goal.returns-then-section-lt-HEADER_SIZE-clause-section_after
-returns-then-section-lt-HEADER_SIZE-clause-section_after c =
-    let a = c.args in
-    sym (put_out a.section.now 0 (header_bytes a.root) (omega (arith, header_length a.root)))
-
-pub loop-i-preserved : goal.loop-i-preserved
-loop-i-preserved c =
-    let l = c.loop-i in
-    let words = c.root_words-words.result in
-    let long = bytes_length 4 (get_or words l.i 0) in
-    joined_turn bytes32 c.args.section.now l.section _ (joined bytes32 words) 0 (4 * l.i) (4 * (l.i + 1)) words l.i 0
-    (omega arith) l.invariant c.write.ensures (omega (arith, long)) (omega arith)
 
 -- zeros, but for 128 at their place 8
 page_block : set (replicate 1040 0) 8 128 ≡ pages

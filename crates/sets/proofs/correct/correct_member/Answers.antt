@@ -12,11 +12,11 @@ returns-then-belongs_to c o t =
     let ws = a.members.now in
     let l = a.links.now in
     let x = change_in ws a.nodes.now a.j o in
-    let claims : belongs (get_or (areas_of ws a.nodes.now) a.i 0) a.area ≡ true =
-    ap (λ (k : ℕ). belongs k a.area) (sym c.area_of_member.ensures) ∙ sym c.belongs_to.ensures ∙ c.if-belongs_to.true in
+    let claims : belongs (get_or (areas_of ws a.nodes.now) a.i 0) a.renamed.area ≡ true =
+    ap (λ (k : ℕ). belongs k a.renamed.area) (sym c.area_of_member.ensures) ∙ sym c.belongs_to.ensures ∙ c.if-belongs_to.true in
     part_stays x ws l a.i
-    (part_claimed x a.i (count_of 11 ws a.i) (take (count_of 16 ws a.i) (drop (start_of 16 ws a.i) l)) a.area
-    c.requires.6 c.requires.7 (ne_eqb a.i a.j c.if-i-j.false) claims)
+    (part_claimed x a.i (count_of 11 ws a.i) (take (count_of 16 ws a.i) (drop (start_of 16 ws a.i) l)) a.renamed.area
+    c.requires.4 c.requires.5 (ne_eqb a.i a.j c.if-i-j.false) claims)
 
 -- the member's links lie in the list
 inside : (c : goal.After-word_at-count) → c.count_before-start.result + c.word_at-count.result ≤ length c.args.links.now
@@ -44,9 +44,9 @@ returns c o t =
     let ws = a.members.now in
     let s = c.count_before-start in
     let n = c.word_at-count in
-    let free : belongs (get_or (areas_of ws a.nodes.now) a.i 0) a.area ≡ false =
-    ap (λ (k : ℕ). belongs k a.area) (sym c.area_of_member.ensures) ∙ sym c.belongs_to.ensures
+    let free : belongs (get_or (areas_of ws a.nodes.now) a.i 0) a.renamed.area ≡ false =
+    ap (λ (k : ℕ). belongs k a.renamed.area) (sym c.area_of_member.ensures) ∙ sym c.belongs_to.ensures
     ∙ c.if-belongs_to.false in
     member_corrected ws a.links.now a.i c.requires.3 c.requires.0 s.result n.result s.ensures n.ensures.0
-    (change_in ws a.nodes.now a.j o) a.area c.requires.6 c.requires.7
+    (change_in ws a.nodes.now a.j o) a.renamed.area c.requires.4 c.requires.5
     (ne_eqb a.i a.j c.if-i-j.false) free c.relabel_all.new.links (c.relabel_all.ensures o t)

@@ -1,6 +1,8 @@
+use Rattle.std.proofs.Common.{rules}
 use mathlib.Core.Path.{sym, ◌∙◌}
 use Rattle.cells.specs.Memory.{memory}
 use Rattle.sets.specs.CellSet.{cell_set}
+use Rattle.sets.specs.ListParts.{memory_of}
 use Rattle.std.proofs.lemmas.Result.{err_from_is_err_and}
 use Rattle.sets.proofs.LeaveLaws.{there}
 use Rattle.sets.proofs.MemberPartLaws.{lens_held, is_open, not_open}
@@ -53,9 +55,8 @@ returns c =
     let y = cell_set x.members.now x.nodes.now x.links.now x.junctions.now x.heights.now x.refs.now in
     let m = memory x.ynd x.to_nodes.now x.to_links.now x.to_junctions.now x.to_heights.now x.to_refs.now in
     let f = sym c.in-Some.is ∙ c.member_with.ensures in
-    hand_done y x.area m c.in-Some.j f c.in_ok-p.p
+    let h = hand_done y x.area m c.in-Some.j f c.in_ok-p.p
     (is_open y c.in-Some.j _ (lens_held y c.in-Some.j _ c.lengths-lens.ensures) _ c.open_member.ensures.value _ c.in_ok-p.was)
     (sym c.check_lent.ensures ∙ c.in_ok-check_lent.was)
-    (memory c.in_ok-p.p.ynd c.give_part.new.to_nodes c.give_part.new.to_links c.give_part.new.to_junctions
-    c.give_part.new.to_heights c.give_part.new.to_refs)
-    c.give_part.ensures
+    (memory_of c.in_ok-p.p.ynd c.give_part.new.to) c.give_part.ensures.value in
+    search (rules, h)

@@ -17,7 +17,7 @@ returns-in_err-join_answer c =
     let e = err_from_is_err_and c.from_residual.result c.from_residual.ensures.1 in
     rw (e.1, e.2) (
     refused_join a.count y m a.sizes area.result area.ensures held.result held.ensures _
-    (sym c.in_err-join_answer.was ∙ asked_is a.count y m a.sizes area.result area.ensures held.result held.ensures _ _ c.lengths-lens.ensures c.lengths-have.ensures _ c.join_answer.ensures))
+    (sym c.in_err-join_answer.was ∙ asked_is a.count y m a.sizes area.result area.ensures held.result held.ensures _ _ c.lengths-lens.ensures c.lengths-haves.ensures _ c.join_answer.ensures))
 
 pub starts_of-at-requires : goal.starts_of-at-requires
 starts_of-at-requires c =
@@ -26,7 +26,7 @@ starts_of-at-requires c =
     let m = memory a.ynd a.new_nodes.now a.new_links.now a.new_junctions.now a.new_heights.now a.new_refs.now in
     let area = c.own_area-area in
     let held = c.min-held in
-    let done = sym c.in_ok-join_answer.was ∙ asked_is a.count y m a.sizes area.result area.ensures held.result held.ensures _ _ c.lengths-lens.ensures c.lengths-have.ensures _ c.join_answer.ensures in
+    let done = sym c.in_ok-join_answer.was ∙ asked_is a.count y m a.sizes area.result area.ensures held.result held.ensures _ _ c.lengths-lens.ensures c.lengths-haves.ensures _ c.join_answer.ensures in
     let f = may _ _ _ _ _ _ _ _ done in
     let e = ap length (front_is a.members.now a.count held.result held.ensures) in
     let n = least_is a.members.now a.count held.result held.ensures in
@@ -39,10 +39,10 @@ append-requires c =
     let m = memory a.ynd a.new_nodes.now a.new_links.now a.new_junctions.now a.new_heights.now a.new_refs.now in
     let area = c.own_area-area in
     let held = c.min-held in
-    let done = sym c.in_ok-join_answer.was ∙ asked_is a.count y m a.sizes area.result area.ensures held.result held.ensures _ _ c.lengths-lens.ensures c.lengths-have.ensures _ c.join_answer.ensures in
+    let done = sym c.in_ok-join_answer.was ∙ asked_is a.count y m a.sizes area.result area.ensures held.result held.ensures _ _ c.lengths-lens.ensures c.lengths-haves.ensures _ c.join_answer.ensures in
     append_fits a.count y m a.sizes area.result area.ensures held.result held.ensures done
     c.starts_of-at.result (c.starts_of-at.ensures ∙ ap (λ ws. starts_of ws held.result) (front_is a.members.now a.count held.result held.ensures))
-    c.counts_of-counts.result c.counts_of-counts.ensures
+    c.counts-counts.result c.counts-counts.ensures
 
 pub entry_words-requires : goal.entry_words-requires
 entry_words-requires c =
@@ -51,7 +51,7 @@ entry_words-requires c =
     let m = memory a.ynd a.new_nodes.now a.new_links.now a.new_junctions.now a.new_heights.now a.new_refs.now in
     let area = c.own_area-area in
     let held = c.min-held in
-    let done = sym c.in_ok-join_answer.was ∙ asked_is a.count y m a.sizes area.result area.ensures held.result held.ensures _ _ c.lengths-lens.ensures c.lengths-have.ensures _ c.join_answer.ensures in
+    let done = sym c.in_ok-join_answer.was ∙ asked_is a.count y m a.sizes area.result area.ensures held.result held.ensures _ _ c.lengths-lens.ensures c.lengths-haves.ensures _ c.join_answer.ensures in
     let f = (may _ _ _ _ _ _ _ _ done).fit in
     (f.nodes.small, f.links.small, f.junctions.small, f.heights.small, f.refs.small)
 
@@ -62,7 +62,7 @@ bounds-members-held c =
     let m = memory a.ynd a.new_nodes.now a.new_links.now a.new_junctions.now a.new_heights.now a.new_refs.now in
     let area = c.own_area-area in
     let held = c.min-held in
-    let done = sym c.in_ok-join_answer.was ∙ asked_is a.count y m a.sizes area.result area.ensures held.result held.ensures _ _ c.lengths-lens.ensures c.lengths-have.ensures _ c.join_answer.ensures in
+    let done = sym c.in_ok-join_answer.was ∙ asked_is a.count y m a.sizes area.result area.ensures held.result held.ensures _ _ c.lengths-lens.ensures c.lengths-haves.ensures _ c.join_answer.ensures in
     let f = may _ _ _ _ _ _ _ _ done in
     let h : held.result < length a.members.now = omega (arith, least_is a.members.now a.count held.result held.ensures, f.entry) in
     search rules
@@ -74,8 +74,9 @@ returns c =
     let m = memory a.ynd a.new_nodes.now a.new_links.now a.new_junctions.now a.new_heights.now a.new_refs.now in
     let area = c.own_area-area in
     let held = c.min-held in
-    let done = sym c.in_ok-join_answer.was ∙ asked_is a.count y m a.sizes area.result area.ensures held.result held.ensures _ _ c.lengths-lens.ensures c.lengths-have.ensures _ c.join_answer.ensures in
-    let f = c.append.ensures in
-    joined a.count y m a.sizes area.result area.ensures held.result held.ensures done
+    let done = sym c.in_ok-join_answer.was ∙ asked_is a.count y m a.sizes area.result area.ensures held.result held.ensures _ _ c.lengths-lens.ensures c.lengths-haves.ensures _ c.join_answer.ensures in
+    let f = c.append.ensures.value in
+    let h = joined a.count y m a.sizes area.result area.ensures held.result held.ensures done
     c.starts_of-at.result (c.starts_of-at.ensures ∙ ap (λ ws. starts_of ws held.result) (front_is a.members.now a.count held.result held.ensures))
-    c.counts_of-counts.result c.counts_of-counts.ensures c.entry_words.result _ _ _ _ _ c.entry_words.ensures.0 f.0 f.1 f.2 f.3 f.4
+    c.counts-counts.result c.counts-counts.ensures c.entry_words.result _ _ _ _ _ c.entry_words.ensures.0 f.0 f.1 f.2 f.3 f.4 in
+    search (rules, h)

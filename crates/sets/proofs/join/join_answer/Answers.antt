@@ -12,7 +12,7 @@ pub returns-then-over_with : goal.returns-then-over_with
 returns-then-over_with c = limit_passed _ _ _ _ _ _ _ _ (sym c.has_area.ensures ∙ c.if-has_area.false) (sym c.over_with.ensures ∙ c.if-over_with.true)
 
 pub check_fit-requires : goal.check_fit-requires
-check_fit-requires c = let a = c.args in let h = few_of a.members.now a.ynd (sym c.over_with.ensures ∙ c.if-over_with.false) in omega (arith, h)
+check_fit-requires c = let a = c.args in let h = few_of a.members.now a.cell.ynd (sym c.over_with.ensures ∙ c.if-over_with.false) in omega (arith, h)
 
 pub returns-in_err-check_fit : goal.returns-in_err-check_fit
 returns-in_err-check_fit c =

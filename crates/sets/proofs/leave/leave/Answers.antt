@@ -1,18 +1,18 @@
-use Rattle.std.proofs.Common.{◌≡◌, ℕ, List, ap, sym, ◌∙◌, arith}
+use Rattle.std.proofs.Common.{◌≡◌, ℕ, List, ap, sym, ◌∙◌, arith, rules}
 use Rattle.sets.specs.CellSet.{cell_set}
 use Rattle.numbers.specs.Refusals.{decided}
 use Rattle.sets.specs.SetParts.{list_causes}
-use Rattle.sets.specs.declared.parts.PerList.{PerList}
+use Rattle.cells.specs.declared.count.Counts.{Counts}
 use Rattle.std.proofs.lemmas.Result.{err_from_is_err_and}
 use Rattle.sets.proofs.RoomLaws.{accepted}
 use Rattle.sets.proofs.LeaveLaws.{nobody, there, refused_leave, gone}
 use Rattle.sets.proofs.leave.leave.Goals as goal
 
 -- the causes, by the lists' lengths
-by_lengths : (ws : List (List ℕ)) (a b : PerList) → a ≡ b
+by_lengths : (ws : List (List ℕ)) (a b : Counts) → a ≡ b
     → decided (list_causes ws a.nodes a.links a.junctions a.heights a.refs)
     ≡ decided (list_causes ws b.nodes b.links b.junctions b.heights b.refs)
-by_lengths ws a b = ap (λ (l : PerList). decided (list_causes ws l.nodes l.links l.junctions l.heights l.refs))
+by_lengths ws a b = ap (λ (l : Counts). decided (list_causes ws l.nodes l.links l.junctions l.heights l.refs))
 
 pub returns-in_default : goal.returns-in_default
 returns-in_default c =
@@ -44,6 +44,7 @@ overflow_sub-result c =
 pub returns : goal.returns
 returns c =
     let a = c.args in
-    gone (cell_set a.members.now a.nodes.now a.links.now a.junctions.now a.heights.now a.refs.now) a.area _
+    let h = gone (cell_set a.members.now a.nodes.now a.links.now a.junctions.now a.heights.now a.refs.now) a.area _
     (sym c.in-Some.is ∙ c.member_with.ensures) _
-    (sym (c.check_set.ensures ∙ by_lengths c.args.members.now _ _ c.lengths.ensures) ∙ c.in_ok-check_set.was) c.take_out.ensures
+    (sym (c.check_set.ensures ∙ by_lengths c.args.members.now _ _ c.lengths.ensures) ∙ c.in_ok-check_set.was) c.take_out.ensures.value in
+    search (rules, h)

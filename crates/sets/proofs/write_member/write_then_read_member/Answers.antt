@@ -1,3 +1,4 @@
+use Rattle.std.proofs.Common.{rules}
 use Rattle.std.proofs.lemmas.Result.{err_from_is_err_and}
 use Rattle.sets.specs.CellSet.{cell_set}
 use Rattle.sets.proofs.MemberPartLaws.{lens_held, is_open, not_open}
@@ -29,11 +30,11 @@ returns-in_err-r c =
     let k = is_open y x.member _ (lens_held y x.member _ c.lengths-lens.ensures) _ c.open_member.ensures.value _
     c.in_ok-p.was in
     let r = c.write_read_part in
-    let q = r.ensures in
+    let q = r.ensures.value in
     let e = err_from_is_err_and c.from_residual-in_err-r.result c.from_residual-in_err-r.ensures.1 in
-    rw (e.1, e.2) (
-    write_read_out y x.member x.section.now c.in_ok-p.p k r.result r.new.nodes r.new.links r.new.junctions r.new.refs
-    r.new.heights r.new.section q.0 q.1 q.2 q.3 q.4 q.5 q.6 q.7 _ c.in_err-r.was)
+    let h = write_read_out y x.member x.section.now c.in_ok-p.p k r.result r.new.lists.nodes.now r.new.lists.links.now r.new.lists.junctions.now r.new.lists.refs.now
+    r.new.lists.heights.now r.new.section q.0 q.1 q.2 q.3 q.4 q.5 q.6 q.7 _ c.in_err-r.was in
+    rw (e.1, e.2) (search (rules, h))
 
 pub returns : goal.returns
 returns c =
@@ -42,6 +43,7 @@ returns c =
     let k = is_open y x.member _ (lens_held y x.member _ c.lengths-lens.ensures) _ c.open_member.ensures.value _
     c.in_ok-p.was in
     let r = c.write_read_part in
-    let q = r.ensures in
-    write_read_done y x.member x.section.now c.in_ok-p.p k r.result r.new.nodes r.new.links r.new.junctions r.new.refs
-    r.new.heights r.new.section q.0 q.1 q.2 q.3 q.4 q.5 q.6 q.7 _ c.in_ok-r.was _ c.store_ynd.ensures
+    let q = r.ensures.value in
+    let h = write_read_done y x.member x.section.now c.in_ok-p.p k r.result r.new.lists.nodes.now r.new.lists.links.now r.new.lists.junctions.now r.new.lists.refs.now
+    r.new.lists.heights.now r.new.section q.0 q.1 q.2 q.3 q.4 q.5 q.6 q.7 _ c.in_ok-r.was _ c.store_ynd.ensures in
+    search (rules, h)

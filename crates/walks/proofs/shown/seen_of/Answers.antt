@@ -8,6 +8,6 @@ use Rattle.walks.proofs.shown.seen_of.Goals as goal
 pub returns : goal.returns
 unfolding seen_of body_of area_of to_node
 returns c =
-    let e = c.node_of-n.ensures in
+    let e = c.from-n.ensures in
     let w = c.args.w in
     λ i. seen_by (e i).area_id (record { position = bits_in w; marks = marks_of (e i) }) c.args.count c.args.junction

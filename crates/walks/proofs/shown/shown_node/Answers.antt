@@ -1,31 +1,9 @@
 use Prim.Native.Nat.{◌-◌, min}
 use mathlib.Core.Path.{sym, ◌∙◌}
 use Rattle.cells.specs.LookupCall.{junction_of_call}
-use Rattle.walks.proofs.ShownLaws.{node_no_place, node_over, node_nodes_short, node_links_short, node_junctions_short, node_refs_short, node_answered, junction_never}
+use Rattle.walks.proofs.ShownLaws.{node_answered, junction_never}
 use Rattle.cells.specs.Memory.{memory}
 use Rattle.walks.proofs.shown.shown_node.Goals as goal
-
-pub returns-then-ynd-place : goal.returns-then-ynd-place
-returns-then-ynd-place c = λ hs. node_no_place _ _ c.if-ynd-place.true
-
-pub returns-then-over_limit : goal.returns-then-over_limit
-returns-then-over_limit c = λ hs. node_over _ _ c.if-ynd-place.false (sym c.over_limit.ensures ∙ c.if-over_limit.true)
-
-pub returns-then-nodes-ynd : goal.returns-then-nodes-ynd
-returns-then-nodes-ynd c = λ hs.
-    node_nodes_short _ _ c.if-ynd-place.false (sym c.over_limit.ensures ∙ c.if-over_limit.false) c.if-nodes-ynd.true
-
-pub returns-then-links-ynd : goal.returns-then-links-ynd
-returns-then-links-ynd c = λ hs.
-    node_links_short _ _ c.if-ynd-place.false (sym c.over_limit.ensures ∙ c.if-over_limit.false) c.if-nodes-ynd.false c.if-links-ynd.true
-
-pub returns-then-junctions-ynd : goal.returns-then-junctions-ynd
-returns-then-junctions-ynd c = λ hs.
-    node_junctions_short _ _ c.if-ynd-place.false (sym c.over_limit.ensures ∙ c.if-over_limit.false) c.if-nodes-ynd.false c.if-links-ynd.false c.if-junctions-ynd.true
-
-pub returns-then-refs-ynd : goal.returns-then-refs-ynd
-returns-then-refs-ynd c = λ hs.
-    node_refs_short _ _ c.if-ynd-place.false (sym c.over_limit.ensures ∙ c.if-over_limit.false) c.if-nodes-ynd.false c.if-links-ynd.false c.if-junctions-ynd.false c.if-refs-ynd.true
 
 pub returns-in_err-junction : goal.returns-in_err-junction
 returns-in_err-junction c = λ hs.

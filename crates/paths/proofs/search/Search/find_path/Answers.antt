@@ -1,17 +1,11 @@
 use native.Mathlib.Omega.{arith}
 use Prim.Native.Nat.{◌+◌, ◌%◌}
 use mathlib.Core.Logic.{inl, inr}
-use mathlib.Core.Path.{◌≡◌, sym}
+use mathlib.Core.Path.{◌≡◌}
 use lib.ListN.{length, take}
 use lib.Seq.{length-take-le}
-use Rattle.paths.proofs.PathLaws.{found_traced, found_room, answer_unreachable, answer_short, answer_path}
+use Rattle.paths.proofs.PathLaws.{found_traced, found_room, answer_short, answer_path}
 use Rattle.paths.proofs.search.Search.find_path.Goals as goal
-
-pub returns-then-label-ge72057589742960640 : goal.returns-then-label-ge72057589742960640
-returns-then-label-ge72057589742960640 c =
-    let s = c.args.self.now in
-    answer_unreachable s.ynd s.nodes.now s.links.now s.lent s.start c.args.to _ c.run.ensures c.requires.0
-    c.args.choices.now c.args.places.now _ c.label_of-label.ensures c.if-label-ge72057589742960640.true
 
 pub returns-then-choices-n : goal.returns-then-choices-n
 returns-then-choices-n c =
@@ -26,34 +20,6 @@ returns-then-places-n c =
     answer_short s.ynd s.nodes.now s.links.now s.lent s.start c.args.to _ c.run.ensures c.requires.0
     c.args.choices.now c.args.places.now _ c.label_of-label.ensures c.if-label-ge72057589742960640.false
     (inr (omega (arith, s.whole, c.if-places-n.true)))
-
-pub slice_bounds-fill-end : goal.slice_bounds-fill-end
-slice_bounds-fill-end c =
-    let s = c.args.self.now in
-    let few = found_room s.ynd s.nodes.now s.links.now s.lent s.start c.args.to _ c.run.ensures c.requires.0 _
-    c.label_of-label.ensures c.if-label-ge72057589742960640.false in
-    omega (arith, few, s.whole)
-
-pub slice_bounds-fill-end-2 : goal.slice_bounds-fill-end-2
-slice_bounds-fill-end-2 c =
-    let s = c.args.self.now in
-    let few = found_room s.ynd s.nodes.now s.links.now s.lent s.start c.args.to _ c.run.ensures c.requires.0 _
-    c.label_of-label.ensures c.if-label-ge72057589742960640.false in
-    sym (length-take-le _ c.args.choices.now (omega (arith, few, s.whole)))
-
-pub slice_bounds-fill-end-3 : goal.slice_bounds-fill-end-3
-slice_bounds-fill-end-3 c =
-    let s = c.args.self.now in
-    let few = found_room s.ynd s.nodes.now s.links.now s.lent s.start c.args.to _ c.run.ensures c.requires.0 _
-    c.label_of-label.ensures c.if-label-ge72057589742960640.false in
-    omega (arith, few, s.whole)
-
-pub slice_bounds-fill-end-4 : goal.slice_bounds-fill-end-4
-slice_bounds-fill-end-4 c =
-    let s = c.args.self.now in
-    let few = found_room s.ynd s.nodes.now s.links.now s.lent s.start c.args.to _ c.run.ensures c.requires.0 _
-    c.label_of-label.ensures c.if-label-ge72057589742960640.false in
-    sym (length-take-le _ c.args.places.now (omega (arith, few, s.whole)))
 
 pub fill-requires : goal.fill-requires
 fill-requires c =

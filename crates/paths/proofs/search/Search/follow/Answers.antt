@@ -8,32 +8,8 @@ use Rattle.cells.specs.NodeWords.{first_area}
 use Rattle.cells.specs.Area.{belongs}
 use Rattle.cells.specs.LookupCall.{find_in}
 use Rattle.walks.specs.WalkParts.{lent}
-use Rattle.paths.proofs.EdgeLaws.{edge_past, edge_out, edge_left, edge_own}
+use Rattle.paths.proofs.EdgeLaws.{edge_own}
 use Rattle.paths.proofs.search.Search.follow.Goals as goal
-
-pub returns-then-link_count-b : goal.returns-then-link_count-b
-returns-then-link_count-b c =
-    let s = c.args.self.now in
-    edge_past (lent s.ynd s.nodes.now s.links.now) s.lent.nodes_fit c.args.p c.args.b (omega (arith, s.whole, c.requires.1))
-    (omega (arith, c.link_count.ensures, c.if-link_count-b.true))
-
-pub returns-then-self-at : goal.returns-then-self-at
-returns-then-self-at c =
-    let s = c.args.self.now in
-    edge_out (lent s.ynd s.nodes.now s.links.now) s.lent.nodes_fit s.lent.links_fit c.args.p c.args.b
-    (omega (arith, s.whole, c.requires.1)) (omega (arith, c.link_count.ensures, c.if-link_count-b.false))
-    (omega (arith, c.link_start.ensures, c.if-self-at.true))
-
-pub returns-then-not-belongs_to : goal.returns-then-not-belongs_to
-returns-then-not-belongs_to c =
-    let s = c.args.self.now in
-    let st = c.link_start.ensures in
-    let e₀ = c.area_named.ensures ∙ (λ i. get_or (get_or s.links.now (st i + c.args.b) []) 0 0) in
-    let own = c.own_area-own.ensures ∙ (λ i. first_area (take (s.whole i) s.nodes.now)) in
-    edge_left (lent s.ynd s.nodes.now s.links.now) s.lent.nodes_fit s.lent.links_fit c.args.p c.args.b
-    (omega (arith, s.whole, c.requires.1)) (omega (arith, c.link_count.ensures, c.if-link_count-b.false))
-    (omega (arith, st, c.if-self-at.false))
-    (sym (λ i. belongs (own i) (e₀ i)) ∙ sym c.belongs_to.ensures ∙ c.if-not-belongs_to.true)
 
 pub returns-in_err-to : goal.returns-in_err-to
 returns-in_err-to c =

@@ -1,6 +1,6 @@
 use mathlib.Core.Path.{◌∙◌}
 use native.Mathlib.Omega.{arith}
-use Rattle.paths.proofs.RelaxLaws.{search_begun, search_up, search_label, search_less, begun_entered, still_ready}
+use Rattle.paths.proofs.RelaxLaws.{search_begun, search_up, search_label, begun_entered, still_ready}
 use Rattle.paths.proofs.search.Search.run.Goals as goal
 
 pub loop-queue-init : goal.loop-queue-init
@@ -38,14 +38,3 @@ relax-requires c =
       q.inside,
       search_label s.ynd s.nodes.now s.links.now s.lent s.start _ _ _ _ h (omega arith) q,
     )
-
-pub loop-queue-smaller : goal.loop-queue-smaller
-loop-queue-smaller c =
-    let s = c.args.self.now in
-    let i = c.loop-queue.invariant in
-    let q = c.pop-u.ensures in
-    let r = c.relax.ensures in
-    let le = rw (r.1.places, q.0, i.1.places, q.1) at r.2 in
-    rw (r.1.places, i.1.places)
-    (search_less s.ynd s.nodes.now s.links.now s.lent s.start _ _ _ _ i.1.searching (omega arith)
-    (rw i.1.places at q.2) _ _ le)

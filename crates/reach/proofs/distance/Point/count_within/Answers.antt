@@ -1,18 +1,12 @@
-use mathlib.Core.Path.{◌≡◌, ap, sym}
+use mathlib.Core.Path.{◌≡◌, ap}
 use mathlib.Core.List.{[], ◌∷◌}
 use native.Mathlib.Omega.{arith}
 use lib.ListN.{length, length-append}
 use Rattle.reach.specs.Reach.{within}
 use Rattle.reach.specs.Parts.{far, distances_from, bounded}
-use Rattle.reach.proofs.TurnLaws.{below_limit, not_below, within_none, within_near, within_not, within_few}
+use Rattle.reach.proofs.TurnLaws.{below_limit, not_below, within_near, within_not}
 use Rattle.reach.proofs.distance.Point.count_within.Goals as goal
 use Rattle.reach.proofs.distance.Point.count_within.Goals.{then-distance_up_to-limit, else-distance_up_to-limit}
-
-pub loop-w-init : goal.loop-w-init
-loop-w-init c = sym (ap length (within_none (distances_from c.args.self.now) c.args.radius))
-
-pub overflow_add-count : goal.overflow_add-count
-overflow_add-count c = omega (arith, within_few (distances_from c.args.self.now) c.args.radius c.loop-w.w-index)
 
 pub loop-w-preserved : goal.loop-w-preserved
 unfolding far

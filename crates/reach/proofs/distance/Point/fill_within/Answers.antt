@@ -6,14 +6,9 @@ use lib.ListN.{length, drop, set, length-append}
 use Rattle.reach.specs.Reach.{within}
 use Rattle.reach.specs.Parts.{far, distances_from, bounded}
 use Rattle.reach.proofs.TurnLaws.{below_limit, not_below, filled_more}
-use Rattle.reach.proofs.TurnLaws.{within_none, within_near, within_not, within_more}
+use Rattle.reach.proofs.TurnLaws.{within_near, within_not, within_more}
 use Rattle.reach.proofs.distance.Point.fill_within.Goals as goal
 use Rattle.reach.proofs.distance.Point.fill_within.Goals.{then-distance_up_to-limit, else-distance_up_to-limit}
-
-pub loop-i-init : goal.loop-i-init
-loop-i-init c =
-    let e = sym (within_none (distances_from c.args.self.now) c.args.radius) in
-    (ap length e, ap (λ (l : List ℕ). l ++ c.args.places.now) e)
 
 -- one more node that is near finds room
 fits : (d : ℕ → ℕ) (radius i n room : ℕ) → d i ≤ radius * radius → i < n → length (within d radius n) ≤ room
@@ -74,14 +69,3 @@ loop-i-preserved c =
             w.places-is ∙ l.invariant.1 ∙ (λ k. sym same k ++ drop (sym w.count-is k) before),
           )
     ]
-
-pub returns : goal.returns
-returns c =
-    let l = c.loop-i in
-    let W : ℕ → List ℕ = λ k. within (distances_from c.args.self.now) c.args.radius k in
-    let e : l.i ≡ length c.args.self.now.nodes.now = omega arith in (
-      l.invariant.0 ∙ ap (λ (k : ℕ). length (W k)) e,
-      l.invariant.1
-          ∙ ap (λ (k : ℕ). W l.i ++ drop k c.args.places.now) l.invariant.0
-          ∙ ap (λ (k : ℕ). W k ++ drop (length (W k)) c.args.places.now) e,
-    )

@@ -1,0 +1,9 @@
+use Rattle.std.proofs.Common.{◌≡◌, ◌++◌, map, take, drop}
+use Rattle.cells.specs.Order.{Old}
+use Rattle.sets.specs.CorrectParts.{Tells, relabelled}
+use Rattle.sets.proofs.correct.Renamed.relabel_all.Given as goal
+
+abbrev pub invariant-loop-w : goal.invariant-loop-w
+invariant-loop-w l =
+    (o : Old) → Tells o l.self.table.now
+    → l.links ≡ map (relabelled o l.self.area) (take l.w-index l.initial.links) ++ drop l.w-index l.initial.links
