@@ -33,7 +33,7 @@ fn insert(links: &mut [LinkWords], at: usize, l: usize, link: LinkWords)
 }
 
 // The link put in behind the e links of its node, and the ranges moved.
-#[tactic(auto, unfolding(crate::specs::AddLink::nodes_after))]
+#[tactic(auto, using(crate::proofs::Rules::behind_laws), unfolding(crate::specs::AddLink::nodes_after))]
 fn place_link(
     ynd: Ynd,
     nodes: &mut [NodeWords],

@@ -82,6 +82,7 @@ pub(crate) fn put_heights(
     p
 }
 
+#[tactic(auto, using(crate::proofs::Writing::BlockLaws::junctions_length))]
 pub(crate) fn put_junctions(
     section: &mut [u8],
     at: usize,
@@ -103,6 +104,7 @@ pub(crate) fn put_junctions(
     p
 }
 
+#[tactic(auto, using(crate::proofs::Writing::BlockLaws::nodes_length))]
 pub(crate) fn put_nodes(
     section: &mut [u8],
     at: usize,

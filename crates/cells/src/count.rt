@@ -13,7 +13,7 @@ use crate::node::NodeWords;
 use crate::root::read_root;
 use numbers::refusal::{Lent, Refusal};
 
-#[derive(Clone, Copy, PartialEq, Eq, Debug)]
+#[derive(Clone, Copy, PartialEq, Eq, Debug, Default)]
 pub struct Counts {
     pub nodes: usize,
     pub links: usize,

@@ -97,7 +97,7 @@ fn resized(place: usize, len: usize, values: usize, held: usize) -> bool
 }
 
 // Entry k of a range that belongs to a place of a list and lies in a pool.
-#[tactic(auto, using(numbers::proofs::Refusing::tested), unfolding(crate::specs::Edit::range_entry))]
+#[tactic(auto, using(crate::proofs::Rules::range_laws), unfolding(crate::specs::Edit::range_entry))]
 fn range_entry(
     ynd: Ynd,
     held: LentList,

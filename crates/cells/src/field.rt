@@ -19,6 +19,7 @@ pub(crate) fn field_of(f: u8, low: u8, width: u8) -> u8
     (f as u16 / unit % size) as u8
 }
 
+#[tactic(auto, using(crate::proofs::Forms::FieldLaws::byte_fits), unfolding(crate::specs::Access::with_field))]
 pub(crate) fn with_field(f: u8, low: u8, width: u8, v: u8) -> u8
     requires { low + width ≤ 8 }
     ensures { result ≡ with_field low width f v }

@@ -33,6 +33,7 @@ pub(crate) fn copy_values(h: &[u8], from: usize, values: &mut [u8])
 }
 
 // Each record, and its range of the second array after those of the records before it.
+#[tactic(auto, using(crate::proofs::Reading::ReadLaws::sum_room))]
 pub(crate) fn fill_ranges<R: Ranged>(records: R, entries: &mut [R::Entry], parts: &mut [R::Part])
     requires { (length entries.old ≤ 65536) × (length parts.old ≡ sum_to (R.count records) (length entries.old)) }
     ensures { (entries.new ≡ up_to (λ i. R.entry_at records i (sum_to (R.count records) i)) (length entries.old))

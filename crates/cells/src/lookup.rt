@@ -33,6 +33,7 @@ pub fn area_id(ynd: Ynd, nodes: &[NodeWords]) -> Result<Option<u32>, Refusal>
 }
 
 // The node at the place of that number if it has it, else the first that has it.
+#[tactic(auto, using(crate::proofs::Rules::find_laws))]
 fn find_in(nodes: &[NodeWords], node_id: u16) -> Option<usize>
     ensures { result ≡ find_in (length nodes.now) nodes.now node_id }
 {

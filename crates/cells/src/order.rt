@@ -16,6 +16,7 @@ pub(crate) fn count_vehicles(nodes: &[NodeWords]) -> usize
 }
 
 // Each node's new place: `first` is the first ped node's.
+#[tactic(auto, using(crate::proofs::Renumbering::Placed::vehicles_all))]
 pub(crate) fn fill_places(nodes: &[NodeWords], places: &mut [u32], first: usize)
     requires { (length nodes.now ≤ 65536) × (length places.old ≡ length nodes.now)
         × (first ≡ length (keep is_vehicle nodes.now)) }

@@ -27,6 +27,7 @@ fn permute(nodes: &mut [NodeWords], to: &mut [u32])
 }
 
 // The nodes numbered by place.
+#[tactic(auto, using(crate::proofs::Rules::number_laws))]
 fn number_all(nodes: &mut [NodeWords])
     requires { length nodes.old ≤ 65536 }
     ensures { nodes.new ≡ number_from 0 nodes.old }
@@ -37,6 +38,7 @@ fn number_all(nodes: &mut [NodeWords])
 }
 
 // The nodes in their new order, numbered by place. A copy of the places is used up.
+#[tactic(auto, using(crate::proofs::Rules::move_laws))]
 pub(crate) fn move_nodes(nodes: &mut [NodeWords], scratch: &mut [u32], places: &[u32])
     requires { (length nodes.old ≤ 65536) × (length scratch.old ≡ length nodes.old)
         × (places.now ≡ new_places (map is_ped nodes.old)) }

@@ -1,7 +1,7 @@
 // Reading a cell from two sections into lent memory.
 ghost use Rattle.std.specs.Prelude.{◌≡◌, ◌≤◌, ◌<◌, length};
 ghost use Rattle.cells.specs.Memory.{memory, left};
-ghost use Rattle.cells.specs.Read.{room_check, cell_read, read_arrays, read_of};
+ghost use Rattle.cells.specs.Read.{cell_read, read_arrays, read_of};
 
 use crate::arrays::{FileBytes, find_arrays};
 use crate::checks::{check_arrays, check_sizes};
@@ -15,27 +15,6 @@ use crate::root::read_root;
 use crate::ynd::Ynd;
 use numbers::refusal::Refusal;
 use records::root::Root;
-
-// 7: the memory lent holds what is read.
-pub(crate) fn check_room(
-    k: Counts,
-    nodes: usize,
-    links: usize,
-    junctions: usize,
-    heights: usize,
-    refs: usize,
-) -> Result<(), Refusal>
-    ensures { result ≡ room_check k nodes links junctions heights refs }
-{
-    let lent = Counts {
-        nodes,
-        links,
-        junctions,
-        heights,
-        refs,
-    };
-    lent.hold(k)
-}
 
 #[tactic(auto, unfolding(crate::specs::Read::cell_read))]
 fn ynd_of(root: Root, k: Counts) -> Ynd
@@ -58,7 +37,7 @@ fn ynd_of(root: Root, k: Counts) -> Ynd
 }
 
 // Reads from the five arrays' bytes.
-#[tactic(auto, unfolding(crate::specs::Read::read_arrays, crate::specs::Read::filled))]
+#[tactic(auto, using(crate::proofs::Rules::read_laws), unfolding(crate::specs::Read::read_arrays))]
 fn read_arrays(
     ynd: Ynd,
     root: Root,

@@ -25,6 +25,7 @@ struct Old<'a> {
 impl Old<'_> {
     // The new number of the last node that had the number `k`; `k` if none had.
     // An entry of the scratch counts only if the node that it leads to has the number.
+    #[tactic(auto, using(crate::proofs::Rules::looked_laws))]
     fn new_number(&self, k: u16) -> u16
         ensures { result ≡ new_number (old_of (length self.now.nodes.now) self.now.nodes.now) k }
     {
@@ -36,6 +37,7 @@ impl Old<'_> {
     }
 
     // A link or a ref, as it is after renumbering.
+    #[tactic(auto, using(crate::proofs::Rules::relink_laws), unfolding(crate::specs::NodeWords::relinked))]
     fn relink(&self, w: LinkWords) -> LinkWords
         ensures { result ≡ relinked (old_of (length self.now.nodes.now) self.now.nodes.now) w }
     {

@@ -14,8 +14,15 @@ pub fn over_limit(ynd: Ynd) -> bool
     65536 < ynd.node_count || 4096 < ynd.junction_count
 }
 
-// 7: whether each list has as many entries as its count says.
+// 7: whether lists of these lengths have as many entries as the cell's counts say.
 #[tactic(auto, unfolding(crate::specs::Memory::short_of, crate::specs::Read::room_check))]
+pub(crate) fn check_lengths(ynd: Ynd, lent: Counts) -> Result<(), Refusal>
+    ensures { result ≡ short_of ynd lent.nodes lent.links lent.junctions lent.heights lent.refs }
+{
+    lent.hold(ynd.counts())
+}
+
+// The same, by five numbers.
 pub fn check_lent(
     ynd: Ynd,
     nodes: usize,
@@ -33,5 +40,5 @@ pub fn check_lent(
         heights,
         refs,
     };
-    lent.hold(ynd.counts())
+    check_lengths(ynd, lent)
 }

@@ -9,13 +9,13 @@ ghost use Rattle.cells.specs.Write.{left, stored, write_call};
 ghost use Rattle.cells.specs.WriteCounts.{Counted};
 
 use crate::blocks::{pad, put_heights, put_junctions, put_links, put_nodes, put_records};
-use crate::count::Counts;
+use crate::count::{Counts, lengths};
 use crate::held::Held;
 use crate::junction::JunctionWords;
 use crate::junction_ref::RefWords;
 use crate::link::LinkWords;
 use crate::node::NodeWords;
-use crate::room::check_lent;
+use crate::room::check_lengths;
 use crate::to_file::ref_record;
 use crate::write_checks::write_counts;
 use crate::ynd::Ynd;
@@ -98,6 +98,7 @@ fn put_arrays(section: &mut [u8], h: Held, k: Counts)
 }
 
 // The section if it has room; so much is written.
+#[tactic(auto, using(crate::proofs::Rules::store_laws), unfolding(crate::specs::Write::stored))]
 pub(crate) fn store(h: Held, k: Counts, section: &mut [u8]) -> Result<usize, Refusal>
     requires { Counted (memory_of h) k }
     ensures { left result section.new ≡ stored (memory_of h.entry) section.old }
@@ -112,6 +113,7 @@ pub(crate) fn store(h: Held, k: Counts, section: &mut [u8]) -> Result<usize, Ref
 }
 
 // Writes the cell that stands in the lists lent.
+#[tactic(auto, using(crate::proofs::Rules::write_laws), unfolding(crate::specs::Write::write_call))]
 pub fn write(
     ynd: Ynd,
     nodes: &[NodeWords],
@@ -126,13 +128,6 @@ pub fn write(
 {
     let h = Held::new(ynd, nodes, links, junctions, heights, refs);
     let k = write_counts(h)?;
-    check_lent(
-        ynd,
-        nodes.len(),
-        links.len(),
-        junctions.len(),
-        heights.len(),
-        refs.len(),
-    )?;
+    check_lengths(ynd, lengths(nodes, links, junctions, heights, refs))?;
     store(h, k, section)
 }

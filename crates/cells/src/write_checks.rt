@@ -35,6 +35,7 @@ fn maps_cut(junctions: &[JunctionWords], pool: usize) -> bool
         .any(|w| values_within(*w, pool) < value_count(*w))
 }
 
+#[tactic(auto, using(crate::proofs::Rules::node_turns))]
 fn check_nodes(nodes: &[NodeWords], pool: usize) -> Result<usize, Refusal>
     ensures { result ≡ check_nodes (links_within pool) 0 0 nodes.now }
 {
@@ -52,6 +53,7 @@ fn check_nodes(nodes: &[NodeWords], pool: usize) -> Result<usize, Refusal>
     Ok(before)
 }
 
+#[tactic(auto, using(crate::proofs::Rules::junction_turns))]
 fn check_junctions(junctions: &[JunctionWords], pool: usize) -> Result<usize, Refusal>
     ensures { result ≡ check_junctions (values_within pool) 0 0 junctions.now }
 {
@@ -66,6 +68,7 @@ fn check_junctions(junctions: &[JunctionWords], pool: usize) -> Result<usize, Re
 }
 
 // 14, 12 and 8 to 11, of a cell. Else how much there is to write.
+#[tactic(auto, using(crate::proofs::Rules::refused_laws))]
 pub(crate) fn write_counts(h: Held) -> Result<Counts, Refusal>
     ensures value { result ≡ write_counts (memory_of h.entry) }
     ensures ready { IfOk result (λ k. Counted (memory_of h.entry) k) }

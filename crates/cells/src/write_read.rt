@@ -6,14 +6,14 @@ ghost use Rattle.cells.specs.Write.{stored};
 ghost use Rattle.cells.specs.BackAnswer.{back_answer};
 ghost use Rattle.cells.specs.WriteRead.{both, write_read_of};
 
-use crate::count::Counts;
+use crate::count::{Counts, lengths};
 use crate::held::Held;
 use crate::junction::JunctionWords;
 use crate::junction_ref::RefWords;
 use crate::link::LinkWords;
 use crate::node::NodeWords;
-use crate::read::{check_room, read};
-use crate::room::check_lent;
+use crate::read::read;
+use crate::room::check_lengths;
 use crate::write::{places_for, store};
 use crate::write_checks::write_counts;
 use crate::ynd::Ynd;
@@ -27,31 +27,18 @@ pub struct WroteRead {
 }
 
 // Writes the cell, if it can be read back into lists of so many. A refusal stores nothing.
+#[tactic(auto, using(crate::proofs::Rules::store_laws))]
 fn write_back(h: Held, lent: Counts, section: &mut [u8]) -> Result<usize, Refusal>
     ensures value { result ≡ back_answer (memory_of h.entry) lent (length section.old) }
     ensures stored { IfOk result (λ n. section.new ≡ (stored (memory_of h.entry) section.old).section) }
     ensures kept { IfErr result (λ r. section.new ≡ section.old) }
 {
     let k = write_counts(h)?;
-    check_lent(
-        h.ynd,
-        lent.nodes,
-        lent.links,
-        lent.junctions,
-        lent.heights,
-        lent.refs,
-    )?;
+    check_lengths(h.ynd, lent)?;
     if section.len() < places_for(k).total {
         return Err(Refusal::TooShort(Lent::Section));
     }
-    check_room(
-        k,
-        lent.nodes,
-        lent.links,
-        lent.junctions,
-        lent.heights,
-        lent.refs,
-    )?;
+    lent.hold(k)?;
     store(h, k, section)
 }
 
@@ -68,13 +55,7 @@ pub fn write_then_read(
     ensures { both ynd result nodes.new links.new junctions.new heights.new refs.new section.new
         ≡ write_read_of (memory ynd nodes.old links.old junctions.old heights.old refs.old) section.old }
 {
-    let lent = Counts {
-        nodes: nodes.len(),
-        links: links.len(),
-        junctions: junctions.len(),
-        heights: heights.len(),
-        refs: refs.len(),
-    };
+    let lent = lengths(nodes, links, junctions, heights, refs);
     let h = Held::new(ynd, nodes, links, junctions, heights, refs);
     let written = write_back(h, lent, section)?;
     let wrote = &section[..written];

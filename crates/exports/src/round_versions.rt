@@ -105,23 +105,29 @@ pub extern "C" fn ynd_write_round_versioned(
     tell(write_as(version, area, start, choices, file), length, place)
 }
 
+// Where a round begins, as C says it: its version, the area of version 2 and the start node's number.
+#[derive(Clone, Copy)]
+struct Begun {
+    version: u16,
+    area: u16,
+    start: u16,
+}
+
 fn follow_as(
     ynd: Ynd,
     nodes: &[NodeWords],
     links: &[LinkWords],
-    version: u16,
-    area: u16,
-    start: u16,
+    round: Begun,
     choices: &[u8],
     visited: &mut [u32],
 ) -> Result<Walked, Refusal>
     ensures { (junctions : List (List ℕ)) (heights : List ℕ) (refs : List (List ℕ))
         → walk_left result visited.new
-        ≡ followed_as (memory ynd nodes.now links.now junctions heights refs) version area start
+        ≡ followed_as (memory ynd nodes.now links.now junctions heights refs) round.version round.area round.start
         choices.now visited.old }
 {
-    let version = version_of(version, area)?;
-    follow_version(ynd, nodes, links, version, start, choices, visited)
+    let version = version_of(round.version, round.area)?;
+    follow_version(ynd, nodes, links, version, round.start, choices, visited)
 }
 
 // Walks a round of the version named, as `ynd_follow_round` walks one of version 1.
@@ -151,6 +157,11 @@ pub extern "C" fn ynd_follow_round_versioned(
         choices.now visited.old).visited }
 {
     let y = ynd_of(*ynd);
-    let r = follow_as(y, nodes, links, version, area, start, choices, visited);
+    let round = Begun {
+        version,
+        area,
+        start,
+    };
+    let r = follow_as(y, nodes, links, round, choices, visited);
     tell_walk(r, end, count, place)
 }

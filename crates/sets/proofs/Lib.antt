@@ -58,3 +58,4 @@ pub mod SetSaid
 pub mod MemberAskLaws
 pub mod EditedMembers
 pub mod MemberExample
+pub mod Rules

@@ -1,5 +1,5 @@
 -- What the parts of the set's calls go by. No public function's contract cites them.
-use Rattle.std.specs.Prelude.{ℕ, ◌+◌, ◌-◌, ◌≤◌, ◌<◌, cond, List, [], ◌∷◌, ◌++◌, map, eqb, ltb, leb}
+use Rattle.std.specs.Prelude.{ℕ, ◌+◌, ◌-◌, ◌≤◌, ◌<◌, cond, List, [], ◌∷◌, ◌++◌, map, ltb, leb}
 use Rattle.std.specs.Prelude.{length, get_or, take}
 use Rattle.std.proofs.Math.Option.{Option as Found, none, some}
 use Rattle.numbers.specs.Refusals.{Cause, when}
@@ -15,7 +15,10 @@ use Rattle.sets.specs.Join.{lack_for}
 use Rattle.cells.specs.declared.count.Counts.{Counts}
 use Rattle.std.specs.Prelude.{Option, Some, None}
 use Rattle.numbers.specs.declared.refusal.Refusal.TheVariants.{TooShort, AtLimit, AreaTaken}
+use Rattle.numbers.specs.declared.refusal.Lent.{Lent}
 use Rattle.numbers.specs.declared.refusal.Lent.TheVariants as lent
+use Rattle.sets.specs.declared.parts.Kind.{Kind}
+use Rattle.sets.specs.declared.parts.Kind.TheVariants as kind
 
 abbrev pub named_of : Found ℕ → Option ℕ
 named_of (some i) = Some i
@@ -31,10 +34,37 @@ starts_of ws j = record {
   refs = start_of 19 ws j;
 }
 
--- the number for the list i, in their order
-abbrev pub of_list : ℕ → Counts → ℕ
-of_list i p =
-    cond (eqb i 0) p.nodes (cond (eqb i 1) p.links (cond (eqb i 2) p.junctions (cond (eqb i 3) p.heights p.refs)))
+-- the word of an entry that says how many the member has in a list
+abbrev pub count_word : Kind → ℕ
+count_word kind.Nodes = 10
+count_word kind.Links = 11
+count_word kind.Junctions = 12
+count_word kind.Heights = 13
+count_word kind.Refs = 14
+
+-- the word that says how many its part holds
+abbrev pub size_word : Kind → ℕ
+size_word kind.Nodes = 15
+size_word kind.Links = 16
+size_word kind.Junctions = 17
+size_word kind.Heights = 18
+size_word kind.Refs = 19
+
+-- the number for a list
+abbrev pub number_in : Kind → Counts → ℕ
+number_in kind.Nodes k = k.nodes
+number_in kind.Links k = k.links
+number_in kind.Junctions k = k.junctions
+number_in kind.Heights k = k.heights
+number_in kind.Refs k = k.refs
+
+-- what a refusal calls it
+abbrev pub name_of : Kind → Lent
+name_of kind.Nodes = lent.Nodes
+name_of kind.Links = lent.Links
+name_of kind.Junctions = lent.Junctions
+name_of kind.Heights = lent.Heightmap
+name_of kind.Refs = lent.Refs
 
 -- word k of the member j
 abbrev pub count_of : ℕ → List (List ℕ) → ℕ → ℕ

@@ -25,15 +25,8 @@ fn give_part(p: MemberPart, from: Given, to: &mut Lists)
     ensures value { memory_of p.ynd to.new
         ≡ copied (part_memory p.ynd p.a p.e (set_given [] from.entry)) (memory_of p.ynd to.old) }
 {
-    let front = Counts {
-        nodes: 0,
-        links: 0,
-        junctions: 0,
-        heights: 0,
-        refs: 0,
-    };
     let part = from.between(p.a, p.e);
-    to.append(front, p.ynd.counts(), part);
+    to.append(Counts::default(), p.ynd.counts(), part);
 }
 
 // The cell that `leave` would take out, copied into the caller's lists. A refusal changes nothing, and neither does

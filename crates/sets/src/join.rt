@@ -1,6 +1,6 @@
 // A cell joins a set (T-09).
-ghost use Rattle.std.specs.Prelude.{◌≡◌, List, [], ◌∷◌, ◌++◌, ℕ, ◌+◌, ◌≤◌, ◌<◌, length, take};
-ghost use Rattle.numbers.specs.Refusals.{decided};
+ghost use Rattle.std.specs.Prelude.{◌≡◌, List, [], ◌∷◌, ◌++◌, ℕ, ◌+◌, ◌≤◌, ◌<◌, not, length, take};
+ghost use Rattle.numbers.specs.Refusals.{decided, when};
 ghost use Rattle.cells.specs.Lookup.{first_with, is_some};
 ghost use Rattle.cells.specs.Memory.{memory};
 ghost use Rattle.cells.specs.RenumberParts.{counts_of};
@@ -8,12 +8,14 @@ ghost use Rattle.sets.specs.MemberList.{over_set};
 ghost use Rattle.sets.specs.CellSet.{cell_set};
 ghost use Rattle.sets.specs.Leave.{left_after};
 ghost use Rattle.sets.specs.Join.{part_fits, lack_for, join_cell};
-ghost use Rattle.sets.specs.SetParts.{named_of, areas_of, bare, bare_cell, entry_causes, of_list};
+ghost use Rattle.sets.specs.SetParts.{named_of, areas_of, bare, bare_cell, entry_causes};
+ghost use Rattle.sets.specs.SetParts.{count_word, size_word, number_in, name_of};
+ghost use Rattle.numbers.specs.declared.refusal.Refusal.TheVariants.{TooShort};
 
 use crate::entry::{MemberWords, entry_words};
 use crate::lists::{Given, Lists};
 use crate::named::member_with;
-use crate::parts::{count_all, of_list, starts_of};
+use crate::parts::{Kind, count_all, starts_of};
 use crate::room::{any_over, holds_list};
 use cells::area::own_area;
 use cells::count::{Counts, lengths};
@@ -26,6 +28,7 @@ use numbers::refusal::{Lent, Refusal};
 
 // Whether a list of `len` entries holds the members' parts and has room for one more, of `room` entries, which has
 // place for the first `count` entries of a list of `have`.
+#[tactic(auto, using(crate::proofs::Rules::fit_laws))]
 fn part_fits(
     members: &[MemberWords],
     k: usize,
@@ -62,24 +65,22 @@ struct Joining {
     sizes: Counts,
 }
 
-// The same of the list i, in the order of the five.
-fn fits_at(members: &[MemberWords], i: usize, cell: Joining) -> bool
-    requires { (i < 5) × (length members.now ≤ 9) }
-    ensures { result ≡ part_fits (10 + i) (15 + i) members.now (of_list i cell.lens) (of_list i cell.haves)
-        (of_list i (counts_of cell.ynd)) (of_list i cell.sizes) }
+// 7: whether a list has room for the cell.
+fn check_part(members: &[MemberWords], cell: Joining, list: Kind) -> Result<(), Refusal>
+    requires { length members.now ≤ 9 }
+    ensures { result ≡ decided (when (not (part_fits (count_word list) (size_word list) members.now
+        (number_in list cell.lens) (number_in list cell.haves) (number_in list (counts_of cell.ynd))
+        (number_in list cell.sizes))) (TooShort (name_of list)) ∷ []) }
 {
-    let len = of_list(cell.lens, i);
-    let have = of_list(cell.haves, i);
-    let count = of_list(cell.ynd.counts(), i);
-    part_fits(
-        members,
-        10 + i,
-        15 + i,
-        len,
-        have,
-        count,
-        of_list(cell.sizes, i),
-    )
+    let (k, size) = list.words();
+    let len = list.number_in(cell.lens);
+    let have = list.number_in(cell.haves);
+    let count = list.number_in(cell.ynd.counts());
+    let room = list.number_in(cell.sizes);
+    if !part_fits(members, k, size, len, have, count, room) {
+        return Err(Refusal::TooShort(list.name()));
+    }
+    Ok(())
 }
 
 // 7: whether each list has room for the cell.
@@ -88,25 +89,15 @@ fn check_fit(members: &[MemberWords], cell: Joining) -> Result<(), Refusal>
     requires { length members.now ≤ 9 }
     ensures { result ≡ decided (lack_for members.now cell.lens cell.haves cell.ynd cell.sizes) }
 {
-    if !fits_at(members, 0, cell) {
-        return Err(Refusal::TooShort(Lent::Nodes));
-    }
-    if !fits_at(members, 1, cell) {
-        return Err(Refusal::TooShort(Lent::Links));
-    }
-    if !fits_at(members, 2, cell) {
-        return Err(Refusal::TooShort(Lent::Junctions));
-    }
-    if !fits_at(members, 3, cell) {
-        return Err(Refusal::TooShort(Lent::Heightmap));
-    }
-    if !fits_at(members, 4, cell) {
-        return Err(Refusal::TooShort(Lent::Refs));
-    }
-    Ok(())
+    check_part(members, cell, Kind::Nodes)?;
+    check_part(members, cell, Kind::Links)?;
+    check_part(members, cell, Kind::Junctions)?;
+    check_part(members, cell, Kind::Heights)?;
+    check_part(members, cell, Kind::Refs)
 }
 
 // Whether the set with the cell is over a limit.
+#[tactic(auto, using(crate::proofs::Rules::over_laws))]
 fn over_with(members: &[MemberWords], ynd: Ynd) -> bool
     ensures { result ≡ over_set (bare members.now ++ (bare_cell ynd ∷ [])) }
 {
@@ -134,6 +125,7 @@ fn has_area(members: &[MemberWords], nodes: &[NodeWords], area: u16) -> bool
 }
 
 // What joining answers, for a cell of this area. Nothing is stored.
+#[tactic(auto, using(crate::proofs::Rules::join_laws))]
 fn join_answer(
     members: &[MemberWords],
     nodes: &[NodeWords],

@@ -10,6 +10,7 @@ use cells::area::own_area;
 use cells::node::NodeWords;
 
 // The area of a member with n nodes, whose part of the nodes has `room` entries from `start` on.
+#[tactic(auto, using(crate::proofs::Rules::area_laws))]
 fn area_in(nodes: &[NodeWords], start: usize, room: usize, n: usize) -> u16
     requires { start ≤ length nodes.now }
     ensures { result ≡ first_area (take n (take room (drop start nodes.now))) }

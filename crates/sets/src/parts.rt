@@ -2,22 +2,61 @@
 ghost use Rattle.std.specs.Prelude.{◌≡◌, ◌≤◌, ◌<◌, length, take, drop};
 ghost use Rattle.sets.specs.CellSet.{words_at, total};
 ghost use Rattle.sets.specs.Leave.{start_of};
-ghost use Rattle.sets.specs.SetParts.{starts_of, count_of, of_list, Holding};
+ghost use Rattle.sets.specs.SetParts.{starts_of, count_of, count_word, size_word, number_in, name_of, Holding};
 
 use crate::entry::{MemberWords, word_at};
 use cells::count::Counts;
+use numbers::refusal::Lent;
 
-// The number for the list i of the five, in their order.
-pub(crate) fn of_list(k: Counts, i: usize) -> usize
-    requires { i < 5 }
-    ensures { result ≡ of_list i k }
-{
-    match i {
-        0 => k.nodes,
-        1 => k.links,
-        2 => k.junctions,
-        3 => k.heights,
-        _ => k.refs,
+// The five lists of a set.
+#[derive(Clone, Copy)]
+pub(crate) enum Kind {
+    Nodes,
+    Links,
+    Junctions,
+    Heights,
+    Refs,
+}
+
+impl Kind {
+    // The words of an entry that say how many the member has in this list, and how many its part holds.
+    pub(crate) fn words(self) -> (usize, usize)
+        ensures value { result ≡ (count_word self, size_word self) }
+        ensures inside { (result.0 < 20) × (result.1 < 20) }
+    {
+        match self {
+            Kind::Nodes => (10, 15),
+            Kind::Links => (11, 16),
+            Kind::Junctions => (12, 17),
+            Kind::Heights => (13, 18),
+            Kind::Refs => (14, 19),
+        }
+    }
+
+    // The number for this list.
+    pub(crate) fn number_in(self, k: Counts) -> usize
+        ensures { result ≡ number_in self k }
+    {
+        match self {
+            Kind::Nodes => k.nodes,
+            Kind::Links => k.links,
+            Kind::Junctions => k.junctions,
+            Kind::Heights => k.heights,
+            Kind::Refs => k.refs,
+        }
+    }
+
+    // What a refusal calls it.
+    pub(crate) fn name(self) -> Lent
+        ensures { result ≡ name_of self }
+    {
+        match self {
+            Kind::Nodes => Lent::Nodes,
+            Kind::Links => Lent::Links,
+            Kind::Junctions => Lent::Junctions,
+            Kind::Heights => Lent::Heightmap,
+            Kind::Refs => Lent::Refs,
+        }
     }
 }
 

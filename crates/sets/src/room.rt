@@ -1,16 +1,17 @@
 // Whether a set keeps to the limits, and the lent lists hold its members: what a set made by hand is refused for.
-ghost use Rattle.std.specs.Prelude.{◌≡◌, ◌≤◌, ◌<◌, length};
+ghost use Rattle.std.specs.Prelude.{◌≡◌, ◌≤◌, ◌<◌, ◌∷◌, [], not, length};
 ghost use Rattle.cells.specs.Lists.{every};
-ghost use Rattle.numbers.specs.Refusals.{decided};
+ghost use Rattle.numbers.specs.Refusals.{decided, when};
 ghost use Rattle.sets.specs.MemberList.{any_over, over_set};
 ghost use Rattle.sets.specs.CellSet.{room_for, holds_list, lack_of};
-ghost use Rattle.sets.specs.SetParts.{bare, list_causes};
+ghost use Rattle.sets.specs.SetParts.{bare, list_causes, count_word, size_word, number_in, name_of};
+ghost use Rattle.numbers.specs.declared.refusal.Refusal.TheVariants.{TooShort};
 
 use crate::entry::{MemberWords, word_at, ynd_of};
-use crate::parts::count_all;
+use crate::parts::{Kind, count_all};
 use cells::count::Counts;
 use cells::room::over_limit;
-use numbers::refusal::{Lent, Refusal};
+use numbers::refusal::Refusal;
 
 // Whether each member's part, of as many entries as word `size` says, has as many as word k says.
 fn rooms_hold(members: &[MemberWords], k: usize, size: usize) -> bool
@@ -31,28 +32,30 @@ pub(crate) fn holds_list(members: &[MemberWords], k: usize, size: usize, len: us
     count_all(members, size) <= len
 }
 
+// 7: whether a list, of its length among `lens`, holds the members.
+fn check_list(members: &[MemberWords], lens: Counts, list: Kind) -> Result<(), Refusal>
+    requires { length members.now ≤ 9 }
+    ensures { result ≡ decided (when (not (holds_list (count_word list) (size_word list) members.now
+        (number_in list lens))) (TooShort (name_of list)) ∷ []) }
+{
+    let (k, size) = list.words();
+    if !holds_list(members, k, size, list.number_in(lens)) {
+        return Err(Refusal::TooShort(list.name()));
+    }
+    Ok(())
+}
+
 // 7: whether the lists, of these lengths, hold the members.
 #[tactic(auto, using(numbers::proofs::Refusing::tested), unfolding(crate::specs::CellSet::lack_of))]
 fn check_lists(members: &[MemberWords], lens: Counts) -> Result<(), Refusal>
     requires { length members.now ≤ 9 }
     ensures { result ≡ decided (lack_of members.now lens.nodes lens.links lens.junctions lens.heights lens.refs) }
 {
-    if !holds_list(members, 10, 15, lens.nodes) {
-        return Err(Refusal::TooShort(Lent::Nodes));
-    }
-    if !holds_list(members, 11, 16, lens.links) {
-        return Err(Refusal::TooShort(Lent::Links));
-    }
-    if !holds_list(members, 12, 17, lens.junctions) {
-        return Err(Refusal::TooShort(Lent::Junctions));
-    }
-    if !holds_list(members, 13, 18, lens.heights) {
-        return Err(Refusal::TooShort(Lent::Heightmap));
-    }
-    if !holds_list(members, 14, 19, lens.refs) {
-        return Err(Refusal::TooShort(Lent::Refs));
-    }
-    Ok(())
+    check_list(members, lens, Kind::Nodes)?;
+    check_list(members, lens, Kind::Links)?;
+    check_list(members, lens, Kind::Junctions)?;
+    check_list(members, lens, Kind::Heights)?;
+    check_list(members, lens, Kind::Refs)
 }
 
 // Whether a member's cell is over a limit of its own.

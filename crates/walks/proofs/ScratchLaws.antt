@@ -26,7 +26,7 @@ use Rattle.walks.proofs.Numbers.{named_has, first_last, last_is}
 
 pub index_starts : (nodes : List (List ℕ)) (s : List ℕ) → Indexed (numbers_in 0 nodes) s
 unfolding numbers_in
-index_starts nodes s = cells.index_starts nodes s
+index_starts nodes s = cells.index_starts s
 
 pub index_turn : (nodes : List (List ℕ)) (i k : ℕ) (s : List ℕ) → i < length nodes → k ≡ number_of (get_or nodes i []) → k < length s
     → Indexed (numbers_in i nodes) s → Indexed (numbers_in (i + 1) nodes) (set s k i)

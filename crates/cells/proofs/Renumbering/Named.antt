@@ -51,9 +51,9 @@ pub map_snoc : {A B : Type 0} (f : A → B) (l : List A) (x : A) → map f (l ++
 map_snoc f [] x = refl
 map_snoc {B = B} f (y ∷ ys) x = ap {B = List B} (λ t. f y ∷ t) (map_snoc f ys x)
 
-pub index_starts : (nodes : List (List ℕ)) (s : List ℕ) → Indexed (map number_of (take 0 nodes)) s
+pub index_starts : (s : List ℕ) → Indexed [] s
 unfolding last_with
-index_starts nodes s = record { at = λ k p e. some_none e }
+index_starts s = record { at = λ k p e. some_none e }
 
 pub index_turn : (nodes : List (List ℕ)) (i k : ℕ) (s : List ℕ) → i < length nodes → k ≡ number_of (get_or nodes i []) → k < length s
     → Indexed (map number_of (take i nodes)) s → Indexed (map number_of (take (i + 1) nodes)) (set s k i)

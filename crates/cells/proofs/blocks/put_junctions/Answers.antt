@@ -21,9 +21,6 @@ overflow_cast-before c =
     let l = c.loop-w in
     omega (arith, (junctions_inside (values_within (length c.args.heights.now)) c.args.junctions.now l.w-index l.before l.w-index (omega arith) l.invariant.1).0)
 
-pub slice_bounds-copy_from_slice-end : goal.slice_bounds-copy_from_slice-end
-slice_bounds-copy_from_slice-end c = omega (arith, junctions_length c.args.heights.now c.args.junctions.now, c.loop-w.invariant.0)
-
 pub overflow_add-before : goal.overflow_add-before
 overflow_add-before c =
     let l = c.loop-w in

@@ -28,17 +28,8 @@ few links nodes i before count h ok e =
 pub overflow_cast-start : goal.overflow_cast-start
 overflow_cast-start c = omega (arith, (few c.args.links.now c.args.nodes.now c.loop-w.w-index c.loop-w.before c.links_within-count.result (omega arith) c.loop-w.invariant.1 c.links_within-count.ensures.0).1, c.stored_start-start.ensures)
 
-pub overflow_cast-count : goal.overflow_cast-count
-overflow_cast-count c = omega (arith, (few c.args.links.now c.args.nodes.now c.loop-w.w-index c.loop-w.before c.links_within-count.result (omega arith) c.loop-w.invariant.1 c.links_within-count.ensures.0).0)
-
 pub node_record-requires : goal.node_record-requires
 node_record-requires c = omega (arith, (few c.args.links.now c.args.nodes.now c.loop-w.w-index c.loop-w.before c.links_within-count.result (omega arith) c.loop-w.invariant.1 c.links_within-count.ensures.0).0)
-
-pub slice_bounds-copy_from_slice-end : goal.slice_bounds-copy_from_slice-end
-slice_bounds-copy_from_slice-end c = omega (arith, nodes_length c.args.links.now c.args.nodes.now, c.loop-w.invariant.0)
-
-pub overflow_add-before : goal.overflow_add-before
-overflow_add-before c = omega (arith, (few c.args.links.now c.args.nodes.now c.loop-w.w-index c.loop-w.before c.links_within-count.result (omega arith) c.loop-w.invariant.1 c.links_within-count.ensures.0).0, c.loop-w.invariant.3)
 
 pub loop-w-preserved : goal.loop-w-preserved
 loop-w-preserved c =

@@ -1,16 +1,12 @@
-use Rattle.std.proofs.Common.{◌≡◌, ◌+◌, refl, sym, ap, ◌∙◌, arith}
-use Rattle.std.specs.Prelude.{Ok, Err, true, false, ltb}
+use Rattle.std.proofs.Common.{◌≡◌, ◌+◌, sym, ap, ◌∙◌, arith}
+use Rattle.std.specs.Prelude.{Err, true, false, ltb}
 use borrow.Author.Tests.{lt-ltb, le-ltb}
 use Rattle.numbers.specs.Refusals.{Answer}
 use Rattle.cells.specs.Lists.{sum_to}
 use Rattle.cells.specs.Checks.{total_of}
 use Rattle.cells.specs.RangedParts.{outside}
-use Rattle.cells.proofs.Reading.ReadLaws.{scan_hit, scan_on, scan_end, scan_start, sum_next}
+use Rattle.cells.proofs.Reading.ReadLaws.{scan_hit, scan_on, sum_next}
 use Rattle.cells.proofs.checks.check_ranges.Goals as goal
-
-pub loop-i-init : goal.loop-i-init
-unfolding sum_to
-loop-i-init g c = record { sum = refl; few = omega arith; passed = scan_start _ _ _ }
 
 pub returns-then-len-range : goal.returns-then-len-range
 returns-then-len-range g c =
@@ -33,12 +29,3 @@ loop-i-preserved g c =
       few = omega arith;
       passed = l.invariant.passed ∙ scan_on g.R.Ranged.cause bad l.i c.args.count (omega arith) miss;
     }
-
-pub returns : goal.returns
-returns g c =
-    let l = c.loop-i in
-    let bad = outside (g.R.Ranged.start c.args.records) (g.R.Ranged.count c.args.records) c.args.len in
-    let e : l.i ≡ c.args.count = omega arith in
-    ap Ok (l.invariant.sum ∙ ap (sum_to (g.R.Ranged.count c.args.records)) e)
-    ∙ sym (ap (λ (x : Answer). total_of x (sum_to (g.R.Ranged.count c.args.records) c.args.count))
-    (l.invariant.passed ∙ scan_end g.R.Ranged.cause bad l.i c.args.count (omega arith)))

@@ -1,16 +1,11 @@
-use Rattle.std.proofs.Common.{◌≡◌, length, refl, ap, ◌∙◌, arith}
+use Rattle.std.proofs.Common.{refl, ap, ◌∙◌, arith}
 use Rattle.cells.specs.Lists.{up_to, join_to, sum_to}
-use Rattle.cells.proofs.Reading.ReadLaws.{fill_turn_here, sum_next, sum_room, join_turn, all_stored}
+use Rattle.cells.proofs.Reading.ReadLaws.{fill_turn_here, sum_next, join_turn}
 use Rattle.cells.proofs.fill.fill_ranges.Goals as goal
 
 pub loop-i-init : goal.loop-i-init
 unfolding up_to join_to sum_to
 loop-i-init g c = record { held = refl; few = omega arith; entries = refl; parts = refl }
-
-pub fill_part-requires : goal.fill_part-requires
-fill_part-requires g c =
-    let room = sum_room (g.R.Ranged.count c.args.records) c.loop-i.i (length c.args.entries.now) (omega arith) in
-    (omega arith, omega (arith, c.loop-i.invariant.held))
 
 pub loop-i-preserved : goal.loop-i-preserved
 loop-i-preserved g c =
@@ -25,14 +20,3 @@ loop-i-preserved g c =
           (c.entry.ensures ∙ ap (R.entry_at r l.i) l.invariant.held);
       parts = c.fill_part.ensures ∙ join_turn (R.part r) (R.count r) (g.met.R.Ranged.long r) c.args.parts.now l.parts l.i l.held _ l.invariant.held l.invariant.parts (omega (arith, k));
     }
-
-pub returns : goal.returns
-returns g c =
-    let l = c.loop-i in
-    let n = length c.args.entries.now in
-    let R = g.R.Ranged in
-    let r = c.args.records in
-    let e : l.i ≡ n = omega arith in (
-      all_stored _ l.entries c.args.entries.now n (omega arith) (rw e at l.invariant.entries),
-      all_stored _ l.parts c.args.parts.now l.held (omega (arith, l.invariant.held, ap (sum_to (R.count r)) e)) (rw e at l.invariant.parts),
-    )

@@ -1,16 +1,12 @@
-use Rattle.std.proofs.Common.{sym, ◌∙◌, arith, rules}
+use Rattle.std.proofs.Common.{◌∙◌, arith, rules}
 use borrow.Author.Tests.{tests}
 use Rattle.std.proofs.lemmas.Iterator.{YieldsList-from_slice}
 use Rattle.std.proofs.lemmas.Iterator.Search.{position_from_yields_List}
 use Rattle.std.specs.Prelude.{◌==◌}
 use Rattle.cells.specs.NodeWords.{number_of}
-use Rattle.cells.proofs.Lookups.LookupLaws.{find_at, find_past, find_other, first_is}
+use Rattle.cells.proofs.Lookups.LookupLaws.{find_past, find_other, first_is}
 use Rattle.cells.proofs.lookup.find_in.Goals as goal
 use Rattle.cells.proofs.lookup.find_in.Goals.{else-k-nodes-via-then-k-nodes+else-number_of-node_id, else-k-nodes-via-else-k-nodes}
-
-pub returns-then-number_of-node_id : goal.returns-then-number_of-node_id
-returns-then-number_of-node_id c =
-    find_at c.args.nodes.now _ c.args.node_id (omega arith) (omega arith) (sym c.number_of.ensures ∙ c.if-number_of-node_id.true)
 
 pub returns : goal.returns
 returns c =

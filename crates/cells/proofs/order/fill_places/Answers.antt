@@ -1,17 +1,11 @@
 use Rattle.std.proofs.Common.{arith, rules}
-use Rattle.cells.proofs.Renumbering.Placed.{placing_starts, turn_ped, turn_vehicle, placed, all_placed, vehicles_all}
+use Rattle.cells.proofs.Renumbering.Placed.{placing_starts, turn_ped, turn_vehicle, placed, all_placed}
 use Rattle.cells.proofs.order.fill_places.Goals as goal
 use Rattle.cells.proofs.order.fill_places.Goals.{then-is_ped, else-is_ped}
 
 pub loop-i-init : goal.loop-i-init
 loop-i-init c =
     record { few_vehicles = omega arith; few_peds = omega arith; placing = placing_starts c.args.nodes.now c.args.places.now c.args.first c.requires.2 }
-
-pub overflow_cast-place : goal.overflow_cast-place
-overflow_cast-place c = omega (arith, c.loop-i.invariant.few_peds, c.requires.2, vehicles_all c.args.nodes.now)
-
-pub overflow_add-p : goal.overflow_add-p
-overflow_add-p c = omega (arith, c.loop-i.invariant.few_peds, c.requires.2, vehicles_all c.args.nodes.now)
 
 pub loop-i-preserved : goal.loop-i-preserved
 loop-i-preserved c =

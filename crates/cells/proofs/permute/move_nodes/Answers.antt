@@ -1,15 +1,9 @@
-use Rattle.std.proofs.Common.{ap, ◌∙◌, arith, length}
+use Rattle.std.proofs.Common.{ap, ◌∙◌}
 use Rattle.cells.specs.NodeWords.{is_ped, number_from, reordered}
 use Rattle.cells.specs.Order.{parted}
-use Rattle.cells.proofs.Renumbering.Reordered.{are_places, they_lead, places_many}
+use Rattle.cells.proofs.Renumbering.Reordered.{they_lead}
 use Rattle.cells.proofs.Renumbering.CellRenumbered.{parted_length}
 use Rattle.cells.proofs.permute.move_nodes.Goals as goal
-
-pub copy_from_slice-requires : goal.copy_from_slice-requires
-copy_from_slice-requires c = omega (arith, ap length c.requires.2, places_many c.args.nodes.now)
-
-pub permute-requires : goal.permute-requires
-permute-requires c = (omega arith, rw (c.copy_from_slice.ensures.after, c.requires.2) (are_places c.args.nodes.now))
 
 pub returns : goal.returns
 unfolding reordered

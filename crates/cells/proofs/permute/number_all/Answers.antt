@@ -1,7 +1,7 @@
 use Rattle.std.proofs.Common.{◌≡◌, ℕ, List, [], length, get_or, set, sym, ap, ◌∙◌, arith}
 use native.Mathlib.Nat.{zero-add}
 use Rattle.cells.specs.NodeWords.{numbered, number_from}
-use Rattle.cells.proofs.Sequences.Filled.{fill_turn, fill_ahead, fill_all}
+use Rattle.cells.proofs.Sequences.Filled.{fill_turn, fill_ahead}
 use Rattle.cells.proofs.Renumbering.CellRenumbered.{number_length}
 use Rattle.cells.proofs.Renumbering.Reordered.{number_at}
 use Rattle.cells.proofs.permute.number_all.Goals as goal
@@ -17,8 +17,3 @@ loop-i-preserved c =
     let is : get_or D l.i [] ≡ c.with_number.result =
     number_at 0 ws l.i (omega arith) ∙ rw zero-add (ap (numbered l.i) (sym read)) ∙ sym c.with_number.ensures in
     ap (λ (x : List (List ℕ)). set x l.i c.with_number.result) l.invariant ∙ fill_turn ws D l.i [] c.with_number.result (omega arith) (omega arith) is
-
-pub returns : goal.returns
-returns c =
-    let ws = c.args.nodes.now in
-    c.loop-i.invariant ∙ fill_all ws (number_from 0 ws) c.loop-i.i (number_length 0 ws) (omega arith)

@@ -1,9 +1,9 @@
-use Rattle.std.proofs.Common.{◌<◌, ◌++◌, drop, sym, ap, ◌∙◌, arith, length-take-le}
+use Rattle.std.proofs.Common.{◌++◌, drop, sym, ap, ◌∙◌, arith, length-take-le}
 use Rattle.std.specs.Prelude.{Ok}
 use Rattle.cells.specs.Lists.{up_to, join_to}
 use Rattle.cells.specs.Memory.{memory}
 use Rattle.cells.specs.Read.{node_in, links_in, junction_in, values_in, ref_in, read_arrays, filled}
-use Rattle.cells.proofs.Reading.ReadLaws.{holds, nodes_few, junctions_few, refs_few, links_sum, heights_sum, links_fit_word, heights_fit_word}
+use Rattle.cells.proofs.Reading.ReadLaws.{holds, nodes_few, junctions_few, links_sum, heights_sum}
 use Rattle.cells.proofs.read.read_arrays.Goals as goal
 
 pub fill_ranges-requires : goal.fill_ranges-requires
@@ -25,24 +25,6 @@ fill_ranges-requires-2 c =
     let junctions = length-take-le k.junctions a.junctions.now room.2 in
     let heights = length-take-le k.heights a.heights.now room.3 in
     (omega (arith, junctions, junctions_few a.f.nodes.n.now a.f.junctions.j.now a.f.refs.now k held), rw (junctions, heights) (sym (heights_sum a.f.nodes.n.now a.f.junctions.j.now a.f.refs.now k held)))
-
-pub fill_refs-requires : goal.fill_refs-requires
-fill_refs-requires c =
-    let a = c.args in
-    let k = c.in_ok-k.k in
-    let held = holds a.f.nodes.n.now a.f.nodes.l.now a.f.junctions.j.now a.f.junctions.h.now a.f.refs.now k (sym c.check_arrays.ensures ∙ c.in_ok-k.was) in
-    let room = rw c.lengths-lent.ensures at c.in_ok-hold.ensures.room in
-    omega (arith, length-take-le k.refs a.refs.now room.4, refs_few a.f.nodes.n.now a.f.junctions.j.now a.f.refs.now k held c.requires)
-
-pub ynd_of-requires : goal.ynd_of-requires
-ynd_of-requires c =
-    let a = c.args in
-    let k = c.in_ok-k.k in
-    let held = holds a.f.nodes.n.now a.f.nodes.l.now a.f.junctions.j.now a.f.junctions.h.now a.f.refs.now k (sym c.check_arrays.ensures ∙ c.in_ok-k.was) in
-    let nodes : k.nodes < 4294967296 = omega (arith, nodes_few a.f.nodes.n.now a.f.junctions.j.now a.f.refs.now k held) in
-    let junctions : k.junctions < 4294967296 = omega (arith, junctions_few a.f.nodes.n.now a.f.junctions.j.now a.f.refs.now k held) in
-    let refs : k.refs < 4294967296 = omega (arith, refs_few a.f.nodes.n.now a.f.junctions.j.now a.f.refs.now k held c.requires) in
-    (nodes, links_fit_word a.f.nodes.n.now a.f.junctions.j.now a.f.refs.now k held, junctions, heights_fit_word a.f.nodes.n.now a.f.junctions.j.now a.f.refs.now k held, refs)
 
 pub returns : goal.returns
 unfolding read_arrays filled node_in junction_in

@@ -2,7 +2,7 @@ use native.Mathlib.Omega.{arith}
 use mathlib.Core.Path.{◌≡◌, sym, ap, ◌∙◌}
 use Prim.Native.Nat.{ℕ, ◌≤◌}
 use lib.ListN.{length}
-use borrow.Author.Tests.{lt-ltb, le-leb}
+use borrow.Author.Tests.{le-leb}
 use Rattle.std.specs.Prelude.{Ok}
 use Rattle.numbers.proofs.Refusing.{not_refused}
 use Rattle.numbers.specs.Refusals.{done}
@@ -20,13 +20,6 @@ use Rattle.cells.proofs.write.store.Goals as goal
 -- what ends inside is stored
 stored_in : (end len : ℕ) → end ≤ len → done ≡ stored_to end len
 stored_in end len h = rw (le-leb end len h)
-
-pub returns-then-section-places : goal.returns-then-section-places
-unfolding stored
-returns-then-section-places c =
-    let m = memory_of c.args.h in
-    let e = ending m c.args.k c.requires c.places_for-places.result c.places_for-places.ensures in
-    rw (lt-ltb (length c.args.section.now) (length (written m)) (omega (arith, e, c.if-section-places.true)))
 
 pub returns-in_err-put_header : goal.returns-in_err-put_header
 returns-in_err-put_header c =

@@ -2,15 +2,8 @@ use mathlib.Core.Path.{sym, ap, ◌∙◌}
 use Rattle.std.specs.Prelude.{Err}
 use Rattle.std.proofs.lemmas.Result.{err_from_is_err_and}
 use Rattle.cells.specs.Held.{memory_of}
-use Rattle.cells.proofs.Writing.WriteSteps.{over_refused, maps_refused, nodes_refused, junctions_refused, refs_refused, counted_all, ready}
+use Rattle.cells.proofs.Writing.WriteSteps.{nodes_refused, junctions_refused, refs_refused, counted_all, ready}
 use Rattle.cells.proofs.write_checks.write_counts.Goals as goal
-
-pub returns-then-over_limit-clause-value : goal.returns-then-over_limit-clause-value
-returns-then-over_limit-clause-value c = over_refused (memory_of c.args.h) (sym c.over_limit.ensures ∙ c.if-over_limit.true)
-
-pub returns-then-maps_cut-clause-value : goal.returns-then-maps_cut-clause-value
-returns-then-maps_cut-clause-value c =
-    maps_refused (memory_of c.args.h) (sym c.over_limit.ensures ∙ c.if-over_limit.false) (sym c.maps_cut.ensures ∙ c.if-maps_cut.true)
 
 pub returns-in_err-links-clause-value : goal.returns-in_err-links-clause-value
 returns-in_err-links-clause-value c =

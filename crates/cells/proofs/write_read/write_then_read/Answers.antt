@@ -11,7 +11,6 @@ use Rattle.numbers.specs.Refusals.{answered}
 use Rattle.cells.specs.declared.ynd.Ynd.{Ynd}
 use Rattle.cells.specs.Read.{read_of}
 use Rattle.cells.specs.Write.{WriteLeft, stored}
-use Rattle.cells.specs.BackCheck.{lengths}
 use Rattle.cells.specs.BackAnswer.{back_answer}
 use Rattle.cells.specs.WriteRead.{both}
 use Rattle.cells.proofs.WritingBack.BackAnswer.{refused_back, accepted_back}
@@ -22,7 +21,7 @@ returns-in_err-written c =
     let a = c.args in
     let m = memory a.ynd a.nodes.now a.links.now a.junctions.now a.heights.now a.refs.now in
     let p = err_from_is_err_and c.from_residual.result c.from_residual.ensures.1 in
-    let told = (λ i. back_answer (sym c.new-h.ensures i) (lengths m) (length a.section.now)) ∙ sym c.write_back.ensures.value ∙ c.in_err-written.was in
+    let told = (λ i. back_answer (sym c.new-h.ensures i) (sym c.lengths-lent.ensures i) (length a.section.now)) ∙ sym c.write_back.ensures.value ∙ c.in_err-written.was in
     (λ i. both a.ynd ((p.1 ∙ ap Err p.2) i) a.nodes.now a.links.now a.junctions.now a.heights.now a.refs.now (c.in_err-written.ensures.kept i))
     ∙ sym (refused_back m a.section.now _ told)
 
@@ -30,14 +29,14 @@ pub slice_bounds-wrote-end : goal.slice_bounds-wrote-end
 slice_bounds-wrote-end c =
     let a = c.args in
     let m = memory a.ynd a.nodes.now a.links.now a.junctions.now a.heights.now a.refs.now in
-    let told = (λ i. back_answer (sym c.new-h.ensures i) (lengths m) (length a.section.now)) ∙ sym c.write_back.ensures.value ∙ c.in_ok-written.was in
+    let told = (λ i. back_answer (sym c.new-h.ensures i) (sym c.lengths-lent.ensures i) (length a.section.now)) ∙ sym c.write_back.ensures.value ∙ c.in_ok-written.was in
     omega (arith, (accepted_back m a.section.now _ told).room, c.write_back.auto.section)
 
 pub slice_bounds-wrote-end-2 : goal.slice_bounds-wrote-end-2
 slice_bounds-wrote-end-2 c =
     let a = c.args in
     let m = memory a.ynd a.nodes.now a.links.now a.junctions.now a.heights.now a.refs.now in
-    let told = (λ i. back_answer (sym c.new-h.ensures i) (lengths m) (length a.section.now)) ∙ sym c.write_back.ensures.value ∙ c.in_ok-written.was in
+    let told = (λ i. back_answer (sym c.new-h.ensures i) (sym c.lengths-lent.ensures i) (length a.section.now)) ∙ sym c.write_back.ensures.value ∙ c.in_ok-written.was in
     omega (arith, length-take c.in_ok-written.written c.write_back.new.section, (accepted_back m a.section.now _ told).room, c.write_back.auto.section)
 
 pub returns-in_err-ynd : goal.returns-in_err-ynd
@@ -45,7 +44,7 @@ returns-in_err-ynd c =
     let a = c.args in
     let m = memory a.ynd a.nodes.now a.links.now a.junctions.now a.heights.now a.refs.now in
     let n = c.in_ok-written.written in
-    let told = (λ i. back_answer (sym c.new-h.ensures i) (lengths m) (length a.section.now)) ∙ sym c.write_back.ensures.value ∙ c.in_ok-written.was in
+    let told = (λ i. back_answer (sym c.new-h.ensures i) (sym c.lengths-lent.ensures i) (length a.section.now)) ∙ sym c.write_back.ensures.value ∙ c.in_ok-written.was in
     let acc = accepted_back m a.section.now n told in
     let now = c.in_ok-written.ensures.stored ∙ (λ i. (stored (c.new-h.ensures i) a.section.now).section) ∙ ap (λ (x : WriteLeft). x.section) acc.stores in
     not_refused (sym (ap answered c.in_err-ynd.was) ∙ ap (λ (x : Left). x.answer) c.read.ensures ∙ (λ i. (read_of (take n (now i)) [] m).answer) ∙ acc.reads)
@@ -55,7 +54,7 @@ returns c =
     let a = c.args in
     let m = memory a.ynd a.nodes.now a.links.now a.junctions.now a.heights.now a.refs.now in
     let n = c.in_ok-written.written in
-    let told = (λ i. back_answer (sym c.new-h.ensures i) (lengths m) (length a.section.now)) ∙ sym c.write_back.ensures.value ∙ c.in_ok-written.was in
+    let told = (λ i. back_answer (sym c.new-h.ensures i) (sym c.lengths-lent.ensures i) (length a.section.now)) ∙ sym c.write_back.ensures.value ∙ c.in_ok-written.was in
     let acc = accepted_back m a.section.now n told in
     let now = c.in_ok-written.ensures.stored ∙ (λ i. (stored (c.new-h.ensures i) a.section.now).section) ∙ ap (λ (x : WriteLeft). x.section) acc.stores in
     let read = ap (λ (r : Result Ynd Refusal). memory (ynd_after a.ynd r) c.read.new.nodes c.read.new.links c.read.new.junctions c.read.new.heights c.read.new.refs) (sym c.in_ok-ynd.was)

@@ -1,6 +1,4 @@
-use Rattle.std.proofs.Common.{ℕ, ap}
 use Rattle.sets.specs.Crossing.{location}
-use lib.Dec.{leb}
 use Rattle.sets.proofs.CrossLoop.{trail_few}
 use Rattle.sets.proofs.crossing.has_room.Goals as goal
 
@@ -10,6 +8,3 @@ returns-then-choices-room c =
     let s = c.args.set.now in
     trail_few s.areas.now s.members.now s.nodes.now s.links.now s.lent s.links_hold a.choices.now
     (location a.member a.place) a.room c.if-choices-room.true
-
-pub returns : goal.returns
-returns c = ap (λ (n : ℕ). leb n c.args.room) c.nodes_visited.ensures

@@ -1,4 +1,4 @@
-use Rattle.std.proofs.Common.{◌≡◌, ℕ, ◌+◌, ◌-◌, ◌≤◌, length, take, drop, ap, ◌∙◌, arith, rules}
+use Rattle.std.proofs.Common.{◌+◌, ◌≤◌, length, arith, rules}
 use Rattle.sets.proofs.AreasFilled.{part_ends}
 use Rattle.sets.proofs.parts.own_entries.Goals as goal
 use Rattle.sets.proofs.parts.own_entries.Given.{Over}
@@ -24,10 +24,3 @@ offset_bounds-list-start g c = let h = inside g c in omega arith
 
 pub slice_bounds-result-end : goal.slice_bounds-result-end
 slice_bounds-result-end g c = let h = inside g c in search rules
-
-pub returns : goal.returns
-returns g c =
-    let a = c.args in
-    let n : c.count_before-start.result + c.word_at.result - c.count_before-start.result ≡ c.word_at.result = omega arith in
-    ap (λ (n : ℕ). take n (drop c.count_before-start.result a.list.now)) n
-    ∙ (λ j. take (c.word_at.ensures.0 j) (drop (c.count_before-start.ensures j) a.list.now))

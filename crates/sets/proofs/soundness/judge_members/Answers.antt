@@ -13,13 +13,6 @@ loop-k-init c =
           (length a.set.now.members.now),
     )
 
-pub judge_member-good-requires : goal.judge_member-good-requires
-judge_member-good-requires c = (
-  c.requires.0,
-  c.loop-k-test.true,
-  omega (arith, c.loop-k.auto.scratch, c.requires.1),
-)
-
 pub loop-k-preserved : goal.loop-k-preserved
 loop-k-preserved c =
     let a = c.args in

@@ -5,14 +5,6 @@ use Rattle.sets.proofs.MemberPartLaws.{lens_held, is_open, not_open}
 use Rattle.sets.proofs.WriteMemberLaws.{write_read_not, write_read_done, write_read_out}
 use Rattle.sets.proofs.write_member.write_then_read_member.Goals as goal
 
-pub write_read_part-requires : goal.write_read_part-requires
-write_read_part-requires c =
-    let x = c.args in
-    let y = cell_set x.members.now x.nodes.now x.links.now x.junctions.now x.heights.now x.refs.now in
-    let k = is_open y x.member _ (lens_held y x.member _ c.lengths-lens.ensures) _ c.open_member.ensures.value _
-    c.in_ok-p.was in
-    k.lie
-
 pub returns-in_err-p : goal.returns-in_err-p
 returns-in_err-p c =
     let x = c.args in
