@@ -61,14 +61,17 @@ impl<'a> Given<'a> {
 impl<'a> Lists<'a> {
     // What the counts say of these lists, stored from these places on.
     pub(crate) fn append(&mut self, at: Counts, counts: Counts, given: Given)
-        requires { ((counts.nodes ≤ length given.nodes.now) × (at.nodes + counts.nodes ≤ length self.old.nodes.now))
+        requires { ((counts.nodes ≤ length given.nodes.now)
+            × (at.nodes + counts.nodes ≤ length self.old.nodes.now))
             × ((counts.links ≤ length given.links.now) × (at.links + counts.links ≤ length self.old.links.now))
             × ((counts.junctions ≤ length given.junctions.now)
             × (at.junctions + counts.junctions ≤ length self.old.junctions.now))
-            × ((counts.heights ≤ length given.heights.now) × (at.heights + counts.heights ≤ length self.old.heights.now))
+            × ((counts.heights ≤ length given.heights.now)
+            × (at.heights + counts.heights ≤ length self.old.heights.now))
             × ((counts.refs ≤ length given.refs.now) × (at.refs + counts.refs ≤ length self.old.refs.now)) }
         ensures same { Same self.new self.old }
-        ensures value { (self.new.nodes.now ≡ stored at.nodes (take counts.nodes given.entry.nodes.now) self.old.nodes.now)
+        ensures value { (self.new.nodes.now
+            ≡ stored at.nodes (take counts.nodes given.entry.nodes.now) self.old.nodes.now)
             × (self.new.links.now ≡ stored at.links (take counts.links given.entry.links.now) self.old.links.now)
             × (self.new.junctions.now
             ≡ stored at.junctions (take counts.junctions given.entry.junctions.now) self.old.junctions.now)

@@ -36,7 +36,8 @@ pub(crate) fn open_member(
     j: usize,
 ) -> Result<MemberPart, Refusal>
     ensures value { result ≡ opened members.now lens j }
-    ensures inside { IfOk result (λ p. (j < length members.now) × ((p.a.nodes ≤ p.e.nodes) × (p.e.nodes ≤ lens.nodes))
+    ensures inside { IfOk result (λ p. (j < length members.now)
+        × ((p.a.nodes ≤ p.e.nodes) × (p.e.nodes ≤ lens.nodes))
         × ((p.a.links ≤ p.e.links) × (p.e.links ≤ lens.links))
         × ((p.a.junctions ≤ p.e.junctions) × (p.e.junctions ≤ lens.junctions))
         × ((p.a.heights ≤ p.e.heights) × (p.e.heights ≤ lens.heights))

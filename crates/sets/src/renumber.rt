@@ -61,7 +61,8 @@ impl<'a> Numbered<'a> {
         ensures called { renumbered_by ynd result (drop at.nodes self.new.nodes.now) (drop at.links self.new.links.now)
             self.old.junctions.now self.old.heights.now (drop at.refs self.new.refs.now) places.new
             ≡ renumber (memory ynd (drop at.nodes self.old.nodes.now) (drop at.links self.old.links.now)
-            self.old.junctions.now self.old.heights.now (drop at.refs self.old.refs.now)) (length scratch.old) places.old }
+            self.old.junctions.now self.old.heights.now (drop at.refs self.old.refs.now)) (length scratch.old)
+            places.old }
         ensures before { (take at.nodes self.new.nodes.now ≡ take at.nodes self.old.nodes.now)
             × (take at.links self.new.links.now ≡ take at.links self.old.links.now)
             × (take at.refs self.new.refs.now ≡ take at.refs self.old.refs.now) }
