@@ -124,36 +124,36 @@ other_graphics_bytes = heights 1 2 9
 -- in offsets 4 to 15
 pub pages_agree : Agree system graphics other_pages graphics
 unfolding agrees same_arrays arrays_of array_at located bytes_of extent root_of unknowns_of number_at node_at junction_at root_bytes node_bytes link_bytes junction_bytes ref_bytes number_bytes bits16 system graphics other_pages
-pages_agree = agree system graphics other_pages graphics tt
+pages_agree = agree system graphics other_pages graphics refl
 
 -- in offsets 88 and 89
 pub first_counts_agree : Agree system graphics other_first_count graphics
 unfolding agrees same_arrays arrays_of array_at located bytes_of extent root_of unknowns_of number_at node_at junction_at root_bytes node_bytes link_bytes junction_bytes ref_bytes number_bytes bits16 system graphics other_first_count
-first_counts_agree = agree system graphics other_first_count graphics tt
+first_counts_agree = agree system graphics other_first_count graphics refl
 
 -- in a gap of the system section, of the graphics section
 pub gaps_agree : Agree system graphics other_gap graphics
 unfolding agrees same_arrays arrays_of array_at located bytes_of extent root_of unknowns_of number_at node_at junction_at root_bytes node_bytes link_bytes junction_bytes ref_bytes number_bytes bits16 system graphics other_gap
-gaps_agree = agree system graphics other_gap graphics tt
+gaps_agree = agree system graphics other_gap graphics refl
 
 pub graphics_gaps_agree : Agree system graphics system other_graphics_gap
 unfolding agrees same_arrays arrays_of array_at located bytes_of extent root_of unknowns_of number_at node_at junction_at root_bytes node_bytes link_bytes junction_bytes ref_bytes number_bytes bits16 system graphics other_graphics_gap
-graphics_gaps_agree = agree system graphics system other_graphics_gap tt
+graphics_gaps_agree = agree system graphics system other_graphics_gap refl
 
 -- in a link that is in no node's range
 pub links_agree : Agree system graphics other_link graphics
 unfolding agrees same_arrays arrays_of array_at located bytes_of extent root_of unknowns_of number_at node_at junction_at root_bytes node_bytes link_bytes junction_bytes ref_bytes number_bytes bits16 system graphics other_link
-links_agree = agree system graphics other_link graphics tt
+links_agree = agree system graphics other_link graphics refl
 
 -- in heightmap bytes that are in no junction's range
 pub heights_agree : Agree system graphics system other_height
 unfolding agrees same_arrays arrays_of array_at located bytes_of extent root_of unknowns_of number_at node_at junction_at root_bytes node_bytes link_bytes junction_bytes ref_bytes number_bytes bits16 system graphics other_height
-heights_agree = agree system graphics system other_height tt
+heights_agree = agree system graphics system other_height refl
 
 -- in all of these at once
 pub all_agree : Agree system graphics other_system_bytes other_graphics_bytes
 unfolding agrees same_arrays arrays_of array_at located bytes_of extent root_of unknowns_of number_at node_at junction_at root_bytes node_bytes link_bytes junction_bytes ref_bytes number_bytes bits16 system graphics other_system_bytes other_graphics_bytes
-all_agree = agree system graphics other_system_bytes other_graphics_bytes tt
+all_agree = agree system graphics other_system_bytes other_graphics_bytes refl
 
 -- ---- so they are read alike; and it is a reading that is accepted
 
@@ -189,7 +189,7 @@ other_bad_system = bad_yard 99
 
 pub bad_agree : Agree bad_system graphics other_bad_system graphics
 unfolding agrees same_arrays arrays_of array_at located bytes_of extent root_of unknowns_of number_at node_at junction_at root_bytes node_bytes link_bytes junction_bytes ref_bytes number_bytes bits16 system graphics bad_system other_bad_system
-bad_agree = agree bad_system graphics other_bad_system graphics tt
+bad_agree = agree bad_system graphics other_bad_system graphics refl
 
 -- both are refused with 3 at 4
 pub bad_refused : (read_of other_bad_system graphics room).answer ≡ Err (BadArray array.Refs)
@@ -215,11 +215,11 @@ other_no_refs = empty_yard 0x500000f4 0 99
 
 pub no_address_agree : Agree no_address graphics other_no_address graphics
 unfolding agrees same_arrays arrays_of array_at located bytes_of extent root_of unknowns_of number_at node_at junction_at root_bytes node_bytes link_bytes junction_bytes ref_bytes number_bytes bits16 system graphics no_address other_no_address
-no_address_agree = agree no_address graphics other_no_address graphics tt
+no_address_agree = agree no_address graphics other_no_address graphics refl
 
 pub no_refs_agree : Agree no_refs graphics other_no_refs graphics
 unfolding agrees same_arrays arrays_of array_at located bytes_of extent root_of unknowns_of number_at node_at junction_at root_bytes node_bytes link_bytes junction_bytes ref_bytes number_bytes bits16 system graphics no_refs other_no_refs
-no_refs_agree = agree no_refs graphics other_no_refs graphics tt
+no_refs_agree = agree no_refs graphics other_no_refs graphics refl
 
 -- a system section of under 112 bytes: the root as far as it goes
 unfoldable pub short : List ℕ
@@ -230,7 +230,7 @@ other_short = take 100 other_pages
 
 pub short_agree : Agree short graphics other_short graphics
 unfolding agrees same_arrays arrays_of array_at located bytes_of extent root_of unknowns_of number_at node_at junction_at root_bytes node_bytes link_bytes junction_bytes ref_bytes number_bytes bits16 system graphics short other_short other_pages
-short_agree = agree short graphics other_short graphics tt
+short_agree = agree short graphics other_short graphics refl
 
 -- ---- they differ in bytes that count, and don't agree
 

@@ -10,7 +10,7 @@ use lib.Dec.{ltb}
 use lib.ListN.{length}
 use borrow.Author.Tests.{lt-ltb, ne_eqb}
 use Rattle.std.proofs.lemmas.Bool.{false≢true}
-use Rattle.numbers.proofs.Units.{lt_or_ge}
+use Rattle.std.proofs.lemmas.Bool.{cases_lt}
 use Rattle.records.specs.Sections.{located, bytes_of, part_bytes, array_at}
 use Rattle.records.specs.declared.root.Root.{Root}
 use Rattle.records.specs.declared.section.Part.{Part}
@@ -27,7 +27,6 @@ use Rattle.numbers.specs.Refusals.{Answer, refuse_if, and_then}
 use Rattle.numbers.specs.Refusals as numbers
 use Rattle.numbers.specs.declared.refusal.Refusal.{Refusal}
 use Rattle.numbers.specs.declared.refusal.Refusal.TheVariants.{SystemTooShort, SystemTooLong, GraphicsTooLong, BadArray}
-use Rattle.numbers.specs.declared.refusal.Array.{Array}
 use Rattle.numbers.specs.declared.refusal.Array.TheVariants as array
 use Rattle.cells.specs.declared.arrays.Arrays as lie
 use Rattle.cells.specs.declared.count.Counts.{Counts}
@@ -40,7 +39,7 @@ if_done_law false cause next e = (refl, e)
 
 -- not under 112 bytes, but for none at all
 not_none : (s : ℕ) → 0 < s → too_few s ≡ false → 112 ≤ s
-not_none s h e = elim (lt_or_ge s 112) [
+not_none s h e = elim (cases_lt s 112) [
   | inl l ↦ absurd (false≢true (sym e ∙ (rw (lt-ltb s 112 l, ne_eqb s 0 (λ z. absurd (omega arith))))))
   | inr g ↦ g
 ]

@@ -3,33 +3,28 @@
 use Prim.Native.Nat.{ℕ, ◌+◌, ◌-◌, ◌≤◌, ◌<◌}
 use native.Mathlib.Omega.{arith}
 use mathlib.Core.Path.{◌≡◌, refl, subst}
-use mathlib.Core.Bool.{Bool, true, false, not}
+use mathlib.Core.Bool.{true, false}
 use mathlib.Core.List.{List, [], ◌∷◌}
-use lib.Dec.{T}
-use Rattle.numbers.proofs.Every.{below, at_number}
+use Rattle.std.proofs.lemmas.Bool.{agree_below, agree_below_at}
 use Rattle.records.specs.Bytes.{byte_at, number_at}
 use Rattle.records.specs.Root.{root_of, unknowns_of}
 use Rattle.agreement.specs.Agree.{left_out}
 use Rattle.agreement.proofs.SameBytes.{number_same}
 
 -- the offsets that count, by one test for each run of them
-not_left_out : (b : Bool) → T (not b) → b ≡ false
-not_left_out true t = absurd t
-not_left_out false t = refl
-
-counts_from : (first n : ℕ) → T (below (λ k. not (left_out (first + k))) n) → (k : ℕ) → first ≤ k → k < first + n → left_out k ≡ false
+counts_from : (first n : ℕ) → agree_below (λ k. left_out (first + k)) (λ _. false) n ≡ true → (k : ℕ) → first ≤ k → k < first + n → left_out k ≡ false
 counts_from first n t k low high =
     let e : first + (k - first) ≡ k = omega arith in
-    subst (λ (x : ℕ). left_out x ≡ false) e (not_left_out (left_out (first + (k - first))) (at_number (λ q. not (left_out (first + q))) n t (k - first) (omega arith)))
+    subst (λ (x : ℕ). left_out x ≡ false) e (agree_below_at (λ q. left_out (first + q)) (λ _. false) n (k - first) t (omega arith))
 
 start_counts : (k : ℕ) → k < 4 → left_out k ≡ false
-start_counts k h = counts_from 0 4 tt k (omega arith) (omega arith)
+start_counts k h = counts_from 0 4 refl k (omega arith) (omega arith)
 
 middle_counts : (k : ℕ) → 16 ≤ k → k < 88 → left_out k ≡ false
-middle_counts k low high = counts_from 16 72 tt k low (omega arith)
+middle_counts k low high = counts_from 16 72 refl k low (omega arith)
 
 end_counts : (k : ℕ) → 90 ≤ k → k < 112 → left_out k ≡ false
-end_counts k low high = counts_from 90 22 tt k low (omega arith)
+end_counts k low high = counts_from 90 22 refl k low (omega arith)
 
 module _ (s s' : List ℕ) (h : (k : ℕ) → k < 112 → left_out k ≡ false → byte_at s k ≡ byte_at s' k) where
   middle : (width at : ℕ) → 16 ≤ at → at + width ≤ 88 → number_at width s at ≡ number_at width s' at

@@ -13,6 +13,7 @@ use crate::ynd::Ynd;
 use numbers::refusal::{Lent, Refusal};
 
 // Where the new link goes.
+#[tactic(auto, using(crate::proofs::Rules::zero_tests), unfolding(crate::specs::AddLink::behind))]
 fn behind_of(s: usize, e: usize, l: usize) -> usize
     requires { s + e < 18446744073709551616 }
     ensures { result ≡ behind s e l }
@@ -24,6 +25,7 @@ fn behind_of(s: usize, e: usize, l: usize) -> usize
 }
 
 // The entries from `at` to l move up by one.
+#[tactic(auto, using(crate::proofs::Editing::Inserted::insert_moved))]
 fn insert(links: &mut [LinkWords], at: usize, l: usize, link: LinkWords)
     requires { (at ≤ l) × (l < length links.old) }
     ensures { links.new ≡ inserted at l link links.old }

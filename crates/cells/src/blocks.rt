@@ -14,6 +14,7 @@ use crate::write_checks::{links_within, values_within};
 use records::layout::gap_for;
 
 // Zeros up to the next multiple of 16, where an array of that size starts.
+#[tactic(auto, using(records::proofs::Puts::put_laws))]
 pub(crate) fn pad(section: &mut [u8], at: usize, size: usize) -> usize
     requires { at + gap_for at size ≤ length section.old }
     ensures { (result ≡ at + gap_for at size)
@@ -25,6 +26,7 @@ pub(crate) fn pad(section: &mut [u8], at: usize, size: usize) -> usize
 }
 
 // Refs, or links: a record of eight bytes for each.
+#[tactic(auto, using(crate::proofs::Rules::joined_laws))]
 pub(crate) fn put_records<F: Fn([u16; 4]) -> [u8; 8]>(
     section: &mut [u8],
     at: usize,
@@ -45,6 +47,7 @@ pub(crate) fn put_records<F: Fn([u16; 4]) -> [u8; 8]>(
     p
 }
 
+#[tactic(auto, using(crate::proofs::Rules::links_laws), unfolding(crate::specs::Entries::links_in, records::specs::Put::joined))]
 pub(crate) fn put_links(
     section: &mut [u8],
     at: usize,
@@ -63,6 +66,7 @@ pub(crate) fn put_links(
     p
 }
 
+#[tactic(auto, using(crate::proofs::Rules::joined_laws), unfolding(crate::specs::Entries::values_in, records::specs::Put::joined))]
 pub(crate) fn put_heights(
     section: &mut [u8],
     at: usize,
@@ -82,7 +86,7 @@ pub(crate) fn put_heights(
     p
 }
 
-#[tactic(auto, using(crate::proofs::Writing::BlockLaws::junctions_length))]
+#[tactic(auto, using(crate::proofs::Rules::junctions_laws))]
 pub(crate) fn put_junctions(
     section: &mut [u8],
     at: usize,
@@ -104,7 +108,7 @@ pub(crate) fn put_junctions(
     p
 }
 
-#[tactic(auto, using(crate::proofs::Writing::BlockLaws::nodes_length))]
+#[tactic(auto, using(crate::proofs::Rules::nodes_laws))]
 pub(crate) fn put_nodes(
     section: &mut [u8],
     at: usize,

@@ -12,6 +12,7 @@ use records::junction_ref::ref_at;
 use records::link::link_at;
 
 // The links of the file's list from `from` on.
+#[tactic(auto, using(crate::proofs::Reading::ReadLaws::fill_turn), unfolding(crate::specs::Read::links_from, crate::specs::Lists::up_to))]
 pub(crate) fn copy_links(l: &[u8], from: usize, links: &mut [LinkWords])
     requires { (from < 65536) × (length links.old < 65536) }
     ensures { links.new ≡ links_from l.now from (length links.old) }
@@ -23,6 +24,7 @@ pub(crate) fn copy_links(l: &[u8], from: usize, links: &mut [LinkWords])
 }
 
 // The heightmap bytes from `from` on.
+#[tactic(auto, using(crate::proofs::Reading::ReadLaws::fill_turn), unfolding(crate::specs::Read::values_from, crate::specs::Lists::up_to))]
 pub(crate) fn copy_values(h: &[u8], from: usize, values: &mut [u8])
     requires { (from < 65536) × (length values.old < 65536) }
     ensures { values.new ≡ values_from h.now from (length values.old) }
@@ -33,7 +35,7 @@ pub(crate) fn copy_values(h: &[u8], from: usize, values: &mut [u8])
 }
 
 // Each record, and its range of the second array after those of the records before it.
-#[tactic(auto, using(crate::proofs::Reading::ReadLaws::sum_room))]
+#[tactic(auto, using(crate::proofs::Rules::fill_laws))]
 pub(crate) fn fill_ranges<R: Ranged>(records: R, entries: &mut [R::Entry], parts: &mut [R::Part])
     requires { (length entries.old ≤ 65536) × (length parts.old ≡ sum_to (R.count records) (length entries.old)) }
     ensures { (entries.new ≡ up_to (λ i. R.entry_at records i (sum_to (R.count records) i)) (length entries.old))
@@ -47,6 +49,7 @@ pub(crate) fn fill_ranges<R: Ranged>(records: R, entries: &mut [R::Entry], parts
     }
 }
 
+#[tactic(auto, using(crate::proofs::Reading::ReadLaws::fill_turn), unfolding(crate::specs::Read::ref_in, crate::specs::Lists::up_to))]
 pub(crate) fn fill_refs(r: &[u8], refs: &mut [RefWords])
     requires { length refs.old ≤ 16777216 }
     ensures { refs.new ≡ up_to (ref_in r.now) (length refs.old) }

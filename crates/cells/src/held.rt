@@ -22,6 +22,7 @@ pub(crate) struct Held<'a> {
 }
 
 impl<'a> Held<'a> {
+    #[tactic(auto, using(crate::proofs::Writing::Ranges::front), unfolding(crate::specs::Write::held))]
     pub(crate) fn new(
         ynd: Ynd,
         nodes: &'a [NodeWords],

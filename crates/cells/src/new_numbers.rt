@@ -20,6 +20,7 @@ fn keep_numbers(table: &mut [u32])
 }
 
 // The numbers that nodes have; the last node with a number counts.
+#[tactic(auto, using(crate::proofs::Rules::table_laws), unfolding(crate::specs::Order::last_with))]
 fn put_numbers(nodes: &[NodeWords], table: &mut [u32], places: &[u32])
     requires { (length table.old ≡ 65536) × (places.now ≡ new_places (map is_ped nodes.now))
         × ((k : ℕ) → k < 65536 → get_or table.old k 0 ≡ k) }

@@ -8,6 +8,7 @@ use crate::node::NodeWords;
 use crate::node_words::is_ped;
 
 // How many of the nodes are no ped nodes.
+#[tactic(auto, using(crate::proofs::Sequences::Tests::keep_counted))]
 pub(crate) fn count_vehicles(nodes: &[NodeWords]) -> usize
     ensures value { result ≡ length (keep is_vehicle nodes.now) }
     ensures few { result ≤ length nodes.now }

@@ -8,6 +8,7 @@ use crate::node::NodeWords;
 use crate::node_words::with_number;
 
 // The nodes moved: `to[i]` is where node i goes. The nodes are then those of any list that has them so.
+#[tactic(auto, using(crate::proofs::Rules::permute_laws))]
 fn permute(nodes: &mut [NodeWords], to: &mut [u32])
     requires { (length to.old ≡ length nodes.old) × Places (length nodes.old) to.old }
     ensures { (f : List (List ℕ)) → length f ≡ length nodes.old

@@ -48,6 +48,7 @@ fn room_for_map(
 }
 
 // The junction with a map of this size from s on.
+#[tactic(auto, using(crate::proofs::Editing::EditLaws::map_stored), unfolding(crate::specs::PutHeightmap::mapped))]
 fn with_map(w: JunctionWords, width: u8, height: u8, s: u32) -> JunctionWords
     ensures { result ≡ mapped width height s w }
 {

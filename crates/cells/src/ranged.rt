@@ -81,6 +81,7 @@ impl Ranged for FileNodes<'_> {
 
     ghost long = { λ f. length_links f.n.now f.l.now };
 
+    #[tactic(auto, unfolding(records::specs::Records::node_at))]
     fn range(self, i: usize) -> Range {
         Range {
             start: u16_at(self.n, (i * 40) as u32 + 26) as usize,
@@ -96,6 +97,7 @@ impl Ranged for FileNodes<'_> {
         NodeWords::from(path_node(node_at(self.n, (i * 40) as u32), first))
     }
 
+    #[tactic(auto, using(crate::proofs::Reading::ReadLaws::part_stored), unfolding(crate::specs::Read::links_in))]
     fn fill_part(self, i: usize, held: usize, parts: &mut [LinkWords]) {
         let range = self.range(i);
         copy_links(self.l, range.start, &mut parts[held..held + range.count]);
@@ -126,6 +128,7 @@ impl Ranged for FileJunctions<'_> {
 
     ghost long = { λ f. length_values f.j.now f.h.now };
 
+    #[tactic(auto, unfolding(records::specs::Records::junction_at))]
     fn range(self, i: usize) -> Range {
         Range {
             start: u16_at(self.j, (i * 12) as u32 + 8) as usize,
@@ -141,6 +144,7 @@ impl Ranged for FileJunctions<'_> {
         JunctionWords::from(path_junction(junction_at(self.j, (i * 12) as u32), first))
     }
 
+    #[tactic(auto, using(crate::proofs::Reading::ReadLaws::part_stored), unfolding(crate::specs::Read::values_in))]
     fn fill_part(self, i: usize, held: usize, parts: &mut [u8]) {
         let range = self.range(i);
         copy_values(self.h, range.start, &mut parts[held..held + range.count]);

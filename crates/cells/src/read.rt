@@ -68,7 +68,7 @@ fn read_arrays(
 }
 
 // Reads a cell from two sections into the memory lent.
-#[tactic(auto, unfolding(crate::specs::Read::read_of))]
+#[tactic(auto, using(crate::proofs::Rules::sections_laws), unfolding(crate::specs::Read::read_of))]
 pub fn read<'a>(
     ynd: Ynd,
     system: &'a [u8],

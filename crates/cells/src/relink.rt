@@ -48,6 +48,7 @@ impl Old<'_> {
     }
 
     // The links or refs.
+    #[tactic(auto, using(crate::proofs::Rules::mapped_laws))]
     fn relink_all(&self, links: &mut [LinkWords])
         ensures { links.new ≡ map (relinked (old_of (length self.now.nodes.now) self.now.nodes.now)) links.old }
     {

@@ -39,7 +39,7 @@ fn renumber_lists(
 }
 
 // Whether the call is accepted, with lists of these lengths.
-#[tactic(auto, using(numbers::proofs::Refusing::tested), unfolding(crate::specs::Renumber::answer_of, crate::specs::Memory::short_of, crate::specs::Read::room_check))]
+#[tactic(auto, using(numbers::proofs::Refusing::tested, crate::proofs::Forms::Limits::within), unfolding(crate::specs::Renumber::answer_of, crate::specs::Memory::short_of, crate::specs::Read::room_check))]
 fn check_call(ynd: Ynd, lent: Counts, scratch: usize, places: usize) -> Result<(), Refusal>
     ensures value { result ≡ answer_of (over_limit ynd) ynd.node_count
         (short_of ynd lent.nodes lent.links lent.junctions lent.heights lent.refs) scratch places }
@@ -74,7 +74,7 @@ fn recount(ynd: Ynd, v: u32, p: u32) -> Ynd
 
 // Renumbers the cell, and fills `places` with each node's new place. The scratch holds anything after an accepted
 // call; a refusal changes nothing.
-#[tactic(auto, unfolding(crate::specs::Renumber::renumber))]
+#[tactic(auto, using(crate::proofs::Rules::renumber_laws), unfolding(crate::specs::Renumber::renumber, crate::specs::Renumber::renumber_memory, crate::specs::Renumber::new_lists, crate::specs::Renumber::renumber_lists, crate::specs::Renumber::vehicles))]
 pub fn recalculate_node_indices(
     ynd: Ynd,
     nodes: &mut [NodeWords],

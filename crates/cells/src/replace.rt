@@ -40,6 +40,7 @@ pub(crate) struct Placed {
 }
 
 // c new entries in place of the range's, of l.
+#[tactic(auto, using(crate::proofs::Editing::Replacing::placing, crate::proofs::Editing::EditLaws::held_bound))]
 pub(crate) fn placing(r: Range, c: usize, l: usize) -> Placed
     requires { l + c < 18446744073709551616 }
     ensures start { result.start ≡ place_for r.start (held_in r l) c l }
@@ -56,6 +57,7 @@ pub(crate) fn placing(r: Range, c: usize, l: usize) -> Placed
 }
 
 // The entries from `at` on are the new ones.
+#[tactic(auto, using(records::proofs::Puts::put_part))]
 pub(crate) fn put_at<T: Copy>(list: &mut [T], at: usize, new: &[T])
     requires { at + length new.now ≤ length list.old }
     ensures { list.new ≡ put list.old at new.now }

@@ -12,6 +12,7 @@ fn with_count(w: u32, c: u8) -> u32
 }
 
 // The node with c links from s.
+#[tactic(auto, using(crate::proofs::Editing::EditLaws::range_stored), unfolding(crate::specs::AddLink::ranged))]
 pub(crate) fn with_range(w: NodeWords, s: u32, c: u8) -> NodeWords
     ensures { result ≡ ranged s c w }
 {
@@ -33,6 +34,7 @@ fn shift(w: &mut NodeWords, at: usize, l: usize)
 }
 
 // The nodes, each with its range moved if it starts at or behind a place of l.
+#[tactic(auto, using(crate::proofs::Rules::mapped_laws))]
 pub(crate) fn shift_all(nodes: &mut [NodeWords], at: usize, l: usize)
     requires { l < 4294967295 }
     ensures { nodes.new ≡ map (shifted at l) nodes.old }

@@ -9,20 +9,22 @@ use crate::junction::{JunctionWords, PathJunction};
 use crate::junction_ref::{RefWords, ref_of};
 use crate::link::{LinkWords, PathLink};
 use crate::node::{NodeWords, PathNode};
-use numbers::position::quantise;
+use numbers::position::quantise_bits;
 use numbers::steps::{steps_xy, steps_z};
 use records::junction::{NodeJunction, junction_bytes};
 use records::junction_ref::ref_bytes;
 use records::link::{NodeLink, link_bytes};
 use records::node::{Node, node_bytes};
 
-// Its links, `count` in number, are stored from `start` on.
-fn file_node(n: PathNode, start: u16, count: u8) -> Node
+// Its links, `count` in number, are stored from `start` on. Its steps come from the words: a coordinate need not be made
+// an f32 first.
+#[tactic(auto, using(crate::proofs::Rules::file_laws), unfolding(crate::specs::Entries::file_node, crate::specs::Words::to_node))]
+fn file_node(w: NodeWords, start: u16, count: u8) -> Node
     requires { count ≤ 31 }
-    ensures { result ≡ file_node start count n }
+    ensures { result ≡ file_node start count (to_node w) }
 {
-    let p = n.position;
-    let q = quantise(p);
+    let n = PathNode::from(w);
+    let q = quantise_bits(w[2], w[3], w[4]);
     Node {
         unused0: n.unused0,
         unused1: n.unused1,
@@ -62,6 +64,7 @@ impl From<PathLink> for NodeLink {
 }
 
 // `start` heightmap bytes stand before its own.
+#[tactic(auto, using(crate::proofs::Rules::file_laws), unfolding(crate::specs::Entries::file_junction))]
 fn file_junction(j: PathJunction, start: u16) -> NodeJunction
     ensures { result ≡ file_junction start j }
 {
@@ -87,7 +90,7 @@ pub(crate) fn node_record(w: NodeWords, start: u16, count: u8) -> [u8; 40]
     requires { count ≤ 31 }
     ensures { result ≡ node_bytes (file_node start count (to_node w)) }
 {
-    node_bytes(file_node(PathNode::from(w), start, count))
+    node_bytes(file_node(w, start, count))
 }
 
 pub(crate) fn link_record(w: LinkWords) -> [u8; 8]

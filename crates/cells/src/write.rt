@@ -80,6 +80,7 @@ fn root_for(ynd: Ynd, k: Counts, places: Places) -> Root
 }
 
 // The five arrays behind the header, where the section has room.
+#[tactic(auto, using(crate::proofs::Rules::arrays_laws), unfolding(crate::specs::Blocks::arrays))]
 fn put_arrays(section: &mut [u8], h: Held, k: Counts)
     requires room { header_size + length (lay header_size (blocks (memory_of h))) ≤ length section.old }
     requires ready { Counted (memory_of h) k }

@@ -13,6 +13,7 @@ use crate::room::over_limit;
 use numbers::refusal::Refusal;
 
 // How many of `pool` links a node's words name.
+#[tactic(auto, unfolding(crate::specs::WriteChecks::links_within))]
 pub(crate) fn links_within(w: NodeWords, pool: usize) -> usize
     ensures { (result ≡ links_within pool w) × (result < 256) }
 {
@@ -20,6 +21,7 @@ pub(crate) fn links_within(w: NodeWords, pool: usize) -> usize
 }
 
 // How many of `pool` heightmap bytes a junction's words name.
+#[tactic(auto, unfolding(crate::specs::WriteChecks::values_within))]
 pub(crate) fn values_within(w: JunctionWords, pool: usize) -> usize
     ensures { (result ≡ values_within pool w) × (result < 65536) }
 {
@@ -68,7 +70,7 @@ fn check_junctions(junctions: &[JunctionWords], pool: usize) -> Result<usize, Re
 }
 
 // 14, 12 and 8 to 11, of a cell. Else how much there is to write.
-#[tactic(auto, using(crate::proofs::Rules::refused_laws))]
+#[tactic(auto, using(crate::proofs::Rules::counts_laws), unfolding(crate::specs::WriteCounts::write_counts))]
 pub(crate) fn write_counts(h: Held) -> Result<Counts, Refusal>
     ensures value { result ≡ write_counts (memory_of h.entry) }
     ensures ready { IfOk result (λ k. Counted (memory_of h.entry) k) }

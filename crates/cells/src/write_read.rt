@@ -27,7 +27,7 @@ pub struct WroteRead {
 }
 
 // Writes the cell, if it can be read back into lists of so many. A refusal stores nothing.
-#[tactic(auto, using(crate::proofs::Rules::store_laws))]
+#[tactic(auto, using(crate::proofs::Rules::back_laws), unfolding(crate::specs::BackAnswer::back_answer))]
 fn write_back(h: Held, lent: Counts, section: &mut [u8]) -> Result<usize, Refusal>
     ensures value { result ≡ back_answer (memory_of h.entry) lent (length section.old) }
     ensures stored { IfOk result (λ n. section.new ≡ (stored (memory_of h.entry) section.old).section) }

@@ -9,6 +9,8 @@ use crate::words::ynd_of;
 use cells::node::NodeWords;
 use numbers::refusal::Refusal;
 
+// Put in line, so that what was found goes straight to the caller and not through memory.
+#[inline(always)]
 fn tell_found<T: Copy>(
     r: Result<Option<T>, Refusal>,
     found: &mut bool,

@@ -1,10 +1,10 @@
 -- In the grid the bounds of a cell are exact: n * 512 - 8192, and that of n + 1. Each by a computed test of the 32 cells. Assumes nothing.
-use Rattle.std.proofs.Common.{◌≡◌, ℕ, suc, ◌*◌, ◌<◌, Bool, true, false, T, eqb, pos, ◌-ℤ◌, sym, ap, ◌∙◌, eqb→eq}
+use Rattle.std.proofs.Common.{◌≡◌, ℕ, suc, ◌*◌, ◌<◌, Bool, true, false, T, eqb, pos, ◌-ℤ◌, sym, ap, ◌∙◌, refl, eqb-true}
+use Rattle.std.proofs.lemmas.Bool.{agree_below, agree_below_at}
 use lib.Ieee.{Float, fin, binary32, to_bits, of_bits, of_int, mul, fits}
 use lib.Ieee.Bits.{of_bits-to_bits}
 use lib.Ieee.Fits.{add-fits, of_int-fits}
 use Rattle.numbers.specs.Grid.{lower_bound, upper_bound}
-use Rattle.numbers.proofs.Every.{below, at_number}
 
 -- the whole number n * 512 - 8192, as an f32
 unfoldable pub corner : ℕ → Float
@@ -22,8 +22,10 @@ same_bits x y p q e = sym (of_bits-to_bits binary32 x p) ∙ ap (of_bits binary3
 abbrev alike : (ℕ → Float) → (ℕ → Float) → ℕ → Bool
 alike f g n = eqb (to_bits binary32 (f n)) (to_bits binary32 (g n))
 
-agree : (f g : ℕ → Float) (m : ℕ) → ((n : ℕ) → T (fits binary32 (f n))) → ((n : ℕ) → T (fits binary32 (g n))) → T (below (alike f g) m) → (n : ℕ) → n < m → f n ≡ g n
-agree f g m p q t n h = same_bits (f n) (g n) (p n) (q n) (eqb→eq (to_bits binary32 (f n)) (to_bits binary32 (g n)) (at_number (alike f g) m t n h))
+agree : (f g : ℕ → Float) (m : ℕ) → ((n : ℕ) → T (fits binary32 (f n))) → ((n : ℕ) → T (fits binary32 (g n)))
+    → agree_below (alike f g) (λ _. true) m ≡ true → (n : ℕ) → n < m → f n ≡ g n
+agree f g m p q t n h =
+    same_bits (f n) (g n) (p n) (q n) (eqb-true (to_bits binary32 (f n)) (to_bits binary32 (g n)) (agree_below_at (alike f g) (λ _. true) m n t h))
 
 -- ---- all four are f32s
 lower_fits : (n : ℕ) → T (fits binary32 (lower_bound n))
@@ -45,8 +47,8 @@ next_fits n = corner_fits (suc n)
 -- ---- the laws
 pub lower_exact : (n : ℕ) → n < 32 → lower_bound n ≡ corner n
 unfolding lower_bound corner to_bits
-lower_exact n h = agree lower_bound corner 32 lower_fits corner_fits tt n h
+lower_exact n h = agree lower_bound corner 32 lower_fits corner_fits refl n h
 
 pub upper_exact : (n : ℕ) → n < 32 → upper_bound n ≡ corner (suc n)
 unfolding upper_bound next to_bits
-upper_exact n h = agree upper_bound next 32 upper_fits next_fits tt n h
+upper_exact n h = agree upper_bound next 32 upper_fits next_fits refl n h

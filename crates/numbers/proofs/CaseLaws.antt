@@ -1,11 +1,11 @@
 -- T-04: the five cases of a stored step. Every pattern is in exactly one, and its step is what the case gives.
 -- Assumes nothing.
-use Rattle.std.proofs.Common.{◌≡◌, ℕ, ◌-◌, ◌<◌, ◌≤◌, subst, inl, inr, eq-zero-or-pos, arith, le-ltb, lt-ltb, eq-eqb, ne_eqb}
+use Rattle.std.proofs.Common.{◌≡◌, ℕ, ◌-◌, ◌≤◌, subst, inl, inr, eq-zero-or-pos, arith, le-ltb, lt-ltb, eq-eqb, ne_eqb}
 use lib.Ieee.{binary32, of_bits}
 use Rattle.numbers.specs.Steps.{step_of}
 use Rattle.numbers.specs.Cases.{field, fraction, StepCase, InCase, case_of, OneCase, case_step}
 use Rattle.numbers.specs.Cases.{too_small, within_range, beyond_range, infinite, not_a_number}
-use Rattle.numbers.proofs.Units.{lt_or_ge}
+use Rattle.std.proofs.lemmas.Bool.{cases_lt}
 use Rattle.numbers.proofs.StepLaws as step
 
 -- ---- exactly one: what a case says names it in the order of the questions, and the case so named says it
@@ -31,34 +31,25 @@ said : (c : StepCase) (k e f : ℕ) → InCase c k e f → InCase (case_of k e f
 said c k e f h = subst (λ (d : StepCase). InCase d k e f) (named c k e f h) h
 
 in_its_case : (k e f : ℕ) → e ≤ 255 → InCase (case_of k e f) k e f
-in_its_case k e f h = elim (lt_or_ge e (127 - k)) [
+in_its_case k e f h = elim (cases_lt e (127 - k)) [
   | inl l ↦ said too_small k e f l
-  | inr g ↦ elim (lt_or_ge e (142 - k)) [
+  | inr g ↦ elim (cases_lt e (142 - k)) [
     | inl l ↦ said within_range k e f (g, l)
-    | inr u ↦ elim (lt_or_ge e 255) [
+    | inr u ↦ elim (cases_lt e 255) [
       | inl l ↦ said beyond_range k e f (u, l)
       | inr t ↦ elim (eq-zero-or-pos f) [
-        | inl z ↦ said infinite k e f (top e h t, z)
-        | inr p ↦ said not_a_number k e f (top e h t, some f p)
+        | inl z ↦ said infinite k e f (omega arith, z)
+        | inr p ↦ said not_a_number k e f (omega arith, λ z. omega arith)
       ]
     ]
   ]
 ]
-  where
-    top : (e : ℕ) → e ≤ 255 → 255 ≤ e → e ≡ 255
-    top e h t = omega arith
-
-    some : (f : ℕ) → 0 < f → f ≡ 0 → ⊥
-    some f p z = omega arith
 
 pub every_pattern : (k b : ℕ) → OneCase (case_of k (field b) (fraction b)) k b
 every_pattern k b = record {
-  holds = in_its_case k (field b) (fraction b) (field_in b);
+  holds = in_its_case k (field b) (fraction b) (omega arith);
   only = λ other h. named other k (field b) (fraction b) h;
 }
-  where
-    field_in : (b : ℕ) → field b ≤ 255
-    field_in b = omega arith
 
 -- ---- what each gives
 pub case_gives : (c : StepCase) (k b : ℕ) → k ≤ 5 → InCase c k (field b) (fraction b)

@@ -1,7 +1,8 @@
 -- The whole part of a float, and what the tests `q >= n.0` say of it. Assumes nothing.
-use Rattle.std.proofs.Common.{◌≡◌, ℕ, ◌+◌, ◌-◌, ◌*◌, ◌/◌, ◌^◌, ◌<◌, ◌≤◌, min, Bool, true, false, cond, not, ◌&&◌, ◌||◌, T, eqb, ltb, ◌⊎◌, ℤ, pos, sym, ap, ◌∙◌, subst, inl, inr, le_trans, le_of_eq, lt_of_lt_of_le, lt_of_le_of_lt, le_of_lt, lt_irrefl, mul-le-mul_right, zero-lt-suc, div-lt_iff_lt-mul, mul-pos, le-div_iff_mul-le, mul-one, arith, eqb→eq, ltb→lt, lt→ltb, nltb→le}
+use Rattle.std.proofs.Common.{◌≡◌, ℕ, ◌+◌, ◌-◌, ◌*◌, ◌/◌, ◌^◌, ◌<◌, ◌≤◌, min, Bool, true, false, cond, ◌&&◌, ◌||◌, T, eqb, ltb, ℤ, pos, sym, ap, ◌∙◌, subst, le_trans, le_of_eq, lt_of_lt_of_le, lt_of_le_of_lt, lt_irrefl, mul-le-mul_right, zero-lt-suc, div-lt_iff_lt-mul, mul-pos, le-div_iff_mul-le, mul-one, arith, eqb→eq, lt→ltb}
+use Rattle.std.proofs.lemmas.Bool.Decides.{nat_tests}
 use lib.Ieee.{Float, nan, inf, fin, up, down, lt, le, to_unsigned}
-use lib.Ieee.Fits.{down_pos, and_l, and_r, eq→eqb}
+use lib.Ieee.Fits.{down_pos, and_r}
 use lib.Ieee.Exact.{HasValue}
 use lib.Ieee.Nearest.{div_same}
 
@@ -18,27 +19,11 @@ cut_of_value (fin t m e) a c C h =
     ∙ ap (λ (n : ℕ). min n (2 ^ 64 - 1)) (div_same (m * up e) (down e) a c (down_pos e) C h.1)
 
 -- ---- `<=` of two values with no sign, as their fractions
-or_split : (a b : Bool) → T (a || b) → T a ⊎ T b
-or_split true b t = inl tt
-or_split false b t = inr t
-
-or_none_law : (a b : Bool) → a || b ≡ false → T (not a)
-or_none_law true b e = absurd (subst T e tt)
-or_none_law false b e = tt
-
 pub lt_or_eq : (a b : ℕ) → T (ltb a b || (eqb a b && true)) → a ≤ b
-lt_or_eq a b t = elim (or_split (ltb a b) (eqb a b && true) t) [ inl u ↦ le_of_lt (ltb→lt a b u) | inr u ↦ le_of_eq (eqb→eq a b (and_l (eqb a b) true u)) ]
+lt_or_eq a b t = grind (arith, nat_tests)
 
 not_le : (a b : ℕ) → ltb a b || (eqb a b && true) ≡ false → b < a
-not_le a b e = strict a b (nltb→le a b (or_none_law (ltb a b) (eqb a b && true) e)) (λ (p : a ≡ b). clash (ltb a b) (eqb a b) (eq→eqb p) e)
-  where
-    clash : (x y : Bool) → T y → x || (y && true) ≡ false → ⊥
-    clash true y t e = subst T e tt
-    clash false true t e = subst T e tt
-    clash false false t e = t
-
-    strict : (a b : ℕ) → b ≤ a → (a ≡ b → ⊥) → b < a
-    strict a b h n = omega arith
+not_le a b e = grind (arith, nat_tests)
 
 -- ---- the code's two tests, `q >= n.0`
 pub at_least : (n : ℕ) (q : Float) → 0 < n → n < 2 ^ 64 → le (fin false n (pos 0)) q ≡ true → n ≤ cut q
@@ -84,9 +69,6 @@ cut_asks n (fin true m e) N L h k = absurd (zero_no (1 * 1 * down e) (m * up e *
     zero_no : (a b : ℕ) → 0 < a → T (false || (eqb a b && (false || eqb a 0))) → ⊥
     zero_no a b h t = lt_irrefl 0 (subst (λ (x : ℕ). 0 < x) (eqb→eq a 0 (and_r (eqb a b) (eqb a 0) t)) h)
 cut_asks n (fin false m e) N L h k = (
-  lt→ltb 0 (1 * 1 * down e + m * up e * 1) (some (down e) (m * up e * 1) (down_pos e)),
+  lt→ltb 0 (1 * 1 * down e + m * up e * 1) (omega (arith, down_pos e)),
   lt→ltb (m * up e * 1) (1 * 2 ^ 64 * down e) (lt_of_le_of_lt (le_of_eq (mul-one (m * up e))) (lt_of_lt_of_le (under_fraction n m e k) (mul-le-mul_right (down e) L))),
 )
-  where
-    some : (d a : ℕ) → 0 < d → 0 < 1 * 1 * d + a
-    some d a h = omega arith

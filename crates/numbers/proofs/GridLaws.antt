@@ -1,14 +1,14 @@
 -- The cell of y is the whole part of the f32 quotient y / 512, limited: the quotient is exact, or both are below 1. Assumes nothing.
-use Rattle.std.proofs.Common.{◌≡◌, ℕ, zero, suc, ◌+◌, ◌-◌, ◌*◌, ◌/◌, ◌%◌, ◌^◌, ◌<◌, ◌≤◌, min, Bool, true, false, cond, T, ltb, ℤ, pos, negsuc, sym, refl, ap, ◌∙◌, subst, inl, inr, le_trans, le_of_eq, lt_of_lt_of_le, lt_of_le_of_lt, mul-le-mul_right, zero-lt-suc, mul_assoc, mul_comm, lt_of_mul-lt-mul_right, mul-le-mul_left, mul-lt-mul_of_pos_right, mul-pos, mul-one, arith, ltb→lt, pow_pos, pow_mono, pow-add}
+use Rattle.std.proofs.Common.{◌≡◌, ℕ, zero, suc, ◌+◌, ◌-◌, ◌*◌, ◌/◌, ◌%◌, ◌^◌, ◌<◌, ◌≤◌, min, Bool, true, false, cond, T, ltb, ℤ, pos, negsuc, sym, refl, ap, ◌∙◌, subst, inl, inr, le_trans, le_of_eq, lt_of_lt_of_le, lt_of_le_of_lt, mul-le-mul_right, zero-lt-suc, mul_assoc, mul_comm, lt_of_mul-lt-mul_right, mul-le-mul_left, mul-lt-mul_of_pos_right, mul-pos, mul-one, arith, pow_pos, pow_mono, pow-add}
 use Prim.Native.Nat.{compare}
 use native.Mathlib.Nat.{div-eq_of_lt}
-use lib.Bits.{bit_and, and_mask, and_high}
 use lib.Ieee.{Float, nan, inf, fin, binary32, up, down, fits, size, nearest, odd, units, round, div, le, to_unsigned}
-use lib.Ieee.Fits.{down_pos, and_l, and_r}
+use lib.Ieee.Fits.{down_pos}
 use lib.Ieee.Exact.{round_exact}
 use lib.Ieee.Order.{round_mono}
 use Rattle.numbers.specs.Grid.{grid_floor, in_grid}
-use Rattle.numbers.proofs.Units.{Units, units_of, lt_or_ge}
+use Rattle.std.proofs.lemmas.Bool.{and_parts, cases_lt, ltb-true}
+use Rattle.numbers.proofs.Units.{Units, units_of}
 use Rattle.numbers.proofs.Cuts.{cut, cut_of_value, lt_or_eq}
 
 -- a value at most a half is cut to 0
@@ -18,10 +18,7 @@ half nan h = absurd h
 half (inf true) h = refl
 half (inf false) h = absurd h
 half (fin true m e) h = refl
-half (fin false m e) h = ap (λ (n : ℕ). min n (2 ^ 64 - 1)) (div-eq_of_lt (low (m * up e) (down e) (down_pos e) (lt_or_eq (m * up e * 2) (1 * 1 * down e) h)))
-  where
-    low : (a d : ℕ) → 0 < d → a * 2 ≤ 1 * 1 * d → a < d
-    low a d D h = omega arith
+half (fin false m e) h = ap (λ (n : ℕ). min n (2 ^ 64 - 1)) (div-eq_of_lt (omega (arith, down_pos e, lt_or_eq (m * up e * 2) (1 * 1 * down e) h)))
 
 -- with at least nine zeros at its end the number of units is divided exactly
 many : (m j d a : ℕ) → 9 ≤ j → a * 2 ^ 149 ≡ m * 2 ^ j * d → a * 1 * 2 ^ 149 ≡ m * 2 ^ (j - 9) * (1 * 2 ^ 9 * d)
@@ -41,10 +38,7 @@ few m j d a s l D e =
     lt_of_mul-lt-mul_right (2 ^ 149)
     (lt_of_le_of_lt (le_of_eq e)
     (lt_of_lt_of_le (mul-lt-mul_of_pos_right (mul-lt-mul_of_pos_right s (pow_pos j)) D)
-    (le_trans (mul-le-mul_right d (le_trans (le_of_eq (sym (pow-add 2 24 j))) (pow_mono (fit j l)))) (le_of_eq (mul_comm (2 ^ 149) d)))))
-  where
-    fit : (j : ℕ) → j < 9 → 24 + j ≤ 149
-    fit j l = omega arith
+    (le_trans (mul-le-mul_right d (le_trans (le_of_eq (sym (pow-add 2 24 j))) (pow_mono {j = 149} (omega arith)))) (le_of_eq (mul_comm (2 ^ 149) d)))))
 
 den_is : (d : ℕ) → 1 * 2 ^ 9 * d ≡ d * 512
 den_is d = mul_comm 512 d
@@ -54,24 +48,15 @@ unfolding round
 a_half = refl
 
 quotient : (m : ℕ) (e : ℤ) → Units m e → cut (round binary32 false (m * up e * 1) (1 * 2 ^ 9 * down e)) ≡ min (m * up e / (down e * 512)) (2 ^ 64 - 1)
-quotient m e u = elim (lt_or_ge u.j 9) [
+quotient m e u = elim (cases_lt u.j 9) [
   | inl l ↦
-      half (round binary32 false (m * up e * 1) (1 * 2 ^ 9 * down e)) (subst (λ (h : Float). T (le (round binary32 false (m * up e * 1) (1 * 2 ^ 9 * down e)) h)) a_half (round_mono binary32 (m * up e * 1) (1 * 2 ^ 9 * down e) 1 2 (mul-pos (zero-lt-suc 511) (down_pos e)) (zero-lt-suc 1) (below_half (m * up e) (down e) (few m u.j (down e) (m * up e) u.small l (down_pos e) u.value))))
-      ∙ ap (λ (n : ℕ). min n (2 ^ 64 - 1)) (sym (div-eq_of_lt (below_whole (m * up e) (down e) (few m u.j (down e) (m * up e) u.small l (down_pos e) u.value))))
+      half (round binary32 false (m * up e * 1) (1 * 2 ^ 9 * down e)) (subst (λ (h : Float). T (le (round binary32 false (m * up e * 1) (1 * 2 ^ 9 * down e)) h)) a_half (round_mono binary32 (m * up e * 1) (1 * 2 ^ 9 * down e) 1 2 (mul-pos (zero-lt-suc 511) (down_pos e)) (zero-lt-suc 1) (omega (arith, few m u.j (down e) (m * up e) u.small l (down_pos e) u.value))))
+      ∙ ap (λ (n : ℕ). min n (2 ^ 64 - 1)) (sym (div-eq_of_lt (omega (arith, few m u.j (down e) (m * up e) u.small l (down_pos e) u.value))))
   | inr g ↦
       cut_of_value (round binary32 false (m * up e * 1) (1 * 2 ^ 9 * down e)) (m * up e * 1) (1 * 2 ^ 9 * down e) (mul-pos (zero-lt-suc 511) (down_pos e))
-      (round_exact binary32 false (m * up e * 1) (1 * 2 ^ 9 * down e) m (u.j - 9) (mul-pos (zero-lt-suc 511) (down_pos e)) u.small (lt_of_le_of_lt (mul-le-mul_left m (pow_mono (less u.j))) u.fine) (many m u.j (down e) (m * up e) g u.value))
+      (round_exact binary32 false (m * up e * 1) (1 * 2 ^ 9 * down e) m (u.j - 9) (mul-pos (zero-lt-suc 511) (down_pos e)) u.small (lt_of_le_of_lt (mul-le-mul_left m (pow_mono (omega arith))) u.fine) (many m u.j (down e) (m * up e) g u.value))
       ∙ ap (λ (n : ℕ). min n (2 ^ 64 - 1)) (ap (λ (n : ℕ). n / (512 * down e)) (mul-one (m * up e)) ∙ ap (λ (n : ℕ). m * up e / n) (den_is (down e)))
 ]
-  where
-    less : (j : ℕ) → j - 9 ≤ j
-    less j = omega arith
-
-    below_half : (a d : ℕ) → a < d → a * 1 * 2 ≤ 1 * (1 * 2 ^ 9 * d)
-    below_half a d h = omega arith
-
-    below_whole : (a d : ℕ) → a < d → a < d * 512
-    below_whole a d h = omega arith
 
 -- ---- the cell, from the quotient
 limit_twice : (n : ℕ) → min n 31 ≡ min (min n (2 ^ 64 - 1)) 31
@@ -107,11 +92,4 @@ cell_is (fin false m e) t = limit_twice (m * up e / (down e * 512)) ∙ sym (ap 
 -- ---- both grid numbers are below 32
 pub in_grid_law : (cx cy : ℕ) → in_grid cx cy ≡ true → (cx < 32) × (cy < 32)
 in_grid_law cx cy e =
-    (ltb→lt cx 32 (and_l (ltb cx 32) (ltb cy 32) (subst T (sym e) tt)), ltb→lt cy 32 (and_r (ltb cx 32) (ltb cy 32) (subst T (sym e) tt)))
-
--- ---- the Rust's masks, `area & 1023` and `area & 1024`
-pub cell_mask : (a : ℕ) → bit_and a 1023 ≡ a % 1024
-cell_mask a = and_mask a 10
-
-pub island_mask : (a : ℕ) → bit_and a 1024 ≡ a / 1024 % 2 * 1024
-island_mask a = and_high a 1 10
+    let p = and_parts _ _ e in (ltb-true _ _ p.0, ltb-true _ _ p.1)

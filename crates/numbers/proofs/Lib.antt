@@ -1,7 +1,6 @@
 pub mod Refusing
 pub mod Patterns
 pub mod Units
-pub mod Every
 pub mod StepLaws
 pub mod CaseLaws
 pub mod Worked

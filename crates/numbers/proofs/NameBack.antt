@@ -1,11 +1,11 @@
 -- The file name of a cell, read back, gives the cell's area. One computed test of the 1,024 areas. Assumes nothing.
-use Rattle.std.proofs.Common.{◌≡◌, ℕ, ◌+◌, ◌*◌, ◌<◌, Bool, true, false, T, eqb, take, ap, arith, eqb→eq}
+use Rattle.std.proofs.Common.{◌≡◌, ℕ, ◌+◌, ◌*◌, ◌<◌, Bool, true, false, eqb, take, ap, arith, refl, eqb-true}
+use Rattle.std.proofs.lemmas.Bool.{agree_below_at}
 use Rattle.std.specs.Prelude.{Option, Some, None, Result, Ok, Err}
 use Rattle.numbers.specs.Grid.{in_grid, area_id}
 use Rattle.numbers.specs.Names.{named, name_of_area, name_for, cell_file_name, area_id_from_file_name}
 use Rattle.numbers.specs.declared.names.FileName.{FileName}
 use Rattle.numbers.specs.declared.refusal.Refusal.{Refusal}
-use Rattle.numbers.proofs.Every.{at_number}
 use Rattle.numbers.proofs.GridLaws.{in_grid_law}
 
 -- what the bytes up to the count say
@@ -21,26 +21,19 @@ is : ℕ → Option ℕ → Bool
 is n (Some m) = eqb m n
 is n None = false
 
-is_known : (n : ℕ) (a : Option ℕ) → T (is n a) → a ≡ Some n
+is_known : (n : ℕ) (a : Option ℕ) → is n a ≡ true → a ≡ Some n
 unfolding is
-is_known n (Some m) t = ap Some (eqb→eq m n t)
-is_known n None t = absurd t
+is_known n (Some m) e = ap Some (eqb-true m n e)
+is_known n None e = cc
 
 back : ℕ → Bool
 unfolding is named name_of_area area_id_from_file_name
 back n = is n (area_named (named (name_of_area n)))
 
-test : (n : ℕ) → n < 1024 → T (back n)
-unfolding back
-test n h = at_number back 1024 tt n h
-
 area_back : (n : ℕ) → n < 1024 → area_named (named (name_of_area n)) ≡ Some n
 unfolding back
-area_back n h = is_known n (area_named (named (name_of_area n))) (test n h)
+area_back n h = is_known n (area_named (named (name_of_area n))) (agree_below_at back (λ _. true) 1024 n refl h)
 
 pub name_back : (cx cy : ℕ) → in_grid cx cy ≡ true → area_of_name (cell_file_name cx cy) ≡ Some (cy * 32 + cx)
 unfolding area_id name_for
-name_back cx cy e = rw e (area_back (cy * 32 + cx) (small cx cy (in_grid_law cx cy e)))
-  where
-    small : (cx cy : ℕ) → (cx < 32) × (cy < 32) → cy * 32 + cx < 1024
-    small cx cy h = omega arith
+name_back cx cy e = rw e (area_back (cy * 32 + cx) (omega (arith, in_grid_law cx cy e)))

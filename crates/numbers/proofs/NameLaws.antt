@@ -1,5 +1,5 @@
 -- The definitions of `specs/Names.antt`, as the code has them. Assumes nothing.
-use Rattle.std.proofs.Common.{◌≡◌, ℕ, zero, suc, ◌+◌, ◌-◌, ◌*◌, ◌^◌, ◌<◌, ◌≤◌, Bool, true, false, cond, ◌&&◌, eqb, List, [], ◌∷◌, length, get_or, take, drop, sym, refl, ap, ◌∙◌, le_of_suc-le-suc, zero-lt-suc, not-suc-le-zero, arith, lit<, inl, inr, le_of_eq, take_all, length-drop, eq-eqb, ne_eqb, le-leb}
+use Rattle.std.proofs.Common.{◌≡◌, ℕ, zero, suc, ◌+◌, ◌-◌, ◌*◌, ◌^◌, ◌<◌, ◌≤◌, Bool, true, false, cond, ◌&&◌, eqb, List, [], ◌∷◌, length, get_or, take, drop, sym, refl, ap, ◌∙◌, le_of_suc-le-suc, zero-lt-suc, not-suc-le-zero, arith, lit<, inl, inr, eq-eqb, ne_eqb, le-leb}
 use borrow.Author.Tests.{lt-leb, eqb-true}
 use lib.Seq.{drop-cons}
 use native.Mathlib.Numerals.{add-one}
@@ -9,9 +9,12 @@ use Rattle.std.specs.Result.{OkIff, result_ok}
 use Rattle.std.specs.Char.{digit_value, to_ascii_lowercase}
 use Rattle.std.specs.Str.{IsUtf8, IsAscii}
 use Rattle.std.specs.Str.Parse.{AllDigits, IsNumeral, digits_value, digits_value_after, without_leading_plus, ParsesUnsigned}
-use Rattle.std.proofs.lemmas.Str.{IsUtf8-from_ascii}
+use Rattle.std.proofs.lemmas.List.{take_rest}
+use Rattle.std.proofs.lemmas.Str.{IsUtf8-from_ascii, digit_value_digit}
+use Rattle.std.proofs.lemmas.Str.Parse.{digit_from_value}
+use Rattle.std.proofs.lemmas.Fmt.{IsAscii-from_digits}
 use Rattle.std.proofs.lemmas.Bool.Decides.{nat_tests}
-use Rattle.numbers.proofs.Units.{lt_or_ge}
+use Rattle.std.proofs.lemmas.Bool.{and_right, cases_lt}
 use Rattle.numbers.specs.Names.{nodes, ynd, slash, base_from, base_of, lower, starts, digits_from, digits_of, parsed, area_of_base}
 
 -- ---- the base: what stands after the last slash
@@ -46,11 +49,7 @@ pub starts_short : (s word : List ℕ) → length s < length word → false ≡ 
 unfolding starts
 starts_short s [] h = absurd (not-suc-le-zero h)
 starts_short [] (d ∷ ds) h = refl
-starts_short (c ∷ cs) (d ∷ ds) h = rw (← starts_short cs ds (le_of_suc-le-suc h)) (no (eqb (lower c) d))
-  where
-    no : (b : Bool) → false ≡ (b && false)
-    no true = refl
-    no false = refl
+starts_short (c ∷ cs) (d ∷ ds) h = rw (← starts_short cs ds (le_of_suc-le-suc h)) (sym (and_right (eqb (lower c) d) false refl))
 
 starts_same : (s word : List ℕ) → length word ≤ length s → ((k : ℕ) → k < length word → Same s word k) → true ≡ starts s word
 unfolding starts
@@ -65,11 +64,8 @@ unfolding starts
 starts_other s [] k h l d = absurd (not-suc-le-zero h)
 starts_other [] (w ∷ ws) k h l d = absurd (not-suc-le-zero l)
 starts_other (c ∷ cs) (w ∷ ws) zero h l d = rw (ne_eqb (lower c) w d) refl
-starts_other (c ∷ cs) (w ∷ ws) (suc k) h l d = rw (← starts_other cs ws k (le_of_suc-le-suc h) (le_of_suc-le-suc l) d) (nothing (eqb (lower c) w))
-  where
-    nothing : (b : Bool) → false ≡ (b && false)
-    nothing true = refl
-    nothing false = refl
+starts_other (c ∷ cs) (w ∷ ws) (suc k) h l d =
+    rw (← starts_other cs ws k (le_of_suc-le-suc h) (le_of_suc-le-suc l) d) (sym (and_right (eqb (lower c) w) false refl))
 
 -- ASCII's lower case
 lower_is : (c : ℕ) → to_ascii_lowercase c ≡ lower c
@@ -97,12 +93,6 @@ pub err_is : {A E : Type 0} (r : Result A E) → result_ok r ≡ None → (e : E
 err_is (Ok y) h = cc
 err_is (Err e) h = (e, refl)
 
-is_digit : (c : ℕ) → digit_value c < 10 → (48 ≤ c) × (c ≤ 57)
-is_digit c h = grind (arith, nat_tests)
-
-digit_is : (c : ℕ) → 48 ≤ c → c ≤ 57 → digit_value c ≡ c - 48
-digit_is c h l = grind (arith, nat_tests)
-
 -- digits make a number no smaller
 grows : (n : ℕ) (cs : List ℕ) → n ≤ digits_value_after 10 n cs
 grows n [] = omega arith
@@ -118,14 +108,14 @@ Read n cs = AllDigits 10 cs × (digits_value_after 10 n cs < 2 ^ 32)
 reads : (n : ℕ) (cs : List ℕ) → n < 2 ^ 32 → SomeIff (digits_from n cs) (Read n cs) (digits_value_after 10 n cs)
 unfolding digits_from
 reads n [] h = ((tt, h), refl)
-reads n (c ∷ cs) h = elim (lt_or_ge c 48) [
-  | inl l ↦ rw (lt-leb 48 c l) (λ p. absurd (omega (arith, is_digit c p.0.0)))
-  | inr k ↦ elim (lt_or_ge 57 c) [
-    | inl l ↦ rw (le-leb 48 c k, lt-leb c 57 l) (λ p. absurd (omega (arith, is_digit c p.0.0)))
+reads n (c ∷ cs) h = elim (cases_lt c 48) [
+  | inl l ↦ rw (lt-leb 48 c l) (λ p. absurd (omega (arith, digit_from_value c p.0.0)))
+  | inr k ↦ elim (cases_lt 57 c) [
+    | inl l ↦ rw (le-leb 48 c k, lt-leb c 57 l) (λ p. absurd (omega (arith, digit_from_value c p.0.0)))
     | inr l ↦
         let m = n * 10 + (c - 48) in
-        let e : digit_value c ≡ c - 48 = digit_is c k l in
-        elim (lt_or_ge 4294967295 m) [
+        let e : digit_value c ≡ c - 48 = omega (arith, digit_value_digit c (k, l)) in
+        elim (cases_lt 4294967295 m) [
           | inl o ↦ rw (le-leb 48 c k, le-leb c 57 l, lt-leb m 4294967295 o)
               (λ p. absurd (omega (arith, e, p.1, grows (n * 10 + digit_value c) cs)))
           | inr o ↦
@@ -165,19 +155,14 @@ parsed_is t r h = one _ _ (parsed t) r h (parses t)
     one P v None (Err e) h k = refl
 
 -- digits are ASCII, so what is no text is no number
-ascii : (cs : List ℕ) → AllDigits 10 cs → IsAscii cs
-ascii [] h i = omega arith
-ascii (c ∷ cs) h zero = omega (arith, is_digit c h.0)
-ascii (c ∷ cs) h (suc i) = ascii cs h.1 i
-
 ascii_text : (t : List ℕ) → AllDigits 10 (without_leading_plus t) → IsAscii t
-ascii_text [] h = ascii [] h
+ascii_text [] h = IsAscii-from_digits [] h
 ascii_text (c ∷ cs) h = go (eqb c 43) refl h
   where
     go : (b : Bool) → eqb c 43 ≡ b → AllDigits 10 (drop (cond b 1 0) (c ∷ cs)) → IsAscii (c ∷ cs)
     go true e h zero = omega (arith, eqb-true c 43 e)
-    go true e h (suc i) = ascii cs h i
-    go false e h i = ascii (c ∷ cs) h i
+    go true e h (suc i) = IsAscii-from_digits cs h i
+    go false e h i = IsAscii-from_digits (c ∷ cs) h i
 
 pub parsed_text : (t : List ℕ) → (IsUtf8 t → ⊥) → None ≡ parsed t
 parsed_text t h = none _ _ (parsed t) (parses t) (λ n. h (IsUtf8-from_ascii t (ascii_text t n.0.1)))
@@ -185,10 +170,6 @@ parsed_text t h = none _ _ (parsed t) (parses t) (λ n. h (IsUtf8-from_ascii t (
     none : (P : Type 0) (v : ℕ) (q : Option ℕ) → SomeIff q P v → (P → ⊥) → None ≡ q
     none P v (Some x) k n = absurd (n k.0)
     none P v None k n = refl
-
--- ---- what is lent from a place to the end
-pub to_end : (s : List ℕ) (a : ℕ) → take (length s - a) (drop a s) ≡ drop a s
-to_end s a = take_all (length s - a) (drop a s) (le_of_eq (length-drop a s))
 
 -- ---- the base's three tests
 abbrev three : Bool → Bool → Bool → List ℕ → Option ℕ
@@ -207,7 +188,7 @@ module _ (b : List ℕ) where
       ∙ ap (λ (x : Bool). three true y x b) q
 
   pub suffix_is : (z : Bool) → z ≡ starts (take (length b - (length b - 4)) (drop (length b - 4) b)) ynd → starts (drop (length b - 4) b) ynd ≡ z
-  suffix_is z e = ap (λ (x : List ℕ). starts x ynd) (sym (to_end b (length b - 4))) ∙ sym e
+  suffix_is z e = ap (λ (x : List ℕ). starts x ynd) (sym (take_rest b (length b - 4))) ∙ sym e
 
 -- for the functions
 pub ruleset area_laws = (area_short, area_is, suffix_is)

@@ -1,72 +1,27 @@
 -- Patterns without a sign are ordered as the f32s that they stand for. Assumes nothing.
-use Rattle.std.proofs.Common.{◌≡◌, ℕ, zero, suc, ◌+◌, ◌*◌, ◌^◌, ◌<◌, ◌≤◌, Bool, true, false, not, ◌||◌, T, leb, ℤ, sym, refl, ap, ◌∙◌, subst, inl, inr, le_trans, le_of_eq, lt_of_lt_of_le, le_of_suc-le-suc, mul-le-mul_right, mul_assoc, add-mul, eq-or-lt_of_le, mul-le-mul_left, mul-lt-mul_of_pos_right, mul-pos, lt_of_not-le, not-le_of_lt, arith, ltb→lt, lt→ltb, leb→le, pow_pos, pow_mono}
-use native.Mathlib.Nat.{mul-mul-mul_comm, pow-succ'}
-use lib.Ieee.{Float, nan, inf, fin, binary32, up, down, lt, eq, le, add, fits, is_nan, of_bits, to_bits}
+use Rattle.std.proofs.Common.{◌≡◌, ℕ, ◌+◌, ◌*◌, ◌^◌, ◌<◌, ◌≤◌, Bool, true, false, not, T, leb, ℤ, sym, refl, ap, ◌∙◌, subst, inl, inr, le_trans, le_of_eq, lt_of_lt_of_le, mul-le-mul_right, add-mul, eq-or-lt_of_le, mul-lt-mul_of_pos_right, mul-pos, lt_of_not-le, not-le_of_lt, arith, ltb→lt, lt→ltb, leb→le, pow_pos}
+use native.Mathlib.Nat.{mul-mul-mul_comm}
+use Rattle.std.proofs.lemmas.Float as floats
+use lib.Ieee.{Float, nan, inf, fin, binary32, up, down, lt, le, add, fits, is_nan, of_bits, to_bits}
 use lib.Ieee.Bits.{of_bits-to_bits}
 use lib.Ieee.Exact.{HasValue}
 use lib.Ieee.Fits.{down_pos}
 use lib.Ieee.Order.{transfer, round_mono}
-use Rattle.numbers.specs.Cases.{sign, field, fraction}
-use Rattle.numbers.proofs.Patterns.{number, val, finite_value, unsigned, pattern_in}
-use Rattle.numbers.proofs.Units.{lt_or_ge}
+use Rattle.numbers.specs.Cases.{sign}
+use Rattle.numbers.proofs.Patterns.{val, val_strict, finite_value, unsigned, pattern_in}
+use Rattle.std.proofs.lemmas.Bool.{cases_lt}
 use Rattle.numbers.proofs.Cuts.{lt_or_eq}
-
--- ---- the number grows with the pattern, strictly
-same_field : (x t u : ℕ) → t < u → number x t < number x u
-same_field zero t u h = h
-same_field (suc x) t u h = mul-lt-mul_of_pos_right (more t u h) (pow_pos x)
-  where
-    more : (t u : ℕ) → t < u → 8388608 + t < 8388608 + u
-    more t u h = omega arith
-
-under : (x t : ℕ) → t < 8388608 → number x t < 8388608 * 2 ^ x
-under zero t h = omega arith
-under (suc x) t h = lt_of_lt_of_le (mul-lt-mul_of_pos_right (twice t h) (pow_pos x)) (le_of_eq (mul_assoc 8388608 2 (2 ^ x) ∙ ap (λ (y : ℕ). 8388608 * y) (sym (pow-succ' 2 x))))
-  where
-    twice : (t : ℕ) → t < 8388608 → 8388608 + t < 8388608 * 2
-    twice t h = omega arith
-
-next_field : (x y t u : ℕ) → x < y → t < 8388608 → number x t < number y u
-next_field x zero t u h k = absurd (no x h)
-  where
-    no : (x : ℕ) → x < 0 → ⊥
-    no x h = omega arith
-next_field x (suc y) t u h k = lt_of_lt_of_le (under x t k) (le_trans (mul-le-mul_left 8388608 (pow_mono (le_of_suc-le-suc h))) (mul-le-mul_right (2 ^ y) (once u)))
-  where
-    once : (u : ℕ) → 8388608 ≤ 8388608 + u
-    once u = omega arith
-
-pub val_strict : (b c : ℕ) → b < c → c < 2147483648 → val b < val c
-val_strict b c h k = elim (eq-or-lt_of_le (fields_le b c h k)) [
-  | inl e ↦ lt_of_lt_of_le (same_field (field b) (fraction b) (fraction c) (fractions_lt b c h k e)) (le_of_eq (ap (λ (x : ℕ). number x (fraction c)) e))
-  | inr l ↦ next_field (field b) (field c) (fraction b) (fraction c) l (fraction_in b)
-]
-  where
-    fields_le : (b c : ℕ) → b < c → c < 2147483648 → field b ≤ field c
-    fields_le b c h k = omega arith
-
-    fractions_lt : (b c : ℕ) → b < c → c < 2147483648 → field b ≡ field c → fraction b < fraction c
-    fractions_lt b c h k e = omega arith
-
-    fraction_in : (b : ℕ) → fraction b < 8388608
-    fraction_in b = omega arith
 
 -- ---- a finite pattern without a sign
 plus : (b : ℕ) → b < 2139095040 → sign b ≡ false
 plus b h = no (leb 2147483648 b) (leb→le 2147483648 b)
   where
-    off : 2147483648 ≤ b → ⊥
-    off l = omega arith
-
     no : (t : Bool) → (T t → 2147483648 ≤ b) → t ≡ false
-    no true f = absurd (off (f tt))
+    no true f = absurd (omega (arith, f tt))
     no false f = refl
 
 pub plain : (b : ℕ) → b < 2139095040 → HasValue (of_bits binary32 b) false (val b) (2 ^ 149)
-plain b h = subst (λ (s : Bool). HasValue (of_bits binary32 b) s (val b) (2 ^ 149)) (plus b h) (finite_value b (inside b h))
-  where
-    inside : (b : ℕ) → b < 2139095040 → field b < 255
-    inside b h = omega arith
+plain b h = subst (λ (s : Bool). HasValue (of_bits binary32 b) s (val b) (2 ^ 149)) (plus b h) (finite_value b (omega arith))
 
 infinity : of_bits binary32 2139095040 ≡ inf false
 unfolding of_bits
@@ -106,28 +61,8 @@ lt_infinity (fin s m e) a c p = tt
 pub bits_lt : (b c : ℕ) → b < c → c ≤ 2139095040 → T (lt (of_bits binary32 b) (of_bits binary32 c))
 bits_lt b c h l = elim (eq-or-lt_of_le l) [
   | inl e ↦ subst (λ (x : Float). T (lt (of_bits binary32 b) x)) (sym (ap (of_bits binary32) e ∙ infinity)) (lt_infinity (of_bits binary32 b) (val b) (2 ^ 149) (plain b (lt_of_lt_of_le h l)))
-  | inr g ↦ lt_of_values (of_bits binary32 b) (of_bits binary32 c) (val b) (val c) (2 ^ 149) (pow_pos 149) (plain b (less b c h g)) (plain c g) (val_strict b c h (lower c g))
+  | inr g ↦ lt_of_values (of_bits binary32 b) (of_bits binary32 c) (val b) (val c) (2 ^ 149) (pow_pos 149) (plain b (omega arith)) (plain c g) (val_strict b c h (omega arith))
 ]
-  where
-    less : (b c : ℕ) → b < c → c < 2139095040 → b < 2139095040
-    less b c h g = omega arith
-
-    lower : (c : ℕ) → c < 2139095040 → c < 2147483648
-    lower c g = omega arith
-
-pub lt_number : (x y : Float) → lt x y ≡ true → T (not (is_nan x))
-unfolding lt is_nan
-lt_number nan y e = absurd (subst T (sym e) tt)
-lt_number (inf s) y e = tt
-lt_number (fin s m d) y e = tt
-
-pub lt_le : (x y : Float) → T (lt x y) → T (le x y)
-unfolding le
-lt_le x y t = left (lt x y) (eq x y) t
-  where
-    left : (a b : Bool) → T a → T (a || b)
-    left true b t = tt
-    left false b t = absurd t
 
 -- not both `y < x` and `x <= y`
 pub clash : (x y : Float) → T (unsigned x) → T (unsigned y) → T (lt y x) → T (le x y) → ⊥
@@ -148,16 +83,17 @@ clash (fin false m e) (fin false n d) u v h l =
     not-le_of_lt (ltb→lt (n * up d * down e) (m * up e * down d) h) (lt_or_eq (m * up e * down d) (n * up d * down e) l)
 
 pub lt_bits : (b c : ℕ) → b ≤ 2139095040 → c ≤ 2139095040 → T (lt (of_bits binary32 b) (of_bits binary32 c)) → b < c
-lt_bits b c p q t = elim (lt_or_ge b c) [
+lt_bits b c p q t = elim (cases_lt b c) [
   | inl h ↦ h
   | inr g ↦ absurd (elim (eq-or-lt_of_le g) [
     | inl e ↦ itself (subst (λ (x : ℕ). T (lt (of_bits binary32 b) (of_bits binary32 x))) e t)
-    | inr l ↦ clash (of_bits binary32 b) (of_bits binary32 c) (bits_unsigned b p) (bits_unsigned c q) (bits_lt c b l p) (lt_le (of_bits binary32 b) (of_bits binary32 c) t)
+    | inr l ↦ clash (of_bits binary32 b) (of_bits binary32 c) (bits_unsigned b p) (bits_unsigned c q) (bits_lt c b l p) (floats.le_of_lt (of_bits binary32 b) (of_bits binary32 c) t)
   ])
 ]
   where
     itself : T (lt (of_bits binary32 b) (of_bits binary32 b)) → ⊥
-    itself s = clash (of_bits binary32 b) (of_bits binary32 b) (bits_unsigned b p) (bits_unsigned b p) s (lt_le (of_bits binary32 b) (of_bits binary32 b) s)
+    itself s =
+        clash (of_bits binary32 b) (of_bits binary32 b) (bits_unsigned b p) (bits_unsigned b p) s (floats.le_of_lt (of_bits binary32 b) (of_bits binary32 b) s)
 
 -- ---- `<=`, from f32s to their patterns
 pub pattern_of : (x : Float) → T (fits binary32 x) → T (unsigned x) → T (not (is_nan x)) → to_bits binary32 x ≤ 2139095040
@@ -166,7 +102,7 @@ pattern_of x f u n =
     (subst (λ (v : Float). T (not (is_nan v))) (sym (of_bits-to_bits binary32 x f)) n)
 
 pub le_bits : (x y : Float) → T (fits binary32 x) → T (fits binary32 y) → T (unsigned x) → T (unsigned y) → T (not (is_nan x)) → T (le x y) → to_bits binary32 x ≤ to_bits binary32 y
-le_bits x y f g u v n h = elim (lt_or_ge (to_bits binary32 y) (to_bits binary32 x)) [
+le_bits x y f g u v n h = elim (cases_lt (to_bits binary32 y) (to_bits binary32 x)) [
   | inl l ↦ absurd (clash x y u v (subst (λ (z : Float). T (lt z x)) (of_bits-to_bits binary32 y g) (subst (λ (z : Float). T (lt (of_bits binary32 (to_bits binary32 y)) z)) (of_bits-to_bits binary32 x f) (bits_lt (to_bits binary32 y) (to_bits binary32 x) l (pattern_of x f u n)))) h)
   | inr l ↦ l
 ]

@@ -1,5 +1,6 @@
 -- Every bit pattern of binary32, by its fields: what number it stands for. Assumes nothing.
-use Rattle.std.proofs.Common.{◌≡◌, ℕ, zero, suc, ◌+◌, ◌-◌, ◌*◌, ◌/◌, ◌%◌, ◌^◌, ◌<◌, ◌≤◌, Bool, true, false, cond, not, T, eqb, ltb, sym, refl, ap, ◌∙◌, subst, inl, inr, le_trans, le_of_eq, le_of_suc-le-suc, mul-le-mul_right, mul_assoc, eq-zero-or-pos, eq-or-lt_of_le, mul-le-mul_left, mul-one, arith, pow_mono, ltb-false, le-ltb, lt-ltb, eq-eqb, ne_eqb}
+use Rattle.std.proofs.Common.{◌≡◌, ℕ, zero, suc, ◌+◌, ◌-◌, ◌*◌, ◌/◌, ◌%◌, ◌^◌, ◌<◌, ◌≤◌, Bool, true, false, cond, not, T, eqb, ltb, sym, refl, ap, ◌∙◌, subst, inl, inr, le_trans, le_of_eq, le_of_suc-le-suc, le_of_lt, lt_of_lt_of_le, pow_pos, mul-lt-mul_of_pos_right, mul-le-mul_right, mul_assoc, eq-zero-or-pos, eq-or-lt_of_le, mul-le-mul_left, mul-one, arith, pow_mono, ltb-false, to_z-of_z, le-ltb, lt-ltb, eq-eqb, ne_eqb}
+use Rattle.std.proofs.lemmas.Float.{T_from_false}
 use Prim.Native.Nat.{compare}
 use native.Mathlib.Nat.{pow-succ'}
 use lib.Dec.{nleb→lt}
@@ -17,34 +18,19 @@ of_bits_is b = refl
 low_fields : (s : Bool) (x t : ℕ) → x ≡ 0 → HasValue (of_fields binary32 s x t) s t (2 ^ 149)
 unfolding of_fields
 low_fields s zero t e = subst (λ (a : ℕ). HasValue (odd 24 s t 0 149) s a (2 ^ 149)) (mul-one t) (odd_sign 24 s t 0 149)
-low_fields s (suc x) t e = absurd (no x e)
-  where
-    no : (x : ℕ) → suc x ≡ 0 → ⊥
-    no x e = omega arith
+low_fields s (suc x) t e = absurd (omega arith)
 
 mid_fields : (s : Bool) (x t : ℕ) → 0 < x → x < 255 → HasValue (of_fields binary32 s x t) s ((8388608 + t) * 2 ^ (x - 1)) (2 ^ 149)
 unfolding of_fields
-mid_fields s zero t h k = absurd (no h)
-  where
-    no : 0 < 0 → ⊥
-    no e = omega arith
+mid_fields s zero t h k = absurd (omega arith)
 mid_fields s (suc x) t h k =
     subst (λ (a : Bool). HasValue (cond a (cond (eqb t 0) (inf s) nan) (odd 24 s (8388608 + t) x 149)) s ((8388608 + t) * 2 ^ (suc x - 1)) (2 ^ 149))
-    (sym (ne_eqb (suc x) 255 (differ x k)))
-    (subst (λ (y : ℕ). HasValue (odd 24 s (8388608 + t) x 149) s ((8388608 + t) * 2 ^ y) (2 ^ 149)) (less x) (odd_sign 24 s (8388608 + t) x 149))
-  where
-    differ : (x : ℕ) → suc x < 255 → suc x ≡ 255 → ⊥
-    differ x h e = omega arith
-
-    less : (x : ℕ) → x ≡ suc x - 1
-    less x = omega arith
+    (sym (ne_eqb (suc x) 255 (λ e. omega arith)))
+    (subst (λ (y : ℕ). HasValue (odd 24 s (8388608 + t) x 149) s ((8388608 + t) * 2 ^ y) (2 ^ 149)) (omega arith) (odd_sign 24 s (8388608 + t) x 149))
 
 top_fields : (s : Bool) (x t : ℕ) → x ≡ 255 → of_fields binary32 s x t ≡ cond (eqb t 0) (inf s) nan
 unfolding of_fields
-top_fields s zero t e = absurd (no e)
-  where
-    no : ◌≡◌ {A = ℕ} 0 255 → ⊥
-    no e = omega arith
+top_fields s zero t e = absurd (omega arith)
 top_fields s (suc x) t e = ap (λ (a : Bool). cond a (cond (eqb t 0) (inf s) nan) (odd 24 s (8388608 + t) x 149)) (eq-eqb (suc x) 255 e)
 
 -- ---- of a pattern
@@ -66,9 +52,6 @@ unfolding is_nan
 nan_is nan e = refl
 nan_is (inf s) e = cc
 nan_is (fin s m k) e = cc
-
-pub not_nan : (x : Float) → is_nan x ≡ false → T (not (is_nan x))
-not_nan x e = rw e tt
 
 -- ---- the test for a NaN's pattern, by its bits below the sign
 pub nan_pattern : (n : ℕ) → 2139095040 < n % 2147483648 → of_bits binary32 n ≡ nan
@@ -92,56 +75,34 @@ val b = number (field b) (fraction b)
 
 number_value : (s : Bool) (x t : ℕ) → x < 255 → HasValue (of_fields binary32 s x t) s (number x t) (2 ^ 149)
 number_value s zero t h = low_fields s zero t refl
-number_value s (suc x) t h = subst (λ (y : ℕ). HasValue (of_fields binary32 s (suc x) t) s ((8388608 + t) * 2 ^ y) (2 ^ 149)) (less x) (mid_fields s (suc x) t (some x) h)
-  where
-    less : (x : ℕ) → suc x - 1 ≡ x
-    less x = omega arith
-
-    some : (x : ℕ) → 0 < suc x
-    some x = omega arith
+number_value s (suc x) t h = subst (λ (y : ℕ). HasValue (of_fields binary32 s (suc x) t) s ((8388608 + t) * 2 ^ y) (2 ^ 149)) (omega arith) (mid_fields s (suc x) t (omega arith) h)
 
 pub finite_value : (b : ℕ) → field b < 255 → HasValue (of_bits binary32 b) (sign b) (val b) (2 ^ 149)
 finite_value b h = subst (λ (v : Float). HasValue v (sign b) (val b) (2 ^ 149)) (sym (of_bits_is b)) (number_value (sign b) (field b) (fraction b) h)
 
 -- it grows with the pattern, below the sign
-same_field : (x t u : ℕ) → t ≤ u → number x t ≤ number x u
+same_field : (x t u : ℕ) → t < u → number x t < number x u
 same_field zero t u h = h
-same_field (suc x) t u h = mul-le-mul_right (2 ^ x) (more t u h)
-  where
-    more : (t u : ℕ) → t ≤ u → 8388608 + t ≤ 8388608 + u
-    more t u h = omega arith
+same_field (suc x) t u h = mul-lt-mul_of_pos_right (omega arith) (pow_pos x)
 
-up_to : (x t : ℕ) → t < 8388608 → number x t ≤ 8388608 * 2 ^ x
-up_to zero t h = omega arith
-up_to (suc x) t h = le_trans (mul-le-mul_right (2 ^ x) (twice t h)) (le_of_eq (mul_assoc 8388608 2 (2 ^ x) ∙ ap (λ (y : ℕ). 8388608 * y) (sym (pow-succ' 2 x))))
-  where
-    twice : (t : ℕ) → t < 8388608 → 8388608 + t ≤ 8388608 * 2
-    twice t h = omega arith
+under : (x t : ℕ) → t < 8388608 → number x t < 8388608 * 2 ^ x
+under zero t h = omega arith
+under (suc x) t h = lt_of_lt_of_le (mul-lt-mul_of_pos_right (omega arith) (pow_pos x)) (le_of_eq (mul_assoc 8388608 2 (2 ^ x) ∙ ap (λ (y : ℕ). 8388608 * y) (sym (pow-succ' 2 x))))
 
-next_field : (x y t u : ℕ) → x < y → t < 8388608 → number x t ≤ number y u
-next_field x zero t u h k = absurd (no x h)
-  where
-    no : (x : ℕ) → x < 0 → ⊥
-    no x h = omega arith
-next_field x (suc y) t u h k = le_trans (up_to x t k) (le_trans (mul-le-mul_left 8388608 (pow_mono (le_of_suc-le-suc h))) (mul-le-mul_right (2 ^ y) (once u)))
-  where
-    once : (u : ℕ) → 8388608 ≤ 8388608 + u
-    once u = omega arith
+next_field : (x y t u : ℕ) → x < y → t < 8388608 → number x t < number y u
+next_field x zero t u h k = absurd (omega arith)
+next_field x (suc y) t u h k = lt_of_lt_of_le (under x t k) (le_trans (mul-le-mul_left 8388608 (pow_mono (le_of_suc-le-suc h))) (mul-le-mul_right (2 ^ y) (omega arith)))
+
+pub val_strict : (b c : ℕ) → b < c → c < 2147483648 → val b < val c
+val_strict b c h k =
+    let fields : field b ≤ field c = omega arith in
+    elim (eq-or-lt_of_le fields) [
+      | inl e ↦ lt_of_lt_of_le (same_field (field b) (fraction b) (fraction c) (omega arith)) (le_of_eq (ap (λ (x : ℕ). number x (fraction c)) e))
+      | inr l ↦ next_field (field b) (field c) (fraction b) (fraction c) l (omega arith)
+    ]
 
 pub val_mono : (b c : ℕ) → b ≤ c → c < 2147483648 → val b ≤ val c
-val_mono b c h k = elim (eq-or-lt_of_le (fields_le b c h k)) [
-  | inl e ↦ le_trans (same_field (field b) (fraction b) (fraction c) (fractions_le b c h k e)) (le_of_eq (ap (λ (x : ℕ). number x (fraction c)) e))
-  | inr l ↦ next_field (field b) (field c) (fraction b) (fraction c) l (fraction_in b)
-]
-  where
-    fields_le : (b c : ℕ) → b ≤ c → c < 2147483648 → field b ≤ field c
-    fields_le b c h k = omega arith
-
-    fractions_le : (b c : ℕ) → b ≤ c → c < 2147483648 → field b ≡ field c → fraction b ≤ fraction c
-    fractions_le b c h k e = omega arith
-
-    fraction_in : (b : ℕ) → fraction b < 8388608
-    fraction_in b = omega arith
+val_mono b c h k = elim (eq-or-lt_of_le h) [ inl e ↦ le_of_eq (ap val e) | inr l ↦ le_of_lt (val_strict b c l k) ]
 
 -- ---- a float without a sign has a pattern up to that of the infinity
 abbrev pub unsigned : Float → Bool
@@ -156,25 +117,15 @@ sign_of_value (fin u m e) s a c h t = subst (λ (b : Bool). T (not b)) h.0 t
 
 pub pattern_in : (b : ℕ) → T (unsigned (of_bits binary32 b)) → T (not (is_nan (of_bits binary32 b))) → b ≤ 2139095040
 unfolding is_nan
-pattern_in b t n = elim (eq-or-lt_of_le (field_in b)) [
-  | inl e ↦ elim (eq-zero-or-pos (fraction b)) [
-    | inl z ↦ at_top b e z (nleb→lt 2147483648 b (subst (λ (x : Float). T (unsigned x)) (infinite b e z) t))
-    | inr p ↦ absurd (subst (λ (x : Float). T (not (is_nan x))) (no_number b e (not_zero (fraction b) p)) n)
-  ]
-  | inr l ↦ under_top b l (nleb→lt 2147483648 b (sign_of_value (of_bits binary32 b) (sign b) (val b) (2 ^ 149) (finite_value b l) t))
-]
-  where
-    field_in : (b : ℕ) → field b ≤ 255
-    field_in b = omega arith
-
-    not_zero : (x : ℕ) → 0 < x → x ≡ 0 → ⊥
-    not_zero x h e = omega arith
-
-    at_top : (b : ℕ) → field b ≡ 255 → fraction b ≡ 0 → b < 2147483648 → b ≤ 2139095040
-    at_top b e z h = omega arith
-
-    under_top : (b : ℕ) → field b < 255 → b < 2147483648 → b ≤ 2139095040
-    under_top b e h = omega arith
+pattern_in b t n =
+    let l : field b ≤ 255 = omega arith in
+    elim (eq-or-lt_of_le l) [
+      | inl e ↦ elim (eq-zero-or-pos (fraction b)) [
+        | inl z ↦ omega (arith, nleb→lt 2147483648 b (subst (λ (x : Float). T (unsigned x)) (infinite b e z) t))
+        | inr p ↦ absurd (subst (λ (x : Float). T (not (is_nan x))) (no_number b e (λ z. omega arith)) n)
+      ]
+      | inr l ↦ omega (arith, nleb→lt 2147483648 b (sign_of_value (of_bits binary32 b) (sign b) (val b) (2 ^ 149) (finite_value b l) t))
+    ]
 
 -- ---- what is rounded without a sign has none
 odd_unsigned : (d q k l : ℕ) → T (unsigned (odd d false q k l))
@@ -196,4 +147,4 @@ round_unsigned a c =
     (units_unsigned (nearest (a * 2 ^ 149 / (c * 2 ^ (size (a * 2 ^ 149 / c) - 24))) (compare (a * 2 ^ 149 % (c * 2 ^ (size (a * 2 ^ 149 / c) - 24)) * 2) (c * 2 ^ (size (a * 2 ^ 149 / c) - 24)))) (size (a * 2 ^ 149 / c) - 24))
 
 -- for a function that takes a number or none
-pub ruleset float_laws = (nan_is, not_nan, number_bits)
+pub ruleset float_laws = (nan_is, T_from_false, number_bits, of_bits-to_bits, to_z-of_z)

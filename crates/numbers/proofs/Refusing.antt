@@ -5,7 +5,7 @@ use borrow.Author.Tests.{lt-leb}
 use Rattle.std.specs.Prelude.{Result, Ok, Err}
 use Rattle.numbers.specs.declared.refusal.Refusal.{Refusal}
 use Rattle.numbers.specs.declared.refusal.Refusal.TheVariants.{AtLimit}
-use Rattle.numbers.specs.Refusals.{Cause, when, Answer, done, decided, unless, each}
+use Rattle.numbers.specs.Refusals.{Cause, when, done, decided, unless, each}
 
 -- the tests that a path of the code has passed
 pub ruleset tested = (lt-ltb, le-ltb, lt-leb, le-leb)
@@ -22,11 +22,6 @@ decided_append (c ∷ cs) ys = go c.fits (decided_append cs ys)
         → cond b (Err c.refusal) (decided (cs ++ ys)) ≡ unless (cond b (Err c.refusal) (decided cs)) (decided ys)
     go true e = refl
     go false e = e
-
--- an answer handed on twice is handed on once
-pub unless_twice : {A : Type 0} (a b : Answer) (x : Result A Refusal) → unless (unless a b) x ≡ unless a (unless b x)
-unless_twice (Ok t) b x = refl
-unless_twice (Err r) b x = refl
 
 abbrev pub never : Cause
 never = when false AtLimit

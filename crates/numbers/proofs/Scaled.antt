@@ -1,11 +1,10 @@
 -- An f32 in sixty-fourths: added to 2 ^ 17 less half a sixty-fourth, its pattern counts them. One computed test at the pattern before each square, and
 -- that the sum grows with the pattern. Assumes nothing.
-use Rattle.std.proofs.Common.{◌≡◌, ℕ, zero, suc, ◌+◌, ◌-◌, ◌*◌, ◌^◌, ◌<◌, ◌≤◌, Bool, false, ◌&&◌, T, eqb, ltb, pos, negsuc, sym, refl, subst, inl, inr, zero-le, add-one, arith, lit<, eqb→eq, ltb→lt, pow_pos}
+use Rattle.std.proofs.Common.{◌≡◌, ℕ, zero, suc, ◌+◌, ◌-◌, ◌*◌, ◌^◌, ◌<◌, ◌≤◌, Bool, true, false, ◌&&◌, T, eqb, ltb, pos, negsuc, sym, refl, subst, inl, inr, zero-le, add-one, arith, lit<, pow_pos}
 use lib.Ieee.{Float, fin, binary32, add, le, to_bits, of_bits, of_int}
-use lib.Ieee.Fits.{and_l, and_r, add-fits}
-use Rattle.numbers.proofs.Every.{at_number}
+use lib.Ieee.Fits.{add-fits}
 use Rattle.numbers.proofs.Patterns.{val, val_mono}
-use Rattle.numbers.proofs.Units.{lt_or_ge}
+use Rattle.std.proofs.lemmas.Bool.{agree_below_at, and_parts, cases_lt, eqb-true, ltb-true}
 use Rattle.numbers.proofs.Orders.{plain, le_bits, add_mono}
 use Rattle.numbers.proofs.Guesses.{Good, good_value, add_good}
 
@@ -29,15 +28,9 @@ raised_good b h = add_good (of_bits binary32 b) (of_bits binary32 0x47ff_ffff) (
 scaled_mono : (b c : ℕ) → b ≤ c → c < 2139095040 → scaled b ≤ scaled c
 scaled_mono b c h l =
     le_bits (raised (of_bits binary32 b)) (raised (of_bits binary32 c)) (add-fits binary32 (of_bits binary32 b) (of_bits binary32 0x47ff_ffff)) (add-fits binary32 (of_bits binary32 c) (of_bits binary32 0x47ff_ffff))
-    (raised_good b (less b c h l)).0 (raised_good c l).0 (raised_good b (less b c h l)).1
+    (raised_good b (omega arith)).0 (raised_good c l).0 (raised_good b (omega arith)).1
     (subst (λ (z : Float). T (le (add binary32 (of_bits binary32 b) z) (add binary32 (of_bits binary32 c) z))) (sym more)
-    (add_mono (of_bits binary32 b) (of_bits binary32 c) (val b) (val c) (2 ^ 149) 16777215 (negsuc 6) (pow_pos 149) (plain b (less b c h l)) (plain c l) (val_mono b c h (lower c l))))
-  where
-    less : (b c : ℕ) → b ≤ c → c < 2139095040 → b < 2139095040
-    less b c h l = omega arith
-
-    lower : (c : ℕ) → c < 2139095040 → c < 2147483648
-    lower c l = omega arith
+    (add_mono (of_bits binary32 b) (of_bits binary32 c) (val b) (val c) (2 ^ 149) 16777215 (negsuc 6) (pow_pos 149) (plain b (omega arith)) (plain c l) (val_mono b c h (omega arith))))
 
 -- ---- the pattern before the square of suc k counts one less than its sixty-fourths
 unfoldable edge : ℕ → ℕ
@@ -48,21 +41,21 @@ unfoldable counts : ℕ → Bool
 unfolding to_bits of_int edge
 counts k = eqb (edge k) (0x4800_0000 + 64 * (k * k) + 128 * k + 63) && eqb (edge k + 1) (0x4800_0000 + 64 * (suc k * suc k)) && ltb (square (suc k)) 2139095040
 
-test : (k : ℕ) → k < 256 → T (counts k)
+test : (k : ℕ) → k < 256 → counts k ≡ true
 unfolding counts
-test k h = at_number counts 256 tt k h
+test k h = agree_below_at counts (λ _. true) 256 k refl h
 
 edge_below : (k : ℕ) → k < 256 → edge k ≡ 0x4800_0000 + 64 * (k * k) + 128 * k + 63
 unfolding counts
-edge_below k h = eqb→eq (edge k) (0x4800_0000 + 64 * (k * k) + 128 * k + 63) (and_l (eqb (edge k) (0x4800_0000 + 64 * (k * k) + 128 * k + 63)) (eqb (edge k + 1) (0x4800_0000 + 64 * (suc k * suc k))) (and_l (eqb (edge k) (0x4800_0000 + 64 * (k * k) + 128 * k + 63) && eqb (edge k + 1) (0x4800_0000 + 64 * (suc k * suc k))) (ltb (square (suc k)) 2139095040) (test k h)))
+edge_below k h = eqb-true _ _ (and_parts _ _ (and_parts _ _ (test k h)).0).0
 
 edge_at : (k : ℕ) → k < 256 → edge k + 1 ≡ 0x4800_0000 + 64 * (suc k * suc k)
 unfolding counts
-edge_at k h = eqb→eq (edge k + 1) (0x4800_0000 + 64 * (suc k * suc k)) (and_r (eqb (edge k) (0x4800_0000 + 64 * (k * k) + 128 * k + 63)) (eqb (edge k + 1) (0x4800_0000 + 64 * (suc k * suc k))) (and_l (eqb (edge k) (0x4800_0000 + 64 * (k * k) + 128 * k + 63) && eqb (edge k + 1) (0x4800_0000 + 64 * (suc k * suc k))) (ltb (square (suc k)) 2139095040) (test k h)))
+edge_at k h = eqb-true _ _ (and_parts _ _ (and_parts _ _ (test k h)).0).1
 
 square_in : (k : ℕ) → k < 256 → square (suc k) < 2139095040
 unfolding counts
-square_in k h = ltb→lt (square (suc k)) 2139095040 (and_r (eqb (edge k) (0x4800_0000 + 64 * (k * k) + 128 * k + 63) && eqb (edge k + 1) (0x4800_0000 + 64 * (suc k * suc k))) (ltb (square (suc k)) 2139095040) (test k h))
+square_in k h = ltb-true (square (suc k)) 2139095040 (and_parts _ _ (test k h)).1
 
 -- ---- what the two comparisons say
 none : square 0 ≡ 0
@@ -71,39 +64,21 @@ none = refl
 
 up_to_edge : (k b : ℕ) → k < 256 → b < square (suc k) → scaled b ≤ edge k
 unfolding edge
-up_to_edge k b h g = scaled_mono b (square (suc k) - 1) (before b (square (suc k)) g) (lower (square (suc k)) (square_in k h))
-  where
-    before : (b s : ℕ) → b < s → b ≤ s - 1
-    before b s h = omega arith
-
-    lower : (s : ℕ) → s < 2139095040 → s - 1 < 2139095040
-    lower s h = omega arith
+up_to_edge k b h g = scaled_mono b (square (suc k) - 1) (omega arith) (omega (arith, square_in k h))
 
 from_edge : (k b : ℕ) → b < 2139095040 → square (suc k) ≤ b + 1 → edge k ≤ scaled b
 unfolding edge
-from_edge k b l g = scaled_mono (square (suc k) - 1) b (before b (square (suc k)) g) l
-  where
-    before : (b s : ℕ) → s ≤ b + 1 → s - 1 ≤ b
-    before b s h = omega arith
+from_edge k b l g = scaled_mono (square (suc k) - 1) b (omega arith) l
 
 pub from_square : (k b : ℕ) → k < 256 → 0x4800_0000 + 64 * (k * k) ≤ scaled b → square k ≤ b
 from_square zero b h l = subst (λ (x : ℕ). x ≤ b) (sym none) zero-le
-from_square (suc k) b h l = elim (lt_or_ge b (square (suc k))) [
-  | inl g ↦ absurd (off (scaled b) (edge k) (0x4800_0000 + 64 * (suc k * suc k)) (up_to_edge k b (less k h) g) (edge_at k (less k h)) l)
+from_square (suc k) b h l = elim (cases_lt b (square (suc k))) [
+  | inl g ↦ absurd (omega (arith, up_to_edge k b (omega arith) g, edge_at k (omega arith)))
   | inr g ↦ g
 ]
-  where
-    less : (k : ℕ) → suc k < 256 → k < 256
-    less k h = omega arith
-
-    off : (w e q : ℕ) → w ≤ e → e + 1 ≡ q → q ≤ w → ⊥
-    off w e q a b c = omega arith
 
 pub to_square : (k b : ℕ) → k < 256 → b < 2139095040 → scaled b < 0x4800_0000 + 64 * (k * k) + 128 * k + 63 → b + 1 < square (k + 1)
-to_square k b h l w = elim (lt_or_ge (b + 1) (square (k + 1))) [
+to_square k b h l w = elim (cases_lt (b + 1) (square (k + 1))) [
   | inl g ↦ g
-  | inr g ↦ absurd (off (scaled b) (edge k) (0x4800_0000 + 64 * (k * k) + 128 * k + 63) (from_edge k b l (subst (λ (n : ℕ). square n ≤ b + 1) (add-one k) g)) (edge_below k h) w)
+  | inr g ↦ absurd (omega (arith, from_edge k b l (subst (λ (n : ℕ). square n ≤ b + 1) (add-one k) g), edge_below k h))
 ]
-  where
-    off : (w e q : ℕ) → e ≤ w → e ≡ q → w < q → ⊥
-    off w e q a b c = omega arith

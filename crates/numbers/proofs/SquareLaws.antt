@@ -1,14 +1,12 @@
 -- Each threshold is the pattern of its square or the one before it, by a computed test of the 256 entries. So a pattern between two squares, and not the last one, tells the length.
 -- Assumes nothing.
-use Rattle.std.proofs.Common.{◌≡◌, ℕ, suc, ◌+◌, ◌*◌, ◌<◌, ◌≤◌, Bool, false, not, ◌&&◌, T, leb, ◌⊎◌, pos, sym, refl, ap, ◌∙◌, subst, inl, inr, zero-le, le_trans, add-one, arith, lit≤, leb→le}
+use Rattle.std.proofs.Common.{◌≡◌, ℕ, suc, ◌+◌, ◌*◌, ◌<◌, ◌≤◌, Bool, true, false, not, ◌&&◌, T, leb, ◌⊎◌, pos, sym, refl, ap, ◌∙◌, subst, inl, inr, zero-le, le_trans, add-one, arith, lit≤}
 use lib.Ieee.{Float, nan, inf, fin, binary32, lt, fits, is_nan, to_bits, of_bits, of_int}
 use lib.Ieee.Bits.{of_bits-to_bits}
-use lib.Ieee.Fits.{and_l, and_r}
 use Rattle.numbers.specs.Lengths.{length_of}
 use Rattle.numbers.specs.Table.{thresholds}
-use Rattle.numbers.proofs.Every.{at_number}
 use Rattle.numbers.proofs.Patterns.{unsigned}
-use Rattle.numbers.proofs.Units.{lt_or_ge}
+use Rattle.std.proofs.lemmas.Bool.{agree_below_at, and_parts, cases_lt, leb-true}
 use Rattle.numbers.proofs.Orders.{bits_lt, pattern_of}
 use Rattle.numbers.proofs.TableLaws.{entry, length_is}
 
@@ -20,34 +18,29 @@ near : ℕ → Bool
 unfolding thresholds to_bits of_int
 near k = leb (entry k) (square k) && leb (square k) (entry k + 1)
 
-test : (k : ℕ) → k < 256 → T (near k)
+test : (k : ℕ) → k < 256 → near k ≡ true
 unfolding near
-test k h = at_number near 256 tt k h
+test k h = agree_below_at near (λ _. true) 256 k refl h
 
 entry_low : (k : ℕ) → k < 256 → entry k ≤ square k
 unfolding near
-entry_low k h = leb→le (entry k) (square k) (and_l (leb (entry k) (square k)) (leb (square k) (entry k + 1)) (test k h))
+entry_low k h = leb-true (entry k) (square k) (and_parts _ _ (test k h)).0
 
 entry_high : (k : ℕ) → k < 256 → square k ≤ entry k + 1
 unfolding near
-entry_high k h = leb→le (square k) (entry k + 1) (and_r (leb (entry k) (square k)) (leb (square k) (entry k + 1)) (test k h))
+entry_high k h = leb-true (square k) (entry k + 1) (and_parts _ _ (test k h)).1
 
 pub between_is : (k b : ℕ) → k < 256 → b ≤ 2139095040 → square k ≤ b → b + 1 < square (k + 1) → k ≡ length_of (of_bits binary32 b)
-between_is k b h l p q = length_is k b h l (le_trans (entry_low k h) p) (λ g. under (square (suc k)) (entry (suc k)) b (entry_high (suc k) g) (subst (λ (n : ℕ). b + 1 < square n) (add-one k) q))
-  where
-    under : (s e b : ℕ) → s ≤ e + 1 → b + 1 < s → b < e
-    under s e b p q = omega arith
+between_is k b h l p q =
+    length_is k b h l (le_trans (entry_low k h) p) (λ g. omega (arith, entry_high (suc k) g, subst (λ (n : ℕ). b + 1 < square n) (add-one k) q))
 
 -- from the last entry on
 pub beyond_is : (b : ℕ) → b ≤ 2139095040 → 0x477e_0100 ≤ b → 255 ≡ length_of (of_bits binary32 b)
 unfolding thresholds
-beyond_is b l h = length_is 255 b (omega arith) l h (λ g. absurd (none g))
-  where
-    none : 256 < 256 → ⊥
-    none g = omega arith
+beyond_is b l h = length_is 255 b (omega arith) l h (λ g. absurd (omega arith))
 
 from_last : (x : Float) → T (fits binary32 x) → T (unsigned x) → T (not (is_nan x)) → lt x (of_bits binary32 0x477e_0100) ≡ false → 255 ≡ length_of x
-from_last x f u n e = beyond_is (to_bits binary32 x) (pattern_of x f u n) (at_least (lt_or_ge (to_bits binary32 x) 0x477e_0100)) ∙ ap length_of (of_bits-to_bits binary32 x f)
+from_last x f u n e = beyond_is (to_bits binary32 x) (pattern_of x f u n) (at_least (cases_lt (to_bits binary32 x) 0x477e_0100)) ∙ ap length_of (of_bits-to_bits binary32 x f)
   where
     at_least : (to_bits binary32 x < 0x477e_0100) ⊎ (0x477e_0100 ≤ to_bits binary32 x) → 0x477e_0100 ≤ to_bits binary32 x
     at_least (inl l) = absurd (subst T e (subst (λ (z : Float). T (lt z (of_bits binary32 0x477e_0100))) (of_bits-to_bits binary32 x f) (bits_lt (to_bits binary32 x) 0x477e_0100 l (lit≤ tt))))

@@ -1,5 +1,5 @@
 -- `step_of` of a pattern, by cases on the exponent's field. Assumes nothing.
-use Rattle.std.proofs.Common.{◌≡◌, ℕ, zero, suc, ◌+◌, ◌-◌, ◌*◌, ◌/◌, ◌%◌, ◌^◌, ◌<◌, ◌≤◌, min, Bool, true, false, not, ℤ, pos, negsuc, neg_ℤ, nat_abs, sym, refl, ap, ◌∙◌, inl, inr, le_trans, le_of_eq, lt_of_lt_of_le, le_of_lt, mul-le-mul_right, zero-lt-suc, mul_assoc, mul_comm, eq-zero-or-pos, mul-lt-mul_of_pos_right, mul-pos, one-mul, le-div_iff_mul-le, mul_right_comm, mul-div_cancel, arith, pow_pos, pow_mono, pow-add, shr_lt}
+use Rattle.std.proofs.Common.{◌≡◌, ℕ, zero, suc, ◌+◌, ◌-◌, ◌*◌, ◌/◌, ◌%◌, ◌^◌, ◌<◌, ◌≤◌, min, Bool, true, false, not, ℤ, pos, negsuc, neg_ℤ, nat_abs, sym, refl, ap, ◌∙◌, inl, inr, le_trans, le_of_eq, lt_of_lt_of_le, le_of_lt, mul-le-mul_right, zero-lt-suc, mul_assoc, mul_comm, eq-zero-or-pos, mul-lt-mul_of_pos_right, mul-pos, one-mul, le-div_iff_mul-le, mul_right_comm, mul-div_cancel, arith, to_z-of_z, pow_pos, pow_mono, pow-add, shr_lt}
 use native.Mathlib.Nat.{div-eq_of_lt}
 use lib.Ieee.{Float, nan, inf, fin, binary32, up, down, of_bits, round, div, of_int}
 use lib.Ieee.Fits.{down_pos}
@@ -39,37 +39,22 @@ none false = refl
 digits_in : (b : ℕ) → 8388608 + fraction b < 2 ^ 24
 digits_in b = omega arith
 
-field_in : (b : ℕ) → field b ≤ 255
-field_in b = omega arith
-
 -- ---- too small
 small_low : (b k : ℕ) → k ≤ 5 → fraction b * 2 ^ k < 2 ^ 149
 small_low b k h =
-    lt_of_lt_of_le (mul-lt-mul_of_pos_right (in23 b) (pow_pos k))
-    (le_trans (le_of_eq (sym (pow-add 2 23 k))) (pow_mono (fit k h)))
-  where
-    in23 : (b : ℕ) → fraction b < 2 ^ 23
-    in23 b = omega arith
-
-    fit : (k : ℕ) → k ≤ 5 → 23 + k ≤ 149
-    fit k h = omega arith
+    lt_of_lt_of_le (mul-lt-mul_of_pos_right (omega arith) (pow_pos k))
+    (le_trans (le_of_eq (sym (pow-add 2 23 k))) (pow_mono {j = 149} (omega arith)))
 
 small_mid : (q x k : ℕ) → q < 2 ^ 24 → 0 < x → x + k < 127 → q * 2 ^ (x - 1) * 2 ^ k < 2 ^ 149
 small_mid q x k h p l =
     lt_of_lt_of_le (mul-lt-mul_of_pos_right (mul-lt-mul_of_pos_right h (pow_pos (x - 1))) (pow_pos k))
-    (le_trans (le_of_eq (ap (λ (n : ℕ). n * 2 ^ k) (sym (pow-add 2 24 (x - 1))) ∙ sym (pow-add 2 (24 + (x - 1)) k))) (pow_mono (fit x k p l)))
-  where
-    fit : (x k : ℕ) → 0 < x → x + k < 127 → 24 + (x - 1) + k ≤ 149
-    fit x k p l = omega arith
+    (le_trans (le_of_eq (ap (λ (n : ℕ). n * 2 ^ k) (sym (pow-add 2 24 (x - 1))) ∙ sym (pow-add 2 (24 + (x - 1)) k))) (pow_mono {j = 149} (omega arith)))
 
 pub too_small : (b k : ℕ) → k ≤ 5 → field b + k < 127 → step_of k (of_bits binary32 b) ≡ pos 0
 too_small b k h l = elim (eq-zero-or-pos (field b)) [
   | inl z ↦ step_of_value k (of_bits binary32 b) (sign b) (fraction b) (2 ^ 149) (pow_pos 149) (low_value b z) ∙ ap (limited (sign b)) (div-eq_of_lt (small_low b k h)) ∙ none (sign b)
-  | inr p ↦ step_of_value k (of_bits binary32 b) (sign b) ((8388608 + fraction b) * 2 ^ (field b - 1)) (2 ^ 149) (pow_pos 149) (mid_value b p (under (field b) k l)) ∙ ap (limited (sign b)) (div-eq_of_lt (small_mid (8388608 + fraction b) (field b) k (digits_in b) p l)) ∙ none (sign b)
+  | inr p ↦ step_of_value k (of_bits binary32 b) (sign b) ((8388608 + fraction b) * 2 ^ (field b - 1)) (2 ^ 149) (pow_pos 149) (mid_value b p (omega arith)) ∙ ap (limited (sign b)) (div-eq_of_lt (small_mid (8388608 + fraction b) (field b) k (digits_in b) p l)) ∙ none (sign b)
 ]
-  where
-    under : (x k : ℕ) → x + k < 127 → x < 255
-    under x k l = omega arith
 
 -- ---- within range
 shift : (q x k : ℕ) → 0 < x → x + k < 142 → q * 2 ^ (x - 1) * 2 ^ k * 2 ^ (150 - k - x) ≡ q * 2 ^ 149
@@ -82,41 +67,23 @@ shift q x k p l =
     whole x k p l = omega arith
 
 pub cut_in : (b k : ℕ) → field b + k < 142 → (8388608 + fraction b) / 2 ^ (150 - k - field b) < 32768
-cut_in b k l = shr_lt 15 (150 - k - field b) (lt_of_lt_of_le (digits_in b) (pow_mono (fit (field b) k l)))
-  where
-    fit : (x k : ℕ) → x + k < 142 → 24 ≤ 15 + (150 - k - x)
-    fit x k l = omega arith
+cut_in b k l = shr_lt 15 (150 - k - field b) (lt_of_lt_of_le (digits_in b) (pow_mono {i = 24} (omega arith)))
 
 pub in_range : (b k : ℕ) → k ≤ 5 → 127 ≤ field b + k → field b + k < 142 → step_of k (of_bits binary32 b) ≡ limited (sign b) ((8388608 + fraction b) / 2 ^ (150 - k - field b))
 in_range b k h p l =
-    step_of_value k (of_bits binary32 b) (sign b) ((8388608 + fraction b) * 2 ^ (field b - 1)) (2 ^ 149) (pow_pos 149) (mid_value b (some (field b) k h p) (under (field b) k l))
-    ∙ ap (limited (sign b)) (div_same ((8388608 + fraction b) * 2 ^ (field b - 1) * 2 ^ k) (2 ^ 149) (8388608 + fraction b) (2 ^ (150 - k - field b)) (pow_pos 149) (pow_pos (150 - k - field b)) (shift (8388608 + fraction b) (field b) k (some (field b) k h p) l))
-  where
-    some : (x k : ℕ) → k ≤ 5 → 127 ≤ x + k → 0 < x
-    some x k h p = omega arith
-
-    under : (x k : ℕ) → x + k < 142 → x < 255
-    under x k l = omega arith
+    step_of_value k (of_bits binary32 b) (sign b) ((8388608 + fraction b) * 2 ^ (field b - 1)) (2 ^ 149) (pow_pos 149) (mid_value b (omega arith) (omega arith))
+    ∙ ap (limited (sign b)) (div_same ((8388608 + fraction b) * 2 ^ (field b - 1) * 2 ^ k) (2 ^ 149) (8388608 + fraction b) (2 ^ (150 - k - field b)) (pow_pos 149) (pow_pos (150 - k - field b)) (shift (8388608 + fraction b) (field b) k (omega arith) l))
 
 -- ---- beyond it
 large : (q x k : ℕ) → 8388608 ≤ q → k ≤ 5 → 142 ≤ x + k → 32768 * 2 ^ 149 ≤ q * 2 ^ (x - 1) * 2 ^ k
 large q x k h j l =
-    le_trans (le_trans (pow_mono (fit x k j l)) (le_of_eq (pow-add 2 (23 + (x - 1)) k ∙ ap (λ (n : ℕ). n * 2 ^ k) (pow-add 2 23 (x - 1)))))
+    le_trans (le_trans (pow_mono {i = 164} (omega arith)) (le_of_eq (pow-add 2 (23 + (x - 1)) k ∙ ap (λ (n : ℕ). n * 2 ^ k) (pow-add 2 23 (x - 1)))))
     (mul-le-mul_right (2 ^ k) (mul-le-mul_right (2 ^ (x - 1)) h))
-  where
-    fit : (x k : ℕ) → k ≤ 5 → 142 ≤ x + k → 164 ≤ 23 + (x - 1) + k
-    fit x k j l = omega arith
 
 pub beyond : (b k : ℕ) → k ≤ 5 → 142 ≤ field b + k → field b < 255 → step_of k (of_bits binary32 b) ≡ limited (sign b) 32768
 beyond b k h l u =
-    step_of_value k (of_bits binary32 b) (sign b) ((8388608 + fraction b) * 2 ^ (field b - 1)) (2 ^ 149) (pow_pos 149) (mid_value b (some (field b) k h l) u)
-    ∙ over (sign b) ((8388608 + fraction b) * 2 ^ (field b - 1) * 2 ^ k / 2 ^ 149) ((le-div_iff_mul-le (pow_pos 149)).1 (large (8388608 + fraction b) (field b) k (lead b) h l))
-  where
-    some : (x k : ℕ) → k ≤ 5 → 142 ≤ x + k → 0 < x
-    some x k h p = omega arith
-
-    lead : (b : ℕ) → 8388608 ≤ 8388608 + fraction b
-    lead b = omega arith
+    step_of_value k (of_bits binary32 b) (sign b) ((8388608 + fraction b) * 2 ^ (field b - 1)) (2 ^ 149) (pow_pos 149) (mid_value b (omega arith) u)
+    ∙ over (sign b) ((8388608 + fraction b) * 2 ^ (field b - 1) * 2 ^ k / 2 ^ 149) ((le-div_iff_mul-le (pow_pos 149)).1 (large (8388608 + fraction b) (field b) k (omega arith) h l))
 
 -- ---- infinite
 pub at_infinity : (b k : ℕ) → field b ≡ 255 → fraction b ≡ 0 → step_of k (of_bits binary32 b) ≡ limited (sign b) 32768
@@ -155,27 +122,16 @@ power_is (suc (suc (suc (suc (suc (suc k)))))) h = absurd (omega arith)
 
 pub divided : (k : ℕ) (z : ℤ) → mag z < 32768 → div binary32 (of_int binary32 z) (fin false 1 (pos k)) ≡ unstep k z
 unfolding of_int unstep
-divided k (pos n) h = by_power k (round binary32 false n 1) false n (round_whole binary32 false n (wide n h))
-  where
-    wide : (n : ℕ) → n < 32768 → n ≤ 2 ^ 24
-    wide n h = omega arith
-divided k (negsuc n) h = by_power k (round binary32 true (suc n) 1) true (suc n) (round_whole binary32 true (suc n) (wide n h))
-  where
-    wide : (n : ℕ) → n < 32768 → suc n ≤ 2 ^ 24
-    wide n h = omega arith
+divided k (pos n) h = by_power k (round binary32 false n 1) false n (round_whole binary32 false n (omega arith))
+divided k (negsuc n) h = by_power k (round binary32 true (suc n) 1) true (suc n) (round_whole binary32 true (suc n) (omega arith))
 
 -- it is exact
 exact : (k : ℕ) (s : Bool) (n : ℕ) → k ≤ 5 → n ≤ 32768 → HasValue (round binary32 s n (2 ^ k)) s n (2 ^ k)
-exact k s n h l = round_exact binary32 s n (2 ^ k) n (149 - k) (pow_pos k) (wide n l)
-    (lt_of_lt_of_le (mul-lt-mul_of_pos_right (wide n l) (pow_pos (149 - k))) (le_trans (le_of_eq (sym (pow-add 2 24 (149 - k)))) (pow_mono (fit k h))))
+exact k s n h l = round_exact binary32 s n (2 ^ k) n (149 - k) (pow_pos k) (omega arith)
+    (lt_of_lt_of_le (mul-lt-mul_of_pos_right (omega arith) (pow_pos (149 - k)))
+    (le_trans (le_of_eq (sym (pow-add 2 24 (149 - k)))) (pow_mono {j = 277} (omega arith))))
     (ap (λ (e : ℕ). n * 2 ^ e) (whole k h) ∙ ap (λ (e : ℕ). n * e) (pow-add 2 (149 - k) k) ∙ sym (mul_assoc n (2 ^ (149 - k)) (2 ^ k)))
   where
-    wide : (n : ℕ) → n ≤ 32768 → n < 2 ^ 24
-    wide n h = omega arith
-
-    fit : (k : ℕ) → k ≤ 5 → 24 + (149 - k) ≤ 277
-    fit k h = omega arith
-
     whole : (k : ℕ) → k ≤ 5 → 149 ≡ 149 - k + k
     whole k h = omega arith
 
@@ -190,11 +146,8 @@ back k s n h l = step_of_value k (round binary32 s n (2 ^ k)) s n (2 ^ k) (pow_p
 
 pub round_trip : (k : ℕ) (z : ℤ) → k ≤ 5 → mag z < 32768 → step_of k (unstep k z) ≡ z
 unfolding unstep
-round_trip k (pos n) h l = back k false n h (most n l) ∙ ap pos (whole n l)
+round_trip k (pos n) h l = back k false n h (omega arith) ∙ ap pos (whole n l)
   where
-    most : (n : ℕ) → n < 32768 → n ≤ 32768
-    most n l = omega arith
-
     whole : (n : ℕ) → n < 32768 → min n 32767 ≡ n
     whole n l = omega arith
 round_trip k (negsuc n) h l = back k true (suc n) h l ∙ ap (λ (y : ℕ). neg_ℤ (pos y)) (whole n l)
@@ -208,11 +161,8 @@ limited_in false n = under n
   where
     under : (n : ℕ) → min n 32767 < 32768
     under n = omega arith
-limited_in true n = under (min n 32768) (most n)
+limited_in true n = under (min n 32768) (omega arith)
   where
-    most : (n : ℕ) → min n 32768 ≤ 32768
-    most n = omega arith
-
     under : (m : ℕ) → m ≤ 32768 → mag (neg_ℤ (pos m)) < 32768
     under zero h = omega arith
     under (suc m) h = h
@@ -222,3 +172,6 @@ unfolding step_of
 step_in k nan = omega arith
 step_in k (inf s) = limited_in s 32768
 step_in k (fin s m e) = limited_in s (m * up e * 2 ^ k / down e)
+
+-- for `steps_of_number`
+pub ruleset step_laws = (cut_in, too_small, in_range, beyond, at_infinity, to_z-of_z)

@@ -1,22 +1,22 @@
 -- The table's rule: for every pattern from +0 to the infinity, its rounded root is k or more exactly where the pattern is entry k or more. One computed test at the
 -- entries, and that the rounded root grows with the pattern. Assumes nothing.
-use Rattle.std.proofs.Common.{◌≡◌, ℕ, suc, ◌+◌, ◌-◌, ◌*◌, ◌/◌, ◌^◌, ◌<◌, ◌≤◌, min, Bool, true, false, not, ◌&&◌, ◌||◌, T, eqb, ltb, leb, ◌⊎◌, length, get_or, zero-le, sym, refl, ap, ◌∙◌, subst, inl, inr, le_trans, le_of_eq, le_of_lt, mul-le-mul_right, zero-lt-suc, mul_assoc, div-lt_iff_lt-mul, eq-or-lt_of_le, le-div_iff_mul-le, mul-one, mul_right_comm, le_of_mul-le-mul_right, div-one, arith, le→leb, eqb→eq, ltb→lt, leb→le, T_not}
+use Rattle.std.proofs.Common.{◌≡◌, ℕ, suc, ◌+◌, ◌-◌, ◌*◌, ◌/◌, ◌^◌, ◌<◌, ◌≤◌, min, Bool, true, false, not, ◌&&◌, ◌||◌, T, eqb, ltb, leb, ◌⊎◌, length, get_or, zero-le, sym, refl, ap, ◌∙◌, subst, inl, inr, le_trans, le_of_eq, le_of_lt, mul-le-mul_right, zero-lt-suc, mul_assoc, div-lt_iff_lt-mul, eq-or-lt_of_le, le-div_iff_mul-le, mul-one, mul_right_comm, le_of_mul-le-mul_right, div-one, arith, le→leb, leb→le, T_not}
 use lib.Dec.{nleb→lt, not_T}
 use lib.Ieee.{Float, nan, inf, fin, binary32, up, down, of_bits, le}
-use lib.Ieee.Fits.{and_l, and_r, down_pos}
+use lib.Ieee.Fits.{down_pos}
 use lib.Ieee.Exact.{HasValue}
 use lib.Ieee.Nearest.{div_same}
 use Rattle.numbers.specs.Lengths.{root_of, root, reaches, capped, length_of}
 use Rattle.numbers.specs.Table.{thresholds, Least}
 use Rattle.std.specs.List.Sorted.{IsNonDecreasingBy, IsPartitionedBy, IsPartitionPoint}
 use Rattle.std.proofs.lemmas.List.Sorted.{IsNonDecreasingBy-from_all_adjacent, IsPartitionedBy-leb}
-use borrow.Author.Tests.{leb-false}
+use borrow.Author.Tests.{eqb-true, leb-true, leb-false, ltb-true}
 use Rattle.std.proofs.lemmas.List.{get_or_default}
-use Rattle.numbers.proofs.Every.{at}
 use Rattle.numbers.proofs.Patterns.{val, val_mono, unsigned}
 use Rattle.numbers.proofs.Orders.{plain}
 use Rattle.numbers.proofs.Roots.{root_of_mono, no_sign}
-use Rattle.numbers.proofs.Units.{lt_or_ge}
+use Rattle.std.proofs.lemmas.Bool.{agree_below_at, and_parts, cases_lt, or_cases}
+use Rattle.std.proofs.lemmas.Float.{T_from_true}
 use Rattle.numbers.proofs.Cuts.{lt_or_eq}
 
 -- The test of entry k: it is a finite f32's, its own root reaches k, and that of the pattern before it does not.
@@ -27,9 +27,9 @@ least k t = ltb t 0x7f80_0000 && reaches k (root (of_bits binary32 t)) && (eqb k
 abbrev pub entry : ℕ → ℕ
 entry k = get_or thresholds k 0
 
-test : (k : ℕ) → k < 256 → T (least k (entry k))
+test : (k : ℕ) → k < 256 → least k (entry k) ≡ true
 unfolding thresholds least
-test k h = at least thresholds tt k h
+test k h = agree_below_at (λ q. least q (entry q)) (λ _. true) 256 k refl h
 
 -- ---- the root of a pattern
 root_of_value : (x : Float) (v : ℕ) → HasValue x false v (2 ^ 149) → root x ≡ root_of (v * 2 ^ 149)
@@ -72,28 +72,18 @@ reach_mono k b c h l r = elim (eq-or-lt_of_le l) [
   | inl e ↦ subst (λ (x : ℕ). T (reaches k (root (of_bits binary32 x)))) (sym e) (at_infinity k)
   | inr g ↦
       subst (λ (x : Float). T (reaches k x)) (sym (root_at c g))
-      (carry k (root_of (val b * 2 ^ 149)) (root_of (val c * 2 ^ 149)) (no_sign (val c * 2 ^ 149)) (root_of_mono (val b) (val c) (val_mono b c h (lower c g)))
-      (subst (λ (x : Float). T (reaches k x)) (root_at b (under b c h g)) r))
+      (carry k (root_of (val b * 2 ^ 149)) (root_of (val c * 2 ^ 149)) (no_sign (val c * 2 ^ 149)) (root_of_mono (val b) (val c) (val_mono b c h (omega arith)))
+      (subst (λ (x : Float). T (reaches k x)) (root_at b (omega arith)) r))
 ]
-  where
-    lower : (c : ℕ) → c < 2139095040 → c < 2147483648
-    lower c g = omega arith
-
-    under : (b c : ℕ) → b ≤ c → c < 2139095040 → b < 2139095040
-    under b c h g = omega arith
 
 -- ---- the rule
 pub finite : (k : ℕ) → k < 256 → entry k < 2139095040
 unfolding least
-finite k h = ltb→lt (entry k) 2139095040 (and_l (ltb (entry k) 2139095040) (reaches k (root (of_bits binary32 (entry k)))) (and_l (ltb (entry k) 2139095040 && reaches k (root (of_bits binary32 (entry k)))) (eqb k 0 || not (reaches k (root (of_bits binary32 (entry k - 1))))) (test k h)))
+finite k h = ltb-true (entry k) 2139095040 (and_parts _ _ (and_parts _ _ (test k h)).0).0
 
 pub reached : (k b : ℕ) → k < 256 → b ≤ 2139095040 → entry k ≤ b → T (reaches k (root (of_bits binary32 b)))
 unfolding least
-reached k b h l e = reach_mono k (entry k) b e l (and_r (ltb (entry k) 2139095040) (reaches k (root (of_bits binary32 (entry k)))) (and_l (ltb (entry k) 2139095040 && reaches k (root (of_bits binary32 (entry k)))) (eqb k 0 || not (reaches k (root (of_bits binary32 (entry k - 1))))) (test k h)))
-
-pub or_split : (a b : Bool) → T (a || b) → T a ⊎ T b
-or_split true b t = inl tt
-or_split false b t = inr t
+reached k b h l e = reach_mono k (entry k) b e l (T_from_true _ (and_parts _ _ (and_parts _ _ (test k h)).0).1)
 
 pub first : (b : ℕ) → b < entry 0 → ⊥
 unfolding thresholds
@@ -101,16 +91,10 @@ first b h = omega arith
 
 pub missed : (k b : ℕ) → k < 256 → b < entry k → T (not (reaches k (root (of_bits binary32 b))))
 unfolding least
-missed k b h l = elim (or_split (eqb k 0) (not (reaches k (root (of_bits binary32 (entry k - 1))))) (and_r (ltb (entry k) 2139095040 && reaches k (root (of_bits binary32 (entry k)))) (eqb k 0 || not (reaches k (root (of_bits binary32 (entry k - 1))))) (test k h))) [
-  | inl z ↦ absurd (first b (subst (λ (x : ℕ). b < entry x) (eqb→eq k 0 z) l))
-  | inr n ↦ not_T (reaches k (root (of_bits binary32 b))) (λ (r : T (reaches k (root (of_bits binary32 b)))). T_not (reaches k (root (of_bits binary32 (entry k - 1)))) n (reach_mono k b (entry k - 1) (before b (entry k) l) (under (entry k) (finite k h)) r))
+missed k b h l = elim (or_cases _ _ (and_parts _ _ (test k h)).1) [
+  | inl z ↦ absurd (first b (subst (λ (x : ℕ). b < entry x) (eqb-true k 0 z) l))
+  | inr n ↦ not_T (reaches k (root (of_bits binary32 b))) (λ (r : T (reaches k (root (of_bits binary32 b)))). T_not (reaches k (root (of_bits binary32 (entry k - 1)))) (T_from_true _ n) (reach_mono k b (entry k - 1) (omega arith) (omega (arith, finite k h)) r))
 ]
-  where
-    before : (b t : ℕ) → b < t → b ≤ t - 1
-    before b t h = omega arith
-
-    under : (t : ℕ) → t < 2139095040 → t - 1 ≤ 2139095040
-    under t h = omega arith
 
 -- ---- from the rule to the length
 capped_is : (r : ℕ) (x : Float) → r < 256 → T (reaches r x) → (r ≡ 255) ⊎ T (not (reaches (suc r) x)) → r ≡ capped x
@@ -132,26 +116,20 @@ capped_is r (fin false m e) h y n = top r (m * up e / down e) h ((le-div_iff_mul
 
 pub length_is : (r b : ℕ) → r < 256 → b ≤ 2139095040 → entry r ≤ b → (suc r < 256 → b < entry (suc r)) → r ≡ length_of (of_bits binary32 b)
 unfolding length_of
-length_is r b h l e n = capped_is r (root (of_bits binary32 b)) h (reached r b h l e) (side (lt_or_ge (suc r) 256))
+length_is r b h l e n = capped_is r (root (of_bits binary32 b)) h (reached r b h l e) (side (cases_lt (suc r) 256))
   where
-    last : (r : ℕ) → r < 256 → 256 ≤ suc r → r ≡ 255
-    last r h g = omega arith
-
     side : (suc r < 256) ⊎ (256 ≤ suc r) → (r ≡ 255) ⊎ T (not (reaches (suc r) (root (of_bits binary32 b))))
     side (inl g) = inr (missed (suc r) b g (n g))
-    side (inr g) = inl (last r h g)
+    side (inr g) = inl (omega arith)
 
 -- ---- the rule, for all entries together
 pub least_entry : (k : ℕ) → k < 256 → Least k (entry k)
 least_entry k h = record { own = reached k (entry k) h (le_of_lt (finite k h)) (le_of_eq refl); none_below = λ b l. missed k b h l }
 
 -- ---- the place where the entries become more than a pattern
-climbs : ℕ → ℕ → Bool
-climbs k t = leb (entry (k - 1)) t
-
 adjacent : (k : ℕ) → k + 1 < 256 → entry k ≤ entry (k + 1)
-unfolding climbs thresholds
-adjacent k h = let e : k + 1 - 1 ≡ k = omega arith in rw e at (leb→le (entry (k + 1 - 1)) (entry (k + 1)) (at climbs thresholds tt (k + 1) h))
+unfolding thresholds
+adjacent k h = leb-true (entry k) (entry (k + 1)) (agree_below_at (λ q. leb (entry q) (entry (q + 1))) (λ _. true) 255 k refl (omega arith))
 
 all : length thresholds ≡ 256
 unfolding thresholds
@@ -170,7 +148,7 @@ module _ (b r : ℕ) (h : IsPartitionPoint (λ y. leb y b ≡ true) (λ y. leb y
   zero_first = refl
 
   pub point_some : 1 ≤ r
-  point_some = elim (lt_or_ge 0 r) [
+  point_some = elim (cases_lt 0 r) [
     | inl l ↦ l
     | inr g ↦ absurd (omega (arith, leb-false (entry 0) b (h.1 0 0 g (omega (arith, all))), zero_first))
   ]

@@ -1,9 +1,10 @@
 // A position and the steps that it is stored in (document 01, section 3).
-ghost use Rattle.std.specs.Prelude.{◌≡◌};
+ghost use Rattle.std.specs.Prelude.{◌≡◌, from_bits};
+ghost use Rattle.std.specs.Float.{binary32};
 ghost use Rattle.numbers.specs.Positions.{quantised, dequantised};
 
 use crate::math::Vec3;
-use crate::steps::{metres_xy, metres_z, steps_xy, steps_z};
+use crate::steps::{metres_xy, metres_z, steps_xy, steps_xy_of_bits, steps_z, steps_z_of_bits};
 
 // The stored steps of a position.
 #[derive(Clone, Copy)]
@@ -20,6 +21,21 @@ pub fn quantise(p: Vec3) -> Quantised
         x: steps_xy(p.x),
         y: steps_xy(p.y),
         z: steps_z(p.z),
+    }
+}
+
+// The same, from the bits of the three coordinates.
+pub fn quantise_bits(x: u32, y: u32, z: u32) -> Quantised
+    ensures { result ≡ quantised (record {
+      x = from_bits binary32 x;
+      y = from_bits binary32 y;
+      z = from_bits binary32 z;
+    }) }
+{
+    Quantised {
+        x: steps_xy_of_bits(x),
+        y: steps_xy_of_bits(y),
+        z: steps_z_of_bits(z),
     }
 }
 

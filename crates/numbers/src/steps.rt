@@ -34,7 +34,7 @@ fn limit(negative: bool) -> i16
 //   cut to -32768 (along x and y from -8192 down to above -8192.25, along z from -1024 down to above -1024.03125)
 //   has the field of this case too, though an i16 holds it: the limit of its sign is the step that it has.
 // - Infinite is field 255 with the fraction 0: the limit of the sign.
-#[tactic(auto, using(crate::proofs::StepLaws::cut_in))]
+#[tactic(auto, using(crate::proofs::StepLaws::step_laws))]
 fn steps_of_number(b: u32, k: u32) -> i16
     requires { (k ≤ 5) × (b % 0x8000_0000 ≤ 0x7f80_0000) }
     ensures { result ≡ step_of k (from_bits binary32 b) }

@@ -9,6 +9,7 @@ use lib.Dec.{ltb}
 use lib.ListN.{length, take, drop}
 use lib.Seq.{take_at}
 use borrow.Author.Tests.{lt-leb, le-ltb}
+use Rattle.std.proofs.lemmas.List.{nil_from_length}
 use Rattle.cells.specs.Memory.{Memory}
 use Rattle.cells.specs.Cell.{Node}
 use Rattle.cells.specs.CellOf.{nodes_of, cell_of}
@@ -99,16 +100,12 @@ here : (ns : List Node) (p : ℕ) → Leads ns p p []
 unfolding route
 here ns p = record { done = refl; arrives = refl }
 
-no_choices : (bs : List ℕ) → length bs ≤ 0 → bs ≡ []
-no_choices [] h = refl
-no_choices (b ∷ bs) h = absurd (omega arith)
-
 -- T-06: "From a place to itself it has no choices and sum 0"
 pub self_empty : (ns : List Node) (p : ℕ) (bs : List ℕ) → ShortestPath ns p p bs → bs ≡ []
 unfolding distance
 self_empty ns p bs w =
     let l = w.least [] (here ns p) in
-    no_choices bs (w.fewest [] (here ns p) (omega arith))
+    nil_from_length bs (omega (arith, w.fewest [] (here ns p) (omega arith)))
 
 -- at the call: no links and sum 0, with both lists as they were but for the place in the first entry; 7 at 8 where a list is
 -- too short; never 17

@@ -3,18 +3,12 @@ use Prim.Native.Nat.{ℕ, zero, suc, ◌+◌, ◌<◌, ◌≤◌}
 use native.Mathlib.Omega.{arith}
 use mathlib.Core.Path.{◌≡◌, refl}
 use mathlib.Core.Bool.{Bool, true, false}
-use mathlib.Core.Logic.{◌⊎◌, inl, inr, ⊎_elim}
-use lib.Dec.{ltb, eqb}
-use borrow.Author.Tests.{ltb-true, lt-ltb, le-ltb, eqb-true, eqb-false}
+use mathlib.Core.Logic.{⊎_elim}
+use lib.Dec.{ltb}
+use borrow.Author.Tests.{ltb-true, lt-ltb, le-ltb}
+use Rattle.std.proofs.lemmas.Bool.{cases_eq}
 use Rattle.cells.specs.Order.{one_if}
 use Rattle.paths.specs.Labels.{lower, total}
-
-pub same? : (a b : ℕ) → (a ≡ b) ⊎ (a ≡ b → ⊥)
-same? a b = go (eqb a b) refl
-  where
-    go : (t : Bool) → eqb a b ≡ t → (a ≡ b) ⊎ (a ≡ b → ⊥)
-    go true e = inl (eqb-true a b e)
-    go false e = inr (eqb-false a b e)
 
 one_le : (t : Bool) (x : ℕ) → one_if t x ≤ x + 1
 one_le true x = omega arith
@@ -33,7 +27,7 @@ lower_le d k (suc n) = omega (arith, one_le (ltb (d n) k) (lower d k n), lower_l
 pub lower_lt : (d : ℕ → ℕ) (k n v : ℕ) → v < n → k ≤ d v → lower d k n < n
 unfolding lower
 lower_lt d k zero v lt h = absurd (omega arith)
-lower_lt d k (suc n) v lt h = ⊎_elim here (there (λ l. lower_lt d k n v l h)) (same? v n)
+lower_lt d k (suc n) v lt h = ⊎_elim here (there (λ l. lower_lt d k n v l h)) (cases_eq v n)
   where
     here : v ≡ n → lower d k (suc n) < suc n
     here e = rw (le-ltb (d n) k (rw e at h)) (omega (arith, lower_le d k n))
@@ -59,7 +53,7 @@ module _ (d e : ℕ → ℕ) (k l : ℕ) (kl : k ≤ l) where
   pub lower_more : (n : ℕ) → ((x : ℕ) → x < n → e x ≤ d x) → (u : ℕ) → u < n → k ≤ d u → e u < l → lower d k n + 1 ≤ lower e l n
   unfolding lower
   lower_more zero h u lt hk hl = absurd (omega arith)
-  lower_more (suc n) h u lt hk hl = ⊎_elim here (there (λ l. lower_more n (λ x lt. h x (omega arith)) u l hk hl)) (same? u n)
+  lower_more (suc n) h u lt hk hl = ⊎_elim here (there (λ l. lower_more n (λ x lt. h x (omega arith)) u l hk hl)) (cases_eq u n)
     where
       here : u ≡ n → lower d k (suc n) + 1 ≤ lower e l (suc n)
       here q =
@@ -86,7 +80,7 @@ module _ (d e : ℕ → ℕ) where
   pub total_falls : (n : ℕ) → ((x : ℕ) → x < n → e x ≤ d x) → (v : ℕ) → v < n → e v < d v → total e n < total d n
   unfolding total
   total_falls zero h v lt f = absurd (omega arith)
-  total_falls (suc n) h v lt f = ⊎_elim here (there (λ l. total_falls n (λ x lt. h x (omega arith)) v l f)) (same? v n)
+  total_falls (suc n) h v lt f = ⊎_elim here (there (λ l. total_falls n (λ x lt. h x (omega arith)) v l f)) (cases_eq v n)
     where
       here : v ≡ n → total e (suc n) < total d (suc n)
       here q = let g : e n < d n = rw q at f in omega (arith, total_le n (λ x lt. h x (omega arith)))

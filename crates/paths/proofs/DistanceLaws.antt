@@ -6,6 +6,7 @@ use mathlib.Core.Bool.{true, cond}
 use mathlib.Core.List.{List, [], ◌∷◌, map}
 use mathlib.Core.Option.{Option, none, some}
 use lib.ListN.{length, length-map}
+use Rattle.std.proofs.lemmas.Bool.{and_from}
 use Rattle.cells.specs.Lists.{every}
 use Rattle.cells.specs.Order.{new_place, Old}
 use Rattle.cells.specs.Memory.{Memory}
@@ -20,7 +21,7 @@ use Rattle.cells.proofs.Renumbering.NewCell.{none_ped, new_at, new_length, new_n
 use Rattle.cells.proofs.Renumbering.Parted.{new_apart}
 use Rattle.cells.proofs.Renumbering.CellRenumbered.{done_call, refused_call, done_few}
 use Rattle.cells.proofs.WritingBack.KeptCells.{kept_body, kept_node, kept_junction, kept}
-use Rattle.cells.proofs.WritingBack.Kept.{both, read_kept}
+use Rattle.cells.proofs.WritingBack.Kept.{read_kept}
 use Rattle.paths.proofs.WiringBack.{wiring_of, SameWiring, write_read_wiring}
 use Rattle.walks.specs.Sound.{sound}
 use Rattle.walks.specs.Walk.{Next, to, stop, next, link_at}
@@ -198,7 +199,7 @@ unfolding kept fits
 kept_fits c t =
     let t₁ = and_right (every kept_node c.nodes) _ t in
     let t₂ = and_right (every kept_junction c.junctions) _ t₁ in
-    both _ _ (every_imp kept_node node_fits (λ n k. and_right (kept_body n.body) _ k) c.nodes (and_left _ _ t)) (and_left _ _ t₂)
+    and_from _ _ (every_imp kept_node node_fits (λ n k. and_right (kept_body n.body) _ k) c.nodes (and_left _ _ t)) (and_left _ _ t₂)
 
 -- every cell that was read is one whose links and refs fit
 pub read_fits : (system graphics : List ℕ) (lent : Memory) → (read_of system graphics lent).answer ≡ done → fits (cell_of (read_of system graphics lent).memory) ≡ true

@@ -9,6 +9,7 @@ use mathlib.Core.Logic.{⊎_elim}
 use lib.Dec.{eqb, ltb}
 use lib.ListN.{length, get_or, take}
 use borrow.Author.Tests.{ltb-true}
+use Rattle.std.proofs.lemmas.Bool.{cases_lt}
 use Rattle.cells.specs.Memory.{Memory}
 use Rattle.cells.specs.NodeWords.{first_area, link_start, link_count}
 use Rattle.cells.specs.Area.{belongs}
@@ -27,21 +28,17 @@ use Rattle.paths.specs.ShortestPath.{length_at}
 use Rattle.paths.specs.Labels.{Links}
 use Rattle.paths.specs.Search.{edge_by, edge_of}
 use Rattle.paths.specs.declared.search.Edge.{Edge}
-use Rattle.paths.proofs.SearchLaws.{lt_or}
 use Rattle.std.specs.Prelude.{Option, Some, None}
-
-never : {P : Type 0} {i : ℕ} → ◌≡◌ {A = Found ℕ} none (some i) → P
-never e = let z : ◌≡◌ {A = ℕ} 0 1 = cc in absurd (omega arith)
 
 first_inside : (xs : List ℕ) (k q : ℕ) → first_with xs k ≡ some q → q < length xs
 unfolding first_with
-first_inside [] k q e = never e
+first_inside [] k q e = absurd (cc)
 first_inside (x ∷ xs) k q e = go (eqb x k) (first_with xs k) (first_inside xs k) e
   where
     go : (b : Bool) (r : Found ℕ) → ((j : ℕ) → r ≡ some j → j < length xs) → or_later b r ≡ some q → q < suc (length xs)
     go true r h e = let z : 0 ≡ q = cc in omega arith
     go false (some j) h e = let z : suc j ≡ q = cc in omega (arith, h j refl)
-    go false none h e = never e
+    go false none h e = absurd (cc)
 
 find_inside : (xs : List ℕ) (k q : ℕ) → find xs k ≡ some q → q < length xs
 unfolding find
@@ -101,7 +98,7 @@ module _ (m : Memory) where
     -- a link is within the count
     pub link_within : (p b q : ℕ) → p < n → next (nodes_of m) p b ≡ to q → b < count p
     unfolding next
-    link_within p b q lt e = ⊎_elim (λ y. y) (λ le. absurd (no (rw (link_past m fits p b lt le) at e))) (lt_or b (count p))
+    link_within p b q lt e = ⊎_elim (λ y. y) (λ le. absurd (no (rw (link_past m fits p b lt le) at e))) (cases_lt b (count p))
       where
         no : take_link (nodes_of m) none ≡ to q → ⊥
         no e = let z : ◌≡◌ {A = ℕ} 0 1 = cc in omega arith
@@ -127,9 +124,9 @@ module _ (m : Memory) where
       short : (p b : ℕ) → p < n → length_at (nodes_of m) p b ≤ 255
       unfolding length_at
       short p b lt = ⊎_elim
-          (λ a. ⊎_elim (λ i. rw (link_in m fits held p b lt a i) (omega arith)) (λ o. rw (link_out m fits held p b lt a o) (omega arith)) (lt_or (start p + b) l))
+          (λ a. ⊎_elim (λ i. rw (link_in m fits held p b lt a i) (omega arith)) (λ o. rw (link_out m fits held p b lt a o) (omega arith)) (cases_lt (start p + b) l))
           (λ o. rw (link_past m fits p b lt o) (omega arith))
-          (lt_or b (count p))
+          (cases_lt b (count p))
 
       pub links_of : n ≤ 65536 → Links (nodes_of m) n
       links_of few = record {

@@ -7,11 +7,13 @@ use mathlib.Core.List.{List}
 use mathlib.Core.Logic.{◌⊎◌, inl, inr, ⊎_elim}
 use lib.ListN.{length, get_or, set, length-set}
 use lib.Seq.{get_or-set_same, get_or-set_other}
+use Rattle.std.proofs.lemmas.Bool.{cases_eq}
+use Rattle.std.proofs.lemmas.Nat.{div-mul-add, mod-mul-add}
 use Rattle.cells.specs.LookupCall.{first_in}
 use Rattle.cells.proofs.Lookups.LookupLaws.{first_at, first_no}
 use Rattle.paths.specs.Scratch.{chain_at}
+use Rattle.paths.proofs.ScratchLaws.{low_kept, high_put}
 use Rattle.paths.specs.Index.{number_at, head_at, next_at, followed, headed, linked, First, Reach, here, there, Index, Found}
-use Rattle.paths.proofs.Counts.{same?}
 use Rattle.std.specs.Prelude.{Some, None}
 use Rattle.cells.proofs.Lookups.LookupLaws.{find_at, find_other, find_past}
 
@@ -26,8 +28,8 @@ first_of num k b j lt e = go b j lt e (seek j)
         (λ s. inl (s.0, omega (arith, s.1), s.2))
         (λ no. ⊎_elim
         (λ q. inl (i, omega arith, q))
-        (λ nq. inr (λ x lx q. ⊎_elim (λ z. nq (ap num (sym z) ∙ q)) (λ nz. no x (omega arith) q) (same? x i)))
-        (same? (num i) k))
+        (λ nq. inr (λ x lx q. ⊎_elim (λ z. nq (ap num (sym z) ∙ q)) (λ nz. no x (omega arith) q) (cases_eq x i)))
+        (cases_eq (num i) k))
         (seek i)
 
     go : (b j : ℕ) → j < b → num j ≡ k → ((x : ℕ) × (x < j) × (num x ≡ k)) ⊎ ((x : ℕ) → x < j → num x ≡ k → ⊥) → (w : ℕ) × (w ≤ j) × (num w ≡ k) × First num w
@@ -75,9 +77,6 @@ module _ (n i : ℕ) (num head next : ℕ → ℕ) (x : Index n i num head next)
     pub seek_inside : v < n
     seek_inside = omega (arith, s.within, x.within)
 
-    pub seek_found : num v ≡ k → Found n i num k v
-    seek_found q = record { found = λ lt. (s.within, q, s.first); absent = λ le. absurd (omega (arith, seek_inside)) }
-
     pub seek_on : 0 < v → (num v ≡ k → ⊥) → (d : ℕ) → d ≡ next v → Seeking i num next k d × (d < v)
     seek_on pos other d q =
         let t = x.nexts v pos s.within s.first in
@@ -123,8 +122,8 @@ module _ (n i : ℕ) (num head next : ℕ → ℕ) (x : Index n i num head next)
         some = omega arith;
         within = omega arith;
         heads = λ h lh. (omega (arith, (x.heads h lh).0), (x.heads h lh).1);
-        nexts = λ w pos lw fw. ⊎_elim (λ q. absurd (not_first (rw q at fw))) (λ nq. x.nexts w pos (omega arith) fw) (same? w i);
-        all = λ w lw fw. ⊎_elim (λ q. absurd (not_first (rw q at fw))) (λ nq. x.all w (omega arith) fw) (same? w i);
+        nexts = λ w pos lw fw. ⊎_elim (λ q. absurd (not_first (rw q at fw))) (λ nq. x.nexts w pos (omega arith) fw) (cases_eq w i);
+        all = λ w lw fw. ⊎_elim (λ q. absurd (not_first (rw q at fw))) (λ nq. x.all w (omega arith) fw) (cases_eq w i);
       }
 
   -- it is the first: the chain of its number begins with it
@@ -152,12 +151,12 @@ module _ (n i : ℕ) (num head next : ℕ → ℕ) (x : Index n i num head next)
       heads = λ h hh. ⊎_elim
           (λ q. let z : g h ≡ i = ap g q ∙ g-new in rw z (omega arith, first_i))
           (λ nq. rw (g-old h hh nq) (omega (arith, (x.heads h hh).0), (x.heads h hh).1))
-          (same? h (num i % n));
+          (cases_eq h (num i % n));
       nexts = λ v pos lv fv. ⊎_elim
           (λ q. let hd = x.heads (num i % n) lh in let z : d v ≡ head (num i % n) = ap d q ∙ d-new in rw z (omega (arith, hd.0), hd.1))
           (λ nq. rw (d-old v (omega arith) nq) (x.nexts v pos (omega arith) fv))
-          (same? v i);
-      all = λ w lw fw. ⊎_elim (λ q. let z : g (num w % n) ≡ w = ap (λ (y : ℕ). g (num y % n)) q ∙ g-new ∙ sym q in rw z here) (λ nq. old w (omega arith) fw (same? (num w % n) (num i % n))) (same? w i);
+          (cases_eq v i);
+      all = λ w lw fw. ⊎_elim (λ q. let z : g (num w % n) ≡ w = ap (λ (y : ℕ). g (num y % n)) q ∙ g-new ∙ sym q in rw z here) (λ nq. old w (omega arith) fw (cases_eq (num w % n) (num i % n))) (cases_eq w i);
     }
       where
         reach : (w : ℕ) → w < i → First num w → Reach d (head (num w % n)) w
@@ -174,18 +173,6 @@ pub index_same : (n i : ℕ) (num : ℕ → ℕ) (s t : List ℕ) → chain_at t
 unfolding head_at next_at
 index_same n i num s t e x =
     subst₂ (λ (g d : ℕ → ℕ). Index n i num g d) (λ j h. sym e j h % 65536) (λ j v. sym e j v / 65536) x
-
-half : (a b : ℕ) → b < 65536 → (a / 65536 * 65536 + b) % 65536 ≡ b
-half a b h = omega arith
-
-upper : (a b : ℕ) → b < 65536 → (a / 65536 * 65536 + b) / 65536 ≡ a / 65536
-upper a b h = omega arith
-
-low_kept : (a b : ℕ) → (a % 65536 + b * 65536) % 65536 ≡ a % 65536
-low_kept a b = omega arith
-
-high_put : (a b : ℕ) → (a % 65536 + b * 65536) / 65536 ≡ b
-high_put a b = omega arith
 
 module _ (n : ℕ) (s : List ℕ) (room : 4 * n ≤ length s) (v h : ℕ) (lv : v < n) (lh : h < n) (few : n ≤ 65536) where
   one : List ℕ
@@ -204,7 +191,7 @@ module _ (n : ℕ) (s : List ℕ) (room : 4 * n ≤ length s) (v h : ℕ) (lv : 
   one_head k = ⊎_elim
       (λ q. ap (λ (j : ℕ). chain_at one j % 65536) q ∙ ap (λ (a : ℕ). a % 65536) one_same ∙ low_kept (chain_at s v) (chain_at s h % 65536) ∙ ap (λ (j : ℕ). chain_at s j % 65536) (sym q))
       (λ nq. ap (λ (a : ℕ). a % 65536) (one_other k nq))
-      (same? k v)
+      (cases_eq k v)
 
   one_next : next_at one v ≡ head_at s h
   unfolding head_at next_at
@@ -229,13 +216,13 @@ module _ (n : ℕ) (s : List ℕ) (room : 4 * n ≤ length s) (v h : ℕ) (lv : 
   two_next : (k : ℕ) → next_at (headed one h v) k ≡ next_at one k
   unfolding next_at
   two_next k = ⊎_elim
-      (λ q. ap (λ (j : ℕ). chain_at (headed one h v) j / 65536) q ∙ ap (λ (a : ℕ). a / 65536) two_same ∙ upper (chain_at one h) v (omega arith) ∙ ap (λ (j : ℕ). chain_at one j / 65536) (sym q))
+      (λ q. ap (λ (j : ℕ). chain_at (headed one h v) j / 65536) q ∙ ap (λ (a : ℕ). a / 65536) two_same ∙ div-mul-add (chain_at one h / 65536) 65536 v (omega arith) ∙ ap (λ (j : ℕ). chain_at one j / 65536) (sym q))
       (λ nq. ap (λ (a : ℕ). a / 65536) (two_other k nq))
-      (same? k h)
+      (cases_eq k h)
 
   linked_head : head_at (linked s v h) h ≡ v
   unfolding head_at linked one
-  linked_head = ap (λ (a : ℕ). a % 65536) two_same ∙ half (chain_at one h) v (omega arith)
+  linked_head = ap (λ (a : ℕ). a % 65536) two_same ∙ mod-mul-add (chain_at one h / 65536) 65536 v (omega arith)
 
   linked_head_other : (k : ℕ) → k < n → (k ≡ h → ⊥) → head_at (linked s v h) k ≡ head_at s k
   unfolding head_at linked one
@@ -272,7 +259,7 @@ unfolding head_at chain_at
 head_cleared h s inside z k lk = ⊎_elim
     (λ q. ap (λ (j : ℕ). get_or (set s (4 * h + 3) 0) (4 * j + 3) 0 % 65536) q ∙ ap (λ (a : ℕ). a % 65536) (get_or-set_same s (4 * h + 3) 0 0 (omega arith)))
     (λ nq. ap (λ (a : ℕ). a % 65536) (get_or-set_other s (4 * h + 3) (4 * k + 3) 0 0 (omega arith)) ∙ z k (omega arith))
-    (same? k h)
+    (cases_eq k h)
 
 -- what `node` finds, past the node at the number's own place
 pub found_in : (nodes : List (List ℕ)) (n k r : ℕ) → n ≤ length nodes → Found n n (number_at nodes) k r → r < n → Some r ≡ first_in n nodes k

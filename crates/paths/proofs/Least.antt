@@ -8,6 +8,7 @@ use mathlib.Core.Option.{Option, none, some}
 use mathlib.Core.Logic.{⊎_elim}
 use lib.ListN.{length, get_or, length-append, get_or-append}
 use lib.Seq.{get_or_at}
+use Rattle.std.proofs.lemmas.Bool.{cases_eq}
 use Rattle.cells.specs.Cell.{Node, Link, numbers, first_of}
 use Rattle.cells.specs.Area.{belongs}
 use Rattle.cells.specs.Lookup.{find}
@@ -17,7 +18,6 @@ use Rattle.walks.specs.declared.walk.End.{End}
 use Rattle.walks.specs.declared.walk.End.TheVariants.{Done, Left}
 use Rattle.paths.specs.ShortestPath.{length_at, distance, Leads, Least, Unreachable, ShortestPath}
 use Rattle.paths.specs.Labels.{unlabelled, weight, Labelled, Closed, Links, choices_to, places_to, Back}
-use Rattle.paths.proofs.Counts.{same?}
 use Rattle.paths.proofs.Relabel.{label_on, on_sum, on_steps}
 
 -- ---- walks, link by link
@@ -168,7 +168,7 @@ module _ (ns : List Node) (start n : ℕ) (d from by : ℕ → ℕ) (links : Lin
 
   -- only the start has no links
   pub at_start : (v : ℕ) → v < n → d v < unlabelled → d v % 4294967296 ≡ 0 → v ≡ start
-  at_start v lt k z = ⊎_elim (λ q. q) (λ ne. absurd (omega (arith, back_steps v lt k ne))) (same? v start)
+  at_start v lt k z = ⊎_elim (λ q. q) (λ ne. absurd (omega (arith, back_steps v lt k ne))) (cases_eq v start)
 
   not_start : (k v : ℕ) → d v % 4294967296 ≡ suc k → v ≡ start → ⊥
   not_start k v e q = let z : d start % 4294967296 ≡ suc k = rw q at e in omega (arith, ap (λ (x : ℕ). x % 4294967296) h.none_before)
@@ -211,7 +211,7 @@ module _ (ns : List Node) (start n : ℕ) (d from by : ℕ → ℕ) (links : Lin
       each_more i le f = ⊎_elim
           (λ q. ap (λ (y : ℕ). d y % 4294967296) (get_or_at (places_to from k (from v)) v [] 0 i (places_long from by k (from v) ∙ sym q)) ∙ e ∙ sym q)
           (λ nq. rw (get_or-append (places_to from k (from v)) (v ∷ []) 0 i (omega (arith, places_long from by k (from v)))) (f i (omega arith)))
-          (same? i (suc k))
+          (cases_eq i (suc k))
 
   -- The remembered path to a labelled place: a walk there, of the least sum, that visits no place twice, and its sum.
   pub shortest_path : (q : ℕ) → q < n → d q < unlabelled → ShortestPath ns start q (choices_to from by (d q % 4294967296) q)

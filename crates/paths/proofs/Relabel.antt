@@ -7,11 +7,12 @@ use mathlib.Core.List.{List}
 use mathlib.Core.Logic.{⊎_elim}
 use lib.Dec.{eqb}
 use borrow.Author.Tests.{eq-eqb, ne_eqb}
+use Rattle.std.proofs.lemmas.Bool.{cases_eq}
 use Rattle.cells.specs.Cell.{Node}
 use Rattle.walks.specs.Walk.{to, next}
 use Rattle.paths.specs.ShortestPath.{length_at}
 use Rattle.paths.specs.Labels.{unlabelled, weight, lower, total, Labelled, Links}
-use Rattle.paths.proofs.Counts.{same?, lower_lt, lower_grows, lower_more, total_falls}
+use Rattle.paths.proofs.Counts.{lower_lt, lower_grows, lower_more, total_falls}
 
 -- what is known of a label, put into numbers
 module _ (ns : List Node) (start n : ℕ) (d from by : ℕ → ℕ) (links : Links ns n) (h : Labelled ns start n d from by) where
@@ -43,7 +44,7 @@ module _ (ns : List Node) (start n : ℕ) (d from by : ℕ → ℕ) (links : Lin
       (e from' by' : ℕ → ℕ) (new : e v ≡ d u + weight ns u b) (new-from : from' v ≡ u) (new_by : by' v ≡ b)
       (old : (x : ℕ) → x < n → (x ≡ v → ⊥) → e x ≡ d x) (old-from : (x : ℕ) → x < n → (x ≡ v → ⊥) → from' x ≡ from x) (old-by : (x : ℕ) → x < n → (x ≡ v → ⊥) → by' x ≡ by x) where
     pub fell : (x : ℕ) → x < n → e x ≤ d x
-    fell x lt = ⊎_elim here (λ ne. omega (arith, old x lt ne)) (same? x v)
+    fell x lt = ⊎_elim here (λ ne. omega (arith, old x lt ne)) (cases_eq x v)
       where
         here : x ≡ v → e x ≤ d x
         here q = rw q (omega (arith, new))
@@ -73,11 +74,11 @@ module _ (ns : List Node) (start n : ℕ) (d from by : ℕ → ℕ) (links : Lin
         inside = r.inside;
         link = r.link;
         after = omega (arith, r.after, fell (from x) r.inside, old x lt ne);
-      })) (same? x v);
+      })) (cases_eq x v);
       sums = λ x lt l. ⊎_elim (λ q. rw q (omega (arith, lower_u, ap (λ (y : ℕ). y / 4294967296) new, on_sum u b lu k, h.sums u lu k, links.short u b lu)))
-          (λ ne. omega (arith, lower_x x lt (old x lt ne), ap (λ (y : ℕ). y / 4294967296) (old x lt ne), h.sums x lt (omega (arith, old x lt ne)))) (same? x v);
+          (λ ne. omega (arith, lower_x x lt (old x lt ne), ap (λ (y : ℕ). y / 4294967296) (old x lt ne), h.sums x lt (omega (arith, old x lt ne)))) (cases_eq x v);
       steps = λ x lt l. ⊎_elim (λ q. rw q (omega (arith, lower_u, ap (λ (y : ℕ). y % 4294967296) new, on_steps u b lu k, h.steps u lu k)))
-          (λ ne. omega (arith, lower_x x lt (old x lt ne), ap (λ (y : ℕ). y % 4294967296) (old x lt ne), h.steps x lt (omega (arith, old x lt ne)))) (same? x v);
+          (λ ne. omega (arith, lower_x x lt (old x lt ne), ap (λ (y : ℕ). y % 4294967296) (old x lt ne), h.steps x lt (omega (arith, old x lt ne)))) (cases_eq x v);
     }
 
     pub total_fell : total e n < total d n

@@ -6,23 +6,18 @@ use mathlib.Core.List.{List}
 use mathlib.Core.Logic.{⊎_elim}
 use lib.ListN.{length, get_or, set, length-set}
 use lib.Seq.{get_or-set_same, get_or-set_other}
+use Rattle.std.proofs.lemmas.Bool.{cases_eq}
+use Rattle.std.proofs.lemmas.Nat.{div-add-mod', div-mul-add, mod-mul-add}
 use Rattle.paths.specs.Labels.{unlabelled}
 use Rattle.paths.specs.Scratch.{label_at, from_at, by_at, place_at, index_at, chain_at, placed, indexed, stood, labelled, cleared_at, Order, Kept, SameLabels, Swapped, Put, Cleared}
-use Rattle.paths.proofs.Counts.{same?}
 use Rattle.paths.proofs.OrderLaws.{index_i, index_j, index_other, changed}
 
 -- ---- halves of an entry
 
-low_put : (a b : ℕ) → b < 65536 → (a / 65536 * 65536 + b) % 65536 ≡ b
-low_put a b h = omega arith
-
-high_kept : (a b : ℕ) → b < 65536 → (a / 65536 * 65536 + b) / 65536 ≡ a / 65536
-high_kept a b h = omega arith
-
-low_kept : (a b : ℕ) → (a % 65536 + b * 65536) % 65536 ≡ a % 65536
+pub low_kept : (a b : ℕ) → (a % 65536 + b * 65536) % 65536 ≡ a % 65536
 low_kept a b = omega arith
 
-high_put : (a b : ℕ) → (a % 65536 + b * 65536) / 65536 ≡ b
+pub high_put : (a b : ℕ) → (a % 65536 + b * 65536) / 65536 ≡ b
 high_put a b = omega arith
 
 abbrev low : ℕ → ℕ
@@ -30,9 +25,6 @@ low a = a % 65536
 
 abbrev high : ℕ → ℕ
 high a = a / 65536
-
-far : (l : List ℕ) (i a j : ℕ) → (j ≡ i → ⊥) → get_or (set l i a) j 0 ≡ get_or l j 0
-far l i a j ne = get_or-set_other l i j a 0 ne
 
 -- the entries that a label and its chain stand in
 pub labels_by : (n : ℕ) (s t : List ℕ) → ((x : ℕ) → get_or t (4 * x) 0 ≡ get_or s (4 * x) 0) → ((x : ℕ) → get_or t (4 * x + 1) 0 ≡ get_or s (4 * x + 1) 0)
@@ -62,11 +54,11 @@ module _ (s : List ℕ) (i v : ℕ) (inside : 4 * i + 2 < length s) (small : v <
 
   placed_far : (j : ℕ) → (j ≡ 4 * i + 2 → ⊥) → get_or (placed s i v) j 0 ≡ get_or s j 0
   unfolding placed
-  placed_far j ne = far s (4 * i + 2) (get_or s (4 * i + 2) 0 / 65536 * 65536 + v) j ne
+  placed_far j ne = get_or-set_other s (4 * i + 2) j (get_or s (4 * i + 2) 0 / 65536 * 65536 + v) 0 ne
 
   placed_place : place_at (placed s i v) i ≡ v
   unfolding place_at
-  placed_place = ap low placed_at ∙ low_put (get_or s (4 * i + 2) 0) v small
+  placed_place = ap low placed_at ∙ mod-mul-add (get_or s (4 * i + 2) 0 / 65536) 65536 v small
 
   placed_place_other : (k : ℕ) → (k ≡ i → ⊥) → place_at (placed s i v) k ≡ place_at s k
   unfolding place_at
@@ -75,9 +67,9 @@ module _ (s : List ℕ) (i v : ℕ) (inside : 4 * i + 2 < length s) (small : v <
   placed_index : (x : ℕ) → index_at (placed s i v) x ≡ index_at s x
   unfolding index_at
   placed_index x = ⊎_elim
-      (λ q. ap (λ (y : ℕ). high (get_or (placed s i v) (4 * y + 2) 0)) q ∙ ap high placed_at ∙ high_kept (get_or s (4 * i + 2) 0) v small ∙ ap (λ (y : ℕ). high (get_or s (4 * y + 2) 0)) (sym q))
+      (λ q. ap (λ (y : ℕ). high (get_or (placed s i v) (4 * y + 2) 0)) q ∙ ap high placed_at ∙ div-mul-add (get_or s (4 * i + 2) 0 / 65536) 65536 v small ∙ ap (λ (y : ℕ). high (get_or s (4 * y + 2) 0)) (sym q))
       (λ nq. ap high (placed_far (4 * x + 2) (omega arith)))
-      (same? x i)
+      (cases_eq x i)
 
   placed_long : length (placed s i v) ≡ length s
   unfolding placed
@@ -90,7 +82,7 @@ module _ (s : List ℕ) (v i : ℕ) (inside : 4 * v + 2 < length s) where
 
   indexed_far : (j : ℕ) → (j ≡ 4 * v + 2 → ⊥) → get_or (indexed s v i) j 0 ≡ get_or s j 0
   unfolding indexed
-  indexed_far j ne = far s (4 * v + 2) (get_or s (4 * v + 2) 0 % 65536 + i * 65536) j ne
+  indexed_far j ne = get_or-set_other s (4 * v + 2) j (get_or s (4 * v + 2) 0 % 65536 + i * 65536) 0 ne
 
   indexed_index : index_at (indexed s v i) v ≡ i
   unfolding index_at
@@ -105,7 +97,7 @@ module _ (s : List ℕ) (v i : ℕ) (inside : 4 * v + 2 < length s) where
   indexed_place k = ⊎_elim
       (λ q. ap (λ (y : ℕ). low (get_or (indexed s v i) (4 * y + 2) 0)) q ∙ ap low indexed_at ∙ low_kept (get_or s (4 * v + 2) 0) i ∙ ap (λ (y : ℕ). low (get_or s (4 * y + 2) 0)) (sym q))
       (λ nq. ap low (indexed_far (4 * k + 2) (omega arith)))
-      (same? k v)
+      (cases_eq k v)
 
   indexed_long : length (indexed s v i) ≡ length s
   unfolding indexed
@@ -217,21 +209,6 @@ order_same n h p g q o a b = record {
 
 -- ---- a label stored
 
-sum_put : (a b : ℕ) → b < 256 → (a * 256 + b) / 256 ≡ a
-sum_put a b h = omega arith
-
-byte_put : (a b : ℕ) → b < 256 → (a * 256 + b) % 256 ≡ b
-byte_put a b h = omega arith
-
-steps_put : (a b : ℕ) → b < 65536 → (a * 65536 + b) / 65536 ≡ a
-steps_put a b h = omega arith
-
-place_put : (a b : ℕ) → b < 65536 → (a * 65536 + b) % 65536 ≡ b
-place_put a b h = omega arith
-
-whole : (k : ℕ) → k / 4294967296 * 4294967296 + k % 4294967296 ≡ k
-whole k = omega arith
-
 module _ (n : ℕ) (s : List ℕ) (kept : Kept n s) (v k u b : ℕ) (lv : v < n) (lu : u < n) (lb : b < 256) where
   t : List ℕ
   t = labelled s v k u b
@@ -251,11 +228,11 @@ module _ (n : ℕ) (s : List ℕ) (kept : Kept n s) (v k u b : ℕ) (lv : v < n)
 
   other_at : (i : ℕ) → (i ≡ 4 * v → ⊥) → (i ≡ 4 * v + 1 → ⊥) → get_or t i 0 ≡ get_or s i 0
   unfolding t labelled
-  other_at i h0 h1 = far t1 (4 * v + 1) (steps * 65536 + u) i h1 ∙ far s (4 * v) (sum * 256 + b) i h0
+  other_at i h0 h1 = get_or-set_other t1 (4 * v + 1) i (steps * 65536 + u) 0 h1 ∙ get_or-set_other s (4 * v) i (sum * 256 + b) 0 h0
 
   at_sum : get_or t (4 * v) 0 ≡ sum * 256 + b
   unfolding t labelled
-  at_sum = far t1 (4 * v + 1) (steps * 65536 + u) (4 * v) (omega arith) ∙ get_or-set_same s (4 * v) (sum * 256 + b) 0 (omega (arith, kept.room))
+  at_sum = get_or-set_other t1 (4 * v + 1) (4 * v) (steps * 65536 + u) 0 (omega arith) ∙ get_or-set_same s (4 * v) (sum * 256 + b) 0 (omega (arith, kept.room))
 
   at_steps : get_or t (4 * v + 1) 0 ≡ steps * 65536 + u
   unfolding t labelled
@@ -274,9 +251,9 @@ module _ (n : ℕ) (s : List ℕ) (kept : Kept n s) (v k u b : ℕ) (lv : v < n)
           (λ i lt. ap low (other_at (4 * i + 2) (omega arith) (omega arith))) (λ x lt. ap high (other_at (4 * x + 2) (omega arith) (omega arith)));
     };
     label = (λ i. at_sum i / 256 * 4294967296 + at_steps i / 65536)
-        ∙ (λ i. sum_put sum b lb i * 4294967296 + steps_put steps u small_u i) ∙ whole k;
-    from = ap low at_steps ∙ place_put steps u small_u;
-    by = ap (λ (y : ℕ). y % 256) at_sum ∙ byte_put sum b lb;
+        ∙ (λ i. div-mul-add sum 256 b lb i * 4294967296 + div-mul-add steps 65536 u small_u i) ∙ div-add-mod' k 4294967296;
+    from = ap low at_steps ∙ mod-mul-add steps 65536 u small_u;
+    by = ap (λ (y : ℕ). y % 256) at_sum ∙ mod-mul-add sum 256 b lb;
     other_label = λ x lt ne i. other_at (4 * x) (omega arith) (omega arith) i / 256 * 4294967296 + other_at (4 * x + 1) (omega arith) (omega arith) i / 65536;
     other_from = λ x lt ne. ap low (other_at (4 * x + 1) (omega arith) (omega arith));
     other_by = λ x lt ne. ap (λ (y : ℕ). y % 256) (other_at (4 * x) (omega arith) (omega arith));
@@ -294,12 +271,6 @@ pub record Clearing (n v : ℕ) (s : List ℕ) : Type 0 where
   pub place : (x : ℕ) → x < v → place_at s x ≡ x
   pub index : (x : ℕ) → x < v → index_at s x ≡ x
 
-both_low : (v : ℕ) → v < 65536 → v * 65537 % 65536 ≡ v
-both_low v h = omega arith
-
-both_high : (v : ℕ) → v < 65536 → v * 65537 / 65536 ≡ v
-both_high v h = omega arith
-
 module _ (n v : ℕ) (s : List ℕ) (few : n ≤ 65536) (room : 4 * n ≤ length s) (lv : v < n) where
   e : List ℕ
   e = cleared_at s v
@@ -316,15 +287,17 @@ module _ (n v : ℕ) (s : List ℕ) (few : n ≤ 65536) (room : 4 * n ≤ length
 
   e_other : (k : ℕ) → (k ≡ 4 * v → ⊥) → (k ≡ 4 * v + 1 → ⊥) → (k ≡ 4 * v + 2 → ⊥) → get_or e k 0 ≡ get_or s k 0
   unfolding e cleared_at
-  e_other k a b c = far e2 (4 * v + 2) (v * 65537) k c ∙ far e1 (4 * v + 1) 0 k b ∙ far s (4 * v) 4294967295 k a
+  e_other k a b c = get_or-set_other e2 (4 * v + 2) k (v * 65537) 0 c ∙ get_or-set_other e1 (4 * v + 1) k 0 0 b ∙ get_or-set_other s (4 * v) k 4294967295 0 a
 
   e_sum : get_or e (4 * v) 0 ≡ 4294967295
   unfolding e cleared_at
-  e_sum = far e2 (4 * v + 2) (v * 65537) (4 * v) (omega arith) ∙ far e1 (4 * v + 1) 0 (4 * v) (omega arith) ∙ get_or-set_same s (4 * v) 4294967295 0 (omega arith)
+  e_sum =
+      get_or-set_other e2 (4 * v + 2) (4 * v) (v * 65537) 0 (omega arith)
+      ∙ get_or-set_other e1 (4 * v + 1) (4 * v) 0 0 (omega arith) ∙ get_or-set_same s (4 * v) 4294967295 0 (omega arith)
 
   e_steps : get_or e (4 * v + 1) 0 ≡ 0
   unfolding e cleared_at
-  e_steps = far e2 (4 * v + 2) (v * 65537) (4 * v + 1) (omega arith) ∙ get_or-set_same e1 (4 * v + 1) 0 0 (rw length-set (omega arith))
+  e_steps = get_or-set_other e2 (4 * v + 2) (4 * v + 1) (v * 65537) 0 (omega arith) ∙ get_or-set_same e1 (4 * v + 1) 0 0 (rw length-set (omega arith))
 
   e_order : get_or e (4 * v + 2) 0 ≡ v * 65537
   unfolding e cleared_at
@@ -342,15 +315,15 @@ module _ (n v : ℕ) (s : List ℕ) (few : n ≤ 65536) (room : 4 * n ≤ length
     none = λ x lt. ⊎_elim
         (λ q. ap (label_at e) q ∙ e_label)
         (λ ne. (λ i. e_other (4 * x) (omega arith) (omega arith) (omega arith) i / 256 * 4294967296 + e_other (4 * x + 1) (omega arith) (omega arith) (omega arith) i / 65536) ∙ c.none x (omega arith))
-        (same? x v);
+        (cases_eq x v);
     place = λ x lt. ⊎_elim
-        (λ q. ap (place_at e) q ∙ ap low e_order ∙ both_low v (omega arith) ∙ sym q)
+        (λ q. let both : v * 65537 % 65536 ≡ v = omega arith in ap (place_at e) q ∙ ap low e_order ∙ both ∙ sym q)
         (λ ne. ap low (e_other (4 * x + 2) (omega arith) (omega arith) (omega arith)) ∙ c.place x (omega arith))
-        (same? x v);
+        (cases_eq x v);
     index = λ x lt. ⊎_elim
-        (λ q. ap (index_at e) q ∙ ap high e_order ∙ both_high v (omega arith) ∙ sym q)
+        (λ q. let both : v * 65537 / 65536 ≡ v = omega arith in ap (index_at e) q ∙ ap high e_order ∙ both ∙ sym q)
         (λ ne. ap high (e_other (4 * x + 2) (omega arith) (omega arith) (omega arith)) ∙ c.index x (omega arith))
-        (same? x v);
+        (cases_eq x v);
   }
 
   clear_chains : chain_at e ≡ chain_at s

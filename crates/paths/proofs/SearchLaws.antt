@@ -2,33 +2,21 @@
 use Prim.Native.Nat.{ℕ, ◌+◌, ◌-◌, ◌/◌, ◌%◌, ◌<◌, ◌≤◌}
 use native.Mathlib.Omega.{arith}
 use mathlib.Core.Path.{◌≡◌, refl, ap, sym, ◌∙◌, subst₃}
-use mathlib.Core.Bool.{Bool, true, false}
 use mathlib.Core.List.{List}
-use mathlib.Core.Logic.{◌⊎◌, inl, inr, ⊎_elim}
-use lib.Dec.{ltb}
-use borrow.Author.Tests.{ltb-true, ltb-false}
+use mathlib.Core.Logic.{inl, inr, ⊎_elim}
+use Rattle.std.proofs.lemmas.Bool.{cases_eq, cases_lt}
 use Rattle.cells.specs.Cell.{Node}
 use Rattle.walks.specs.Walk.{Next, to, stop, next}
 use Rattle.walks.specs.declared.walk.End.{End}
 use Rattle.paths.specs.Labels.{unlabelled, weight, lower, Remembered, Labelled, Closed, Links}
 use Rattle.paths.specs.Scratch.{label_at, from_at, by_at, index_at, chain_at, Put, Pushed, Popped, Cleared}
 use Rattle.paths.specs.Search.{Taken, Offered, passed, taken, Searching, work}
-use Rattle.paths.proofs.Counts.{same?, lower_grows, total_le}
+use Rattle.paths.proofs.Counts.{lower_grows, total_le}
 use Rattle.paths.proofs.Relabel.{relabelled, fell, total_fell}
-
-pub lt_or : (a b : ℕ) → (a < b) ⊎ (b ≤ a)
-lt_or a b = go (ltb a b) refl
-  where
-    go : (t : Bool) → ltb a b ≡ t → (a < b) ⊎ (b ≤ a)
-    go true e = inl (ltb-true a b e)
-    go false e = inr (ltb-false a b e)
 
 -- one place, by a link
 same_place : {v w : ℕ} {x : Next ℕ} → x ≡ to v → x ≡ to w → w ≡ v
 same_place p q = cc
-
-never : {P : Type 0} {v : ℕ} {e : End} {x : Next ℕ} → x ≡ stop e → x ≡ to v → P
-never p q = let z : ◌≡◌ {A = ℕ} 0 1 = cc in absurd (omega arith)
 
 module _ (ns : List Node) where
   move_link : {x u b i v : ℕ} → x ≡ u → b ≡ i → next ns x b ≡ to v → next ns u i ≡ to v
@@ -84,7 +72,7 @@ module _ (ns : List Node) (start n : ℕ) (links : Links ns n) where
     }
       where
         before : (x b v : ℕ) → x ≡ u → b < i + 1 → next ns x b ≡ to v → b < i
-        before x b v g lt l = ⊎_elim (λ c. never q (move_link ns g c l)) (λ nc. omega arith) (same? b i)
+        before x b v g lt l = ⊎_elim (λ c. let on = move_link ns g c l in absurd (cc)) (λ nc. omega arith) (cases_eq b i)
 
     -- all links of u were looked at
     pub relaxed : ((b v : ℕ) → next ns u b ≡ to v → b < i) → Searching ns start n s size n 0
@@ -104,14 +92,14 @@ module _ (ns : List Node) (start n : ℕ) (links : Links ns n) where
         fits = h.fits;
         labels = h.labels;
         waiting = h.waiting;
-        settled = λ x b w lx wt f l. ⊎_elim (λ g. at_u x b w lx wt g (f g) l) (λ ng. h.settled x b w lx wt (λ g. absurd (ng g)) l) (same? x u);
+        settled = λ x b w lx wt f l. ⊎_elim (λ g. at_u x b w lx wt g (f g) l) (λ ng. h.settled x b w lx wt (λ g. absurd (ng g)) l) (cases_eq x u);
       }
         where
           at_u : (x b w : ℕ) → x < n → size ≤ index_at s x → x ≡ u → b < i + 1 → next ns x b ≡ to w → label_at s w ≤ label_at s x + weight ns x b
           at_u x b w lx wt g lt l = ⊎_elim
               (λ c. move_bound ns (label_at s) (same_place link (move_link ns g c l)) g c (omega arith))
               (λ nc. h.settled x b w lx wt (λ g. omega arith) l)
-              (same? b i)
+              (cases_eq b i)
 
       module _ (t : List ℕ) (less : k < label_at s v) (tk : Taken n size v k u i new s t) where
         small : label_at s u + weight ns u i < label_at s v
@@ -135,7 +123,7 @@ module _ (ns : List Node) (start n : ℕ) (links : Links ns n) where
         u_not_v e = let z : label_at s u + weight ns u i < label_at s u = rw (← e) at small in omega arith
 
         old_wait : (x : ℕ) → x < n → new ≤ index_at t x → size ≤ index_at s x
-        old_wait x lx w = ⊎_elim (λ a. absurd (omega (arith, tk.still x lx a))) (λ b. b) (lt_or (index_at s x) size)
+        old_wait x lx w = ⊎_elim (λ a. absurd (omega (arith, tk.still x lx a))) (λ b. b) (cases_lt (index_at s x) size)
 
         offered_taken : Searching ns start n t new u (i + 1)
         offered_taken = record {
@@ -146,7 +134,7 @@ module _ (ns : List Node) (start n : ℕ) (links : Links ns n) where
               (λ e. rw e (omega (arith, tk.label, h.labels.most v lv)))
               (λ o. omega (arith, fallen x lx, h.waiting x lx o))
               (tk.only x lx w);
-          settled = λ x b w lx wt f l. ⊎_elim (λ g. at_u x b w lx wt g (f g) l) (λ ng. other x b w lx wt (λ g. absurd (ng g)) l) (same? x u);
+          settled = λ x b w lx wt f l. ⊎_elim (λ g. at_u x b w lx wt g (f g) l) (λ ng. other x b w lx wt (λ g. absurd (ng g)) l) (cases_eq x u);
         }
           where
             other : (x b w : ℕ) → x < n → new ≤ index_at t x → (x ≡ u → b < i) → next ns x b ≡ to w → label_at t w ≤ label_at t x + weight ns x b
@@ -157,7 +145,7 @@ module _ (ns : List Node) (start n : ℕ) (links : Links ns n) where
             at_u x b w lx wt g lt l = ⊎_elim
                 (λ c. move_bound ns (label_at t) (same_place link (move_link ns g c l)) g c (omega (arith, tk.label, tk.other_label u lu u_not_v)))
                 (λ nc. other x b w lx wt (λ g. omega arith) l)
-                (same? b i)
+                (cases_eq b i)
 
         work_taken : work n t new ≤ work n s size
         unfolding work
@@ -192,7 +180,7 @@ module _ (ns : List Node) (start n : ℕ) (links : Links ns n) where
     }
       where
         old_wait : (x : ℕ) → x < n → (x ≡ u → ⊥) → size - 1 ≤ index_at t x → size ≤ index_at s x
-        old_wait x lx ne w = ⊎_elim (λ a. absurd (omega (arith, p.still x lx ne a))) (λ b. b) (lt_or (index_at s x) size)
+        old_wait x lx ne w = ⊎_elim (λ a. absurd (omega (arith, p.still x lx ne a))) (λ b. b) (cases_lt (index_at s x) size)
 
     pub up_label : label_at t u < unlabelled
     up_label = omega (arith, p.same.same_label u p.inside, h.waiting u p.inside p.waited)
@@ -223,10 +211,10 @@ module _ (ns : List Node) (start n : ℕ) (links : Links ns n) where
       rest v lv ne = tk.other_label v lv ne ∙ c.none v lv
 
       most : (v : ℕ) → v < n → label_at t v ≤ unlabelled
-      most v lv = ⊎_elim (λ e. rw e (omega (arith, tk.label))) (λ ne. omega (arith, rest v lv ne)) (same? v start)
+      most v lv = ⊎_elim (λ e. rw e (omega (arith, tk.label))) (λ ne. omega (arith, rest v lv ne)) (cases_eq v start)
 
       zero_at : (v : ℕ) → v < n → label_at t v < unlabelled → label_at t v ≡ 0
-      zero_at v lv l = ⊎_elim (λ e. rw e tk.label) (λ ne. absurd (omega (arith, rest v lv ne))) (same? v start)
+      zero_at v lv l = ⊎_elim (λ e. rw e tk.label) (λ ne. absurd (omega (arith, rest v lv ne))) (cases_eq v start)
 
       not_first : (x : ℕ) → new ≤ index_at t x → x ≡ start → ⊥
       not_first x w e = let z : new ≤ index_at t start = rw e at w in omega (arith, tk.waits)

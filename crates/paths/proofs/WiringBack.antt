@@ -10,6 +10,9 @@ use mathlib.Core.Option.{Option, none, some}
 use lib.Dec.{ltb}
 use lib.ListN.{length, get_or, take, drop, length-map, get_or-map}
 use borrow.Author.Tests.{lt-ltb, ltb-true}
+use native.Mathlib.Nat.{mod-eq_of_lt}
+use Rattle.std.proofs.lemmas.List.{map-append, take-map, drop-map}
+use Rattle.std.proofs.lemmas.Bool.{and_from}
 use Rattle.records.specs.Put.{joined}
 use Rattle.records.specs.Sections.{bytes_of}
 use Rattle.records.specs.Records.{node_at, link_at}
@@ -32,7 +35,7 @@ use Rattle.cells.specs.Blocks.{link_record, refs_block, heights_block, junctions
 use Rattle.cells.specs.Read.{if_found, read_arrays, read_of}
 use Rattle.cells.specs.Write.{held, write_call}
 use Rattle.cells.specs.WriteRead.{if_read, if_written, write_read_of}
-use Rattle.cells.proofs.Sequences.Tests.{and_left, and_right, every_at, map_append, map_take, map_drop}
+use Rattle.cells.proofs.Sequences.Tests.{and_left, and_right, every_at}
 use Rattle.cells.proofs.Sequences.Joined.{joined_at, joined_joined}
 use Rattle.cells.proofs.Reading.FileRead.{up_to_same, read_cell}
 use Rattle.cells.proofs.Reading.ReadLaws.{small}
@@ -41,7 +44,6 @@ use Rattle.cells.proofs.Renumbering.NewCell.{new_at}
 use Rattle.cells.proofs.Writing.BlockLaws.{nodes_length}
 use Rattle.cells.proofs.Writing.Starts.{start_some}
 use Rattle.cells.proofs.WritingBack.KeptCells.{kept_link, kept_ref}
-use Rattle.cells.proofs.WritingBack.Kept.{both}
 use Rattle.cells.proofs.WritingBack.BlocksBack.{up_to_all, part_at, part_in, stands_at, start_of, node_record_law, refs_back}
 use Rattle.cells.proofs.WritingBack.SectionBack.{stored_root, array_back, root_read_law, nodes_here, links_here, junctions_here, heights_here, refs_here}
 use Rattle.cells.proofs.WritingBack.WrittenBack.{Told, write_told}
@@ -54,9 +56,6 @@ use Rattle.numbers.proofs.Refusing.{not_refused}
 kept_at : {A B : Type 0} (t : B → Bool) (f : A → B) (xs : List A) (i : ℕ) (z : A) → every t (map f xs) ≡ true → i < length xs → t (f (get_or xs i z)) ≡ true
 kept_at {B = B} t f xs i z h lt =
     ap t (sym (get_or-map f xs i z)) ∙ every_at t (map f xs) i (f z) h (let q : i < length (map f xs) = omega (arith, length-map xs f) in q)
-
-whole : (n : ℕ) → n < 65536 → n % 65536 ≡ n
-whole n h = omega arith
 
 module _ (links nodes : List (List ℕ)) where
   abbrev all : List (List ℕ)
@@ -75,8 +74,8 @@ module _ (links nodes : List (List ℕ)) where
       ap file_link_of (link_back (file_link (to_link w)) (link_in w) (links_block links nodes) (q * 8) (stands_at (links_block links nodes) (link_record w) 8 q (link_length_law (file_link (to_link w)))
       (ap (λ (l : List ℕ). take 8 (drop (8 * q) l)) (joined_joined link_record (links_in links) nodes) ∙ joined_at link_record 8 (λ x. link_length_law (file_link (to_link x))) all q [] lt)))
       ∙ (λ k. record {
-        area = whole (get_or w 0 0) area k;
-        number = whole (get_or w 1 0) number k;
+        area = mod-eq_of_lt area k;
+        number = mod-eq_of_lt number k;
         body = record { flags0 = get_or w 2 0 % 256; flags1 = get_or w 2 0 / 256 % 256; flags2 = get_or w 3 0 % 256; len = get_or w 3 0 / 256 % 256 };
       })
 
@@ -153,7 +152,7 @@ module _ (c : Cell) (few : length c.nodes ≤ 65536) where
   old = old_nodes c.nodes
 
   pub link_again : (l : Link) → kept_link l ≡ true → kept_link (relink old l) ≡ true
-  link_again l t = both (ltb l.area 65536) (ltb (renamed old l.area l.number) 65536) (and_left _ _ t) (renamed_small c.nodes l.area l.number few (and_right (ltb l.area 65536) _ t))
+  link_again l t = and_from (ltb l.area 65536) (ltb (renamed old l.area l.number) 65536) (and_left _ _ t) (renamed_small c.nodes l.area l.number few (and_right (ltb l.area 65536) _ t))
 
   pub ref_again : (r : Ref) → kept_ref r ≡ true → kept_ref (reref old r) ≡ true
   ref_again r t =
@@ -183,7 +182,7 @@ pub record SameWiring (c d : Cell) : Type 0 where
 map_up_to : {A B : Type 0} (f : A → B) (g : ℕ → A) (n : ℕ) → map f (up_to g n) ≡ up_to (λ i. f (g i)) n
 unfolding up_to
 map_up_to f g zero = refl
-map_up_to {B = B} f g (suc n) = map_append f (up_to g n) (g n ∷ []) ∙ ap (λ (l : List B). l ++ (f (g n) ∷ [])) (map_up_to f g n)
+map_up_to {B = B} f g (suc n) = map-append f (up_to g n) (g n ∷ []) ∙ ap (λ (l : List B). l ++ (f (g n) ∷ [])) (map_up_to f g n)
 
 module _ (links nodes : List (List ℕ)) (ok : accepted (check_nodes (λ n. length (links_in links n)) 0 0 nodes) ≡ true) (t : every links_fit (map (node_with (map link_of links)) nodes) ≡ true) where
   abbrev block : List ℕ
@@ -197,7 +196,7 @@ module _ (links nodes : List (List ℕ)) (ok : accepted (check_nodes (λ n. leng
       let start = start_of links nodes i in
       let k : links_fit (node_with (map link_of links) w) ≡ true = kept_at links_fit (node_with (map link_of links)) nodes i [] t lt in
       let same : take (get_or w 6 0 / 65536 % 256) (drop (get_or w 7 0) (map link_of links)) ≡ map link_of (links_in links w) =
-      ap (take (get_or w 6 0 / 65536 % 256)) (map_drop link_of (get_or w 7 0) links) ∙ map_take link_of (get_or w 6 0 / 65536 % 256) (drop (get_or w 7 0) links) in
+      ap (take (get_or w 6 0 / 65536 % 256)) (drop-map link_of (get_or w 7 0) links) ∙ take-map link_of (get_or w 6 0 / 65536 % 256) (drop (get_or w 7 0) links) in
       let kl : every kept_link (map link_of (links_in links w)) ≡ true = ap (every kept_link) (sym same) ∙ k in
       ap (λ (n : raw-node.Node). wiring_of (file_node_of (links_block links nodes) n)) (node_record_law links nodes ok i lt)
       ∙ (λ j. record {

@@ -39,6 +39,7 @@ fn entry_of(nodes: &[NodeWords], scratch: &[u32], upto: usize, k: u16) -> usize
 }
 
 // The place v begins the chain of the remainder h.
+#[tactic(auto, unfolding(crate::specs::Index::linked, crate::specs::Index::headed, crate::specs::Index::followed, crate::specs::Scratch::chain_at))]
 fn link(scratch: &mut [u32], v: usize, h: usize)
     requires { (4 * v + 3 < length scratch.old) × (4 * h + 3 < length scratch.old) × (v < 65536) }
     ensures { scratch.new ≡ linked scratch.old v h }

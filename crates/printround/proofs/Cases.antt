@@ -1,9 +1,9 @@
 -- What is printed by what reading the section, reading the file and following the round answer.
 use Prim.Native.Nat.{ℕ}
-use mathlib.Core.Path.{◌≡◌, sym, ap, ◌∙◌}
+use mathlib.Core.Path.{◌≡◌, ap, ◌∙◌}
 use mathlib.Core.List.{List, [], map}
 use lib.ListN.{take}
-use Rattle.numbers.specs.Refusals.{Answer, number_of, answered}
+use Rattle.numbers.specs.Refusals.{number_of}
 use Rattle.cells.specs.Cell.{Link}
 use Rattle.cells.specs.CellOf.{node_with, link_of, nodes_of}
 use Rattle.cells.specs.Memory.{Memory, memory, Left, left}
@@ -18,7 +18,7 @@ use Rattle.rounds.specs.declared.file.Version.{Version}
 use Rattle.printround.specs.Text.{round_of, refused_of}
 use Rattle.printround.specs.Printed.{walk_of, file_of, section_of, unless_refused, lent, choices_lent}
 use Rattle.printround.specs.Printed.{visited_lent}
-use Rattle.std.specs.Prelude.{Result, Ok, Err}
+use Rattle.std.specs.Prelude.{Ok, Err}
 use Rattle.numbers.specs.declared.refusal.Refusal.{Refusal}
 
 -- a round that ended, in a cell whose links are whatever its words say

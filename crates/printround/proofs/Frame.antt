@@ -5,6 +5,7 @@ use mathlib.Core.Path.{◌≡◌, ap, ◌∙◌}
 use mathlib.Core.List.{List}
 use lib.ListN.{length, take, drop}
 use Rattle.std.proofs.lemmas.Bool.{lt-ltb, le-ltb}
+use Rattle.std.proofs.lemmas.List.{take_rest}
 use Rattle.records.specs.Bytes.{le32}
 use Rattle.printround.specs.Text.{bad_input}
 use Rattle.printround.specs.Printed.{section_of, printed}
@@ -34,3 +35,6 @@ module _ (input : List ℕ) where
           (λ i. section_of (s i) (f i))
           ∙ ap (λ (k : ℕ). section_of (take k (drop 4 input)) (drop (4 + k) input)) said
           ∙ rw (le-ltb _ _ small, le-ltb _ _ four, le-ltb _ _ g)
+
+-- for the function that reads the frame
+pub ruleset frame_laws = (over_size, no_length, cut_off, framed, take_rest)

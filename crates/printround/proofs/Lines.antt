@@ -4,9 +4,8 @@ use native.Mathlib.Numerals.{add-one}
 use mathlib.Core.Path.{◌≡◌, refl, sym, ap, ◌∙◌}
 use mathlib.Core.List.{List, [], ◌∷◌, ◌++◌, map}
 use lib.ListN.{length, get_or, drop, replicate}
-use Rattle.std.proofs.Common.{append_assoc}
-use Rattle.std.proofs.lemmas.List.{drop_all}
-use Rattle.records.proofs.Puts.{split}
+use Rattle.std.proofs.Common.{append_assoc, append-nil}
+use Rattle.std.proofs.lemmas.List.{drop_all, drop_more}
 use Rattle.cells.specs.NodeWords.{number_of, first_area}
 use Rattle.cells.specs.Cell.{Link, Node, node_at, no_node, no_body, first_of}
 use Rattle.cells.specs.CellOf.{node_with, body_of}
@@ -30,7 +29,7 @@ first_line : (ns : List Node) (ps : List ℕ) (k : ℕ) → k < length ps
     → lines_of ns k (drop k ps) ≡ line_of k (node_at ns (get_or ps k 0)) ++ lines_of ns (k + 1) (drop (k + 1) ps)
 unfolding lines_of
 first_line ns ps k h =
-    ap (lines_of ns k) (split ps k 0 h)
+    ap (lines_of ns k) (drop_more ps k 0 h)
     ∙ (λ i. line_of k (node_at ns (get_or ps k 0)) ++ lines_of ns (sym (add-one k) i) (drop (k + 1) ps))
 
 -- a line more behind the lines so far
@@ -49,16 +48,12 @@ line_more links ws ps so_far next after whole w k h found line grown e =
     ∙ ap (λ (x : List ℕ). so_far ++ x) (sym (first_line ns ps k h))
     ∙ e
 
-no_more : (xs : List ℕ) → xs ≡ xs ++ []
-no_more [] = refl
-no_more (x ∷ xs) = ap (λ (ys : List ℕ). x ∷ ys) (no_more xs)
-
 -- all lines are there
 pub lines_done : (ns : List Node) (ps text whole : List ℕ) (k : ℕ) → length ps ≤ k
     → text ++ lines_of ns k (drop k ps) ≡ whole → text ≡ whole
 unfolding lines_of
 lines_done ns ps text whole k h e =
-    no_more text ∙ sym (ap (λ (x : List ℕ). text ++ lines_of ns k x) (drop_all k ps h)) ∙ e
+    sym (append-nil text) ∙ sym (ap (λ (x : List ℕ). text ++ lines_of ns k x) (drop_all k ps h)) ∙ e
 
 -- the head, the lines and the end are the round
 pub round_said : (links : List Link) (ws : List (List ℕ)) (choices : ℕ) (e : End) (places : List ℕ) (area : ℕ)

@@ -1,10 +1,8 @@
 -- The memory lent is the definition's, and a vector whose slice was lent holds what was left in the slice.
 use Prim.Native.Nat.{ℕ}
-use native.Mathlib.Omega.{arith}
-use mathlib.Core.Path.{◌≡◌, ◌∙◌}
-use mathlib.Core.List.{List, ◌++◌}
-use lib.ListN.{length, take, replicate}
-use Rattle.std.proofs.lemmas.List.{take-append-le, take_all}
+use mathlib.Core.Path.{◌≡◌}
+use mathlib.Core.List.{List}
+use lib.ListN.{replicate}
 use Rattle.cells.specs.Memory.{memory}
 use Rattle.cells.specs.NewYnd.{new_ynd}
 use Rattle.printround.specs.Printed.{lent, choices_lent, visited_lent}
@@ -22,6 +20,3 @@ pub memory_lent : (ns ls js rs : List (List ℕ)) (hs : List ℕ) → ns ≡ rep
     → rs ≡ replicate 1024 (replicate 4 0) → memory new_ynd ns ls js hs rs ≡ lent
 unfolding lent
 memory_lent ns ls js rs hs n l j h r = λ i. memory new_ynd (n i) (l i) (j i) (h i) (r i)
-
-pub given_back : {A : Type 0} (n : ℕ) (new rest : List A) → length new ≡ n → take n (new ++ rest) ≡ new
-given_back n new rest h = take-append-le n new rest (omega arith) ∙ take_all n new (omega arith)

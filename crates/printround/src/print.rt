@@ -131,6 +131,7 @@ fn section_read(alloc: Global, section: &[u8], file: &[u8]) -> Result<String, Al
 }
 
 // The text for the whole input.
+#[tactic(auto, using(crate::proofs::Frame::frame_laws))]
 pub(crate) fn text_of(alloc: Global, input: &[u8]) -> Result<String, AllocError>
     ensures { IfOk result (λ text. string_bytes text ≡ printed input.now) }
 {

@@ -1,88 +1,41 @@
 -- Steps counted from the lowest, and the square of a difference, in the words of 32 and 64 bits that the code goes
 -- through. Assumes nothing.
-use Prim.Native.Nat.{ℕ, zero, suc, ◌+◌, ◌-◌, ◌*◌, ◌<◌, ◌≤◌}
+use Prim.Native.Nat.{ℕ, ◌+◌, ◌-◌, ◌*◌, ◌<◌, ◌≤◌}
 use native.Mathlib.Omega.{arith}
-use mathlib.Core.Path.{◌≡◌, refl, sym, ap, ◌∙◌, subst}
+use mathlib.Core.Path.{◌≡◌, refl, ap, ◌∙◌}
 use lib.IntN.{ℤ, pos, negsuc, nat_abs, ◌+ℤ◌, ◌-ℤ◌, ◌*ℤ◌}
 use lib.Signed.{mag}
 use mir.Syntax.{w16, w32, w64}
 use mir.Val.{SFits, to_z, of_z}
-use mir.ValLaws.{to_z-of_z}
-use Rattle.reach.specs.Parts.{square_apart}
-use Rattle.reach.proofs.DistanceLaws.{up, up_small, raised_by, difference, apart_small}
-
-small : (z : ℤ) → mag z < 65536 → SFits w32 z
-small z h = record { sfits = omega arith }
+use Rattle.std.proofs.lemmas.Int.{ints}
+use Rattle.reach.specs.Parts.{raised_step, square_apart}
+use Rattle.reach.proofs.DistanceLaws.{up, up_small, raised_by, raised_up, apart_small}
 
 -- ---- a step and 32,768 more
 
-module _ (z : ℤ) (f : SFits w16 z) where
-  -- the step as a word of 32 bits
-  pub wide_fits : SFits w32 (to_z w16 (of_z w16 z))
-  wide_fits = subst (SFits w32) (sym (to_z-of_z w16 z f)) (small z (omega (arith, f.sfits)))
-
-  wide : to_z w32 (of_z w32 (to_z w16 (of_z w16 z))) ≡ z
-  wide = ap (λ (x : ℤ). to_z w32 (of_z w32 x)) (to_z-of_z w16 z f) ∙ to_z-of_z w32 z (small z (omega (arith, f.sfits)))
-
-  sum : to_z w32 (of_z w32 (to_z w16 (of_z w16 z))) +ℤ pos 32768 ≡ pos (up z)
-  sum = ap (λ (x : ℤ). x +ℤ pos 32768) wide ∙ raised_by z f.sfits
-
-  sum_small : SFits w32 (pos (up z))
-  sum_small = small (pos (up z)) (omega (arith, up_small z f.sfits))
-
-  pub sum_fits : SFits w32 (to_z w32 (of_z w32 (to_z w16 (of_z w16 z))) +ℤ pos 32768)
-  sum_fits = subst (SFits w32) (sym sum) sum_small
-
-  -- what is stored of it
-  pub stored_sum : to_z w32 (of_z w32 (to_z w32 (of_z w32 (to_z w16 (of_z w16 z))) +ℤ pos 32768)) ≡ pos (up z)
-  stored_sum = ap (λ (x : ℤ). to_z w32 (of_z w32 x)) sum ∙ to_z-of_z w32 (pos (up z)) sum_small
+pub stored_sum : (z : ℤ) → SFits w16 z → to_z w32 (of_z w32 (to_z w32 (of_z w32 (to_z w16 (of_z w16 z))) +ℤ pos 32768)) ≡ pos (up z)
+stored_sum z f = omega (arith, ints, raised_by z f.sfits)
 
 -- ---- the square of a difference
 
 -- a small number as a word of 32 bits
 pub as_word : (a : ℕ) → a ≤ 65535 → to_z w32 a ≡ pos a
-as_word a h = to_z-of_z w32 (pos a) (small (pos a) (omega arith))
+as_word a h = omega (arith, ints)
 
 apart_of : (a u : ℕ) → nat_abs (pos a -ℤ pos u) ≡ a - u + (u - a)
-apart_of a zero = omega arith
-apart_of a (suc u) = difference a (suc u)
-
-under : (z : ℤ) (n : ℕ) → nat_abs z ≤ n → mag z ≤ n
-under (pos k) n h = h
-under (negsuc k) n h = omega arith
+apart_of a u = omega (arith, ints)
 
 self_square : (z : ℤ) → z *ℤ z ≡ pos (nat_abs z * nat_abs z)
 self_square (pos k) = refl
 self_square (negsuc k) = refl
 
 module _ (a u : ℕ) (ha : a ≤ 65535) (hu : u ≤ 65535) (A U : ℤ) (ea : A ≡ pos a) (eu : U ≡ pos u) where
-  gap : nat_abs (pos a -ℤ pos u) ≤ 65535
-  gap = omega (arith, apart_of a u)
-
-  less : A -ℤ U ≡ pos a -ℤ pos u
-  less = λ i. ea i -ℤ eu i
-
-  gap_fits : SFits w32 (pos a -ℤ pos u)
-  gap_fits = small (pos a -ℤ pos u) (omega (arith, under (pos a -ℤ pos u) 65535 gap))
-
-  pub less_fits : SFits w32 (A -ℤ U)
-  less_fits = subst (SFits w32) (sym less) gap_fits
-
-  stored_less : to_z w32 (of_z w32 (A -ℤ U)) ≡ pos a -ℤ pos u
-  stored_less = ap (λ (x : ℤ). to_z w32 (of_z w32 x)) less ∙ to_z-of_z w32 (pos a -ℤ pos u) gap_fits
-
-  gap_wide : SFits w64 (pos a -ℤ pos u)
-  gap_wide = record { sfits = omega (arith, under (pos a -ℤ pos u) 65535 gap) }
-
-  pub wide_less : SFits w64 (to_z w32 (of_z w32 (A -ℤ U)))
-  wide_less = subst (SFits w64) (sym stored_less) gap_wide
-
   -- the difference as a word of 64 bits
   abbrev pub word : ℤ
   word = to_z w64 (of_z w64 (to_z w32 (of_z w32 (A -ℤ U))))
 
   factor : word ≡ pos a -ℤ pos u
-  factor = ap (λ (x : ℤ). to_z w64 (of_z w64 x)) stored_less ∙ to_z-of_z w64 (pos a -ℤ pos u) gap_wide
+  factor = omega (arith, ints)
 
   product : word *ℤ word ≡ pos (square_apart a u)
   unfolding square_apart
@@ -90,12 +43,16 @@ module _ (a u : ℕ) (ha : a ≤ 65535) (hu : u ≤ 65535) (A U : ℤ) (ea : A �
       (λ i. factor i *ℤ factor i) ∙ self_square (pos a -ℤ pos u)
       ∙ ap (λ (k : ℕ). pos (k * k)) (apart_of a u)
 
-  product_wide : SFits w64 (pos (square_apart a u))
-  product_wide = record { sfits = omega (arith, apart_small a u ha hu) }
-
-  pub product_fits : SFits w64 (word *ℤ word)
-  product_fits = subst (SFits w64) (sym product) product_wide
-
   pub stored_product : to_z w64 (of_z w64 (word *ℤ word)) ≡ pos (square_apart a u)
-  stored_product =
-      ap (λ (x : ℤ). to_z w64 (of_z w64 x)) product ∙ to_z-of_z w64 (pos (square_apart a u)) product_wide
+  stored_product = ap (λ (x : ℤ). to_z w64 (of_z w64 x)) product ∙ omega (arith, ints, apart_small a u ha hu)
+
+-- as the code has it, with a step z of 16 bits
+abbrev pub word_of : ℕ → ℤ → ℤ
+word_of a z = to_z w64 (of_z w64 (to_z w32 (of_z w32 (to_z w32 a -ℤ to_z w32 (of_z w32 (to_z w32 (of_z w32 (to_z w16 (of_z w16 z))) +ℤ pos 32768))))))
+
+pub apart_cast : (a : ℕ) (z : ℤ) → a ≤ 65535 → mag z < 32768
+    → (to_z w64 (of_z w64 (word_of a z *ℤ word_of a z)) ≡ pos (square_apart a (raised_step z))) × (square_apart a (raised_step z) ≤ 4294836225)
+apart_cast a z h f =
+    let fits : SFits w16 z = record { sfits = f } in
+    let small = up_small z f in
+    rw (raised_up z f) (stored_product a (up z) h small _ _ (as_word a h) (stored_sum z fits), apart_small a (up z) h small)

@@ -3,16 +3,14 @@ use Prim.Native.Nat.{ℕ, zero, suc, ◌+◌, ◌-◌, ◌*◌, ◌<◌, ◌≤�
 use native.Mathlib.Nat.{mul-le-mul}
 use native.Mathlib.Omega.{arith}
 use mathlib.Core.Path.{◌≡◌, refl, ap, sym, ◌∙◌}
-use mathlib.Core.Bool.{Bool, true, false, cond}
 use mathlib.Core.List.{List, []}
-use lib.Dec.{ltb}
-use lib.IntN.{ℤ, pos, negsuc, nat_abs, sub_ℕ, ◌+ℤ◌, ◌-ℤ◌, +ℤ_idl, +ℤ_invr, -ℤ-+ℤ_cancel}
+use lib.IntN.{ℤ, pos, negsuc, nat_abs, ◌+ℤ◌, ◌-ℤ◌, +ℤ_idl, +ℤ_invr, -ℤ-+ℤ_cancel}
 use lib.ListN.{get_or}
 use lib.Signed.{mag}
 use mir.Syntax.{w16}
 use mir.Val.{SFits, to_z, of_z}
 use mir.ValLaws.{to_z-of_z}
-use borrow.Author.Tests.{ltb-true, ltb-false}
+use Rattle.std.proofs.lemmas.Int.{ints}
 use Rattle.numbers.proofs.StepLaws.{step_in}
 use Rattle.reach.specs.Reach.{stored, square, square_distance, squared, distances}
 use Rattle.reach.specs.Parts.{raised_step, square_apart, far_from, far}
@@ -24,39 +22,19 @@ abbrev pub up : ℤ → ℕ
 up (pos n) = n + 32768
 up (negsuc n) = 32767 - n
 
-pub difference : (m n : ℕ) → nat_abs (sub_ℕ m n) ≡ m - n + (n - m)
-difference m n = by_test (ltb m n) refl
-  where
-    by_test : (t : Bool) → ltb m n ≡ t → nat_abs (cond t (negsuc (n - suc m)) (pos (m - n))) ≡ m - n + (n - m)
-    by_test true e = omega (arith, ltb-true m n e)
-    by_test false e = omega (arith, ltb-false m n e)
-
--- a difference that is not negative
-positive : (m n : ℕ) → n ≤ m → sub_ℕ m n ≡ pos (m - n)
-positive m n h = by_test (ltb m n) refl
-  where
-    by_test : (t : Bool) → ltb m n ≡ t → cond t (negsuc (n - suc m)) (pos (m - n)) ≡ pos (m - n)
-    by_test true e = absurd (omega (arith, ltb-true m n e))
-    by_test false e = refl
-
 pub raised_by : (z : ℤ) → mag z < 32768 → z +ℤ pos 32768 ≡ pos (up z)
 raised_by (pos n) h = refl
-raised_by (negsuc n) h = positive 32768 (suc n) (omega arith) ∙ ap pos (omega arith)
+raised_by (negsuc n) h = omega (arith, ints)
 
 pub up_small : (z : ℤ) → mag z < 32768 → up z ≤ 65535
 up_small (pos n) h = omega arith
 up_small (negsuc n) h = omega arith
 
 apart : (a b : ℤ) → mag a < 32768 → mag b < 32768 → nat_abs (a -ℤ b) ≡ up a - up b + (up b - up a)
-apart (pos a) (pos zero) ha hb = omega arith
-apart (pos a) (pos (suc b)) ha hb = difference a (suc b) ∙ omega arith
-apart (pos a) (negsuc b) ha hb = omega arith
-apart (negsuc a) (pos zero) ha hb = difference 0 (suc a) ∙ omega arith
-apart (negsuc a) (pos (suc b)) ha hb = omega arith
-apart (negsuc a) (negsuc b) ha hb = difference (suc b) (suc a) ∙ omega arith
-
-pub square_small : (m : ℕ) → m ≤ 65535 → m * m ≤ 4294836225
-square_small m h = mul-le-mul h h
+apart (pos a) (pos b) ha hb = omega (arith, ints)
+apart (pos a) (negsuc b) ha hb = omega (arith, ints)
+apart (negsuc a) (pos b) ha hb = omega (arith, ints)
+apart (negsuc a) (negsuc b) ha hb = omega (arith, ints)
 
 pub raised_up : (z : ℤ) → mag z < 32768 → raised_step z ≡ up z
 unfolding raised_step
@@ -89,7 +67,7 @@ far_of x y a b nodes fx fy e f =
 -- a square of two words of 16 bits
 pub apart_small : (a b : ℕ) → a ≤ 65535 → b ≤ 65535 → square_apart a b ≤ 4294836225
 unfolding square_apart
-apart_small a b ha hb = square_small (a - b + (b - a)) (omega arith)
+apart_small a b ha hb = let m : a - b + (b - a) ≤ 65535 = omega arith in mul-le-mul m m
 
 -- ---- distance 0
 

@@ -8,18 +8,14 @@ use mathlib.Core.Logic.{⊎_elim}
 use mathlib.Core.List.{List, [], ◌∷◌, ◌++◌}
 use lib.Dec.{leb, ltb, eqb}
 use lib.ListN.{length}
-use borrow.Author.Tests.{lt-ltb, le-ltb, le-leb, eq-eqb, ne_eqb, ltb-true, leb-true, eqb-true, eqb-false}
-use Rattle.numbers.proofs.Units.{lt_or_ge}
+use borrow.Author.Tests.{lt-ltb, le-ltb, eq-eqb, ne_eqb}
+use Rattle.std.proofs.lemmas.Bool.{cases_eq, cases_lt}
+use Rattle.std.proofs.lemmas.Bool.Decides.{nat_tests}
 use Rattle.cells.specs.Order.{one_if}
-use Rattle.cells.proofs.Sequences.Tests.{by_test}
 use Rattle.reach.specs.Reach.{only_if, within, times}
 use Rattle.reach.proofs.TurnLaws.{within_none, within_next}
 
 -- ---- how often
-
--- two numbers are equal, or differ
-pub by_equal : {P : Type 0} (a b : ℕ) → (a ≡ b → P) → ((a ≡ b → ⊥) → P) → P
-by_equal a b f g = by_test (eqb a b) (λ e. f (eqb-true a b e)) (λ e. g (eqb-false a b e))
 
 pub times_more : (p : ℕ) (l : List ℕ) → times p (p ∷ l) ≡ suc (times p l)
 unfolding times
@@ -81,7 +77,7 @@ module _ (d : ℕ → ℕ) (radius : ℕ) where
       let test : ltb p n ≡ ltb p (suc n) = ⊎_elim
       (λ less. lt-ltb p n less ∙ sym (lt-ltb p (suc n) (omega arith)))
       (λ le. le-ltb p n le ∙ sym (le-ltb p (suc n) (omega arith)))
-      (lt_or_ge p n) in
+      (cases_lt p n) in
       ap (λ (x : ℕ). times p (within d radius n) + x) (elsewhere p n (leb (d n) (radius * radius)) ne)
       ∙ add-zero (times p (within d radius n))
       ∙ ih
@@ -93,16 +89,11 @@ module _ (d : ℕ → ℕ) (radius : ℕ) where
   within_once (suc n) p =
       ap (times p) (within_next d radius n)
       ∙ times_join p (within d radius n) (only_if (leb (d n) (radius * radius)) n)
-      ∙ by_equal n p (at_last n p (within_once n p)) (not_last n p (within_once n p))
+      ∙ ⊎_elim (at_last n p (within_once n p)) (not_last n p (within_once n p)) (cases_eq n p)
 
 -- what a count of one or none says
 pub once_is : (a b : ℕ) (c e : ℕ) → 0 < cond (ltb a b && leb c e) 1 0 → (a < b) × (c ≤ e)
-once_is a b c e h = go (ltb a b) refl (leb c e) refl h
-  where
-    go : (t : Bool) → ltb a b ≡ t → (u : Bool) → leb c e ≡ u → 0 < cond (t && u) 1 0 → (a < b) × (c ≤ e)
-    go true f true g h = (ltb-true a b f, leb-true c e g)
-    go true f false g h = absurd (omega arith)
-    go false f u g h = absurd (omega arith)
+once_is a b c e h = grind (arith, nat_tests)
 
 pub once_if : (a b : ℕ) (c e : ℕ) → a < b → c ≤ e → ◌≡◌ {A = ℕ} (cond (ltb a b && leb c e) 1 0) 1
-once_if a b c e lt le = rw (lt-ltb a b lt, le-leb c e le) refl
+once_if a b c e lt le = grind (arith, nat_tests)

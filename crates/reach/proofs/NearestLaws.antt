@@ -6,8 +6,9 @@ use mathlib.Core.Bool.{Bool, true, false, cond}
 use mathlib.Core.Option.{Option, none, some}
 use lib.Dec.{ltb}
 use borrow.Author.Tests.{ltb-true, ltb-false}
+use mathlib.Core.Logic.{⊎_elim}
+use Rattle.std.proofs.lemmas.Bool.{cases_eq}
 use Rattle.reach.specs.Reach.{nearer, nearest_of}
-use Rattle.reach.proofs.ListedLaws.{by_equal}
 
 -- T-01: the least distance, the lowest place where equal
 pub record Nearest (d : ℕ → ℕ) (n q : ℕ) : Type 0 where
@@ -52,20 +53,20 @@ module _ (d : ℕ → ℕ) where
           let f : n ≡ q = cc in
           record {
             place = omega arith;
-            least = λ p lt. by_equal n p (λ g. omega (arith, ap d (sym f ∙ g)))
-                (λ ne. omega (arith, ap d f, h.least p (omega arith)));
-            lowest = λ p lt g. by_equal n p (λ k. omega arith)
-                (λ ne. absurd (omega (arith, ap d f, h.least p (omega arith))));
+            least = λ p lt. ⊎_elim (λ g. omega (arith, ap d (sym f ∙ g)))
+                (λ ne. omega (arith, ap d f, h.least p (omega arith))) (cases_eq n p);
+            lowest = λ p lt g. ⊎_elim (λ k. omega arith)
+                (λ ne. absurd (omega (arith, ap d f, h.least p (omega arith)))) (cases_eq n p);
           }
       go o h false t e =
           let more : d o ≤ d n = ltb-false (d n) (d o) t in
           let f : o ≡ q = cc in
           record {
             place = omega (arith, h.place);
-            least = λ p lt. by_equal n p (λ g. omega (arith, ap d g, ap d f))
-                (λ ne. omega (arith, ap d f, h.least p (omega arith)));
-            lowest = λ p lt g. by_equal n p (λ k. omega (arith, h.place))
-                (λ ne. omega (arith, h.lowest p (omega arith) (g ∙ ap d (sym f))));
+            least = λ p lt. ⊎_elim (λ g. omega (arith, ap d g, ap d f))
+                (λ ne. omega (arith, ap d f, h.least p (omega arith))) (cases_eq n p);
+            lowest = λ p lt g. ⊎_elim (λ k. omega (arith, h.place))
+                (λ ne. omega (arith, h.lowest p (omega arith) (g ∙ ap d (sym f)))) (cases_eq n p);
           }
 
       by_old : (o : Option ℕ) → nearest_of d n ≡ o → nearer d o n ≡ some q

@@ -3,15 +3,16 @@ use Prim.Native.Nat.{ℕ, zero, suc, ◌+◌, ◌-◌, ◌*◌, ◌<◌, ◌≤�
 use native.Mathlib.Nat.{zero-add, suc-add, sub-add_cancel}
 use native.Mathlib.Numerals.{add-one}
 use native.Mathlib.Omega.{arith}
-use mathlib.Core.Path.{◌≡◌, refl, sym, ◌∙◌}
-use mathlib.Core.Bool.{Bool, true, false, cond}
+use mathlib.Core.Path.{◌≡◌, refl, ap, sym, ◌∙◌}
+use mathlib.Core.Bool.{Bool, true, false}
 use mathlib.Core.List.{List, [], ◌∷◌, ◌++◌, append-nil}
 use mathlib.Core.Option.{some}
-use lib.Dec.{leb, ltb}
+use lib.Dec.{leb}
 use lib.Ieee.{binary32, of_bits}
 use lib.ListN.{get_or, length, drop, set, length-append}
 use lib.Seq.{drop-cons, set_at, append_snoc}
-use borrow.Author.Tests.{le-leb, lt-leb, lt-ltb, le-ltb, ltb-true, ltb-false}
+use borrow.Author.Tests.{le-leb, lt-leb, lt-ltb, le-ltb}
+use Rattle.std.proofs.lemmas.Bool.Decides.{nat_tests}
 use Rattle.numbers.specs.Steps.{step_of}
 use Rattle.cells.specs.Words.{to_node}
 use Rattle.cells.specs.Lists.{join_to}
@@ -20,27 +21,13 @@ use Rattle.reach.specs.Parts.{bounded, far_from, square_apart, raised_step}
 
 -- ---- a distance as far as a limit
 
-bounded_below : (limit d : ℕ) → bounded limit d < limit → (d < limit) × (bounded limit d ≡ d)
-bounded_below limit d = go (ltb d limit) refl
-  where
-    go : (t : Bool) → ltb d limit ≡ t → cond t d limit < limit → (d < limit) × (cond t d limit ≡ d)
-    go true e h = (ltb-true d limit e, refl)
-    go false e h = absurd (omega arith)
-
-bounded_not : (limit d : ℕ) → limit ≤ bounded limit d → limit ≤ d
-bounded_not limit d = go (ltb d limit) refl
-  where
-    go : (t : Bool) → ltb d limit ≡ t → limit ≤ cond t d limit → limit ≤ d
-    go true e h = h
-    go false e h = ltb-false d limit e
-
 -- of a number r that was compared with the limit
 module _ (r limit d : ℕ) (e : r ≡ bounded limit d) where
   pub below_limit : r < limit → (d < limit) × (r ≡ d)
-  below_limit h = let b = bounded_below limit d (rw e at h) in (b.0, e ∙ b.1)
+  below_limit h = grind (arith, nat_tests)
 
   pub not_below : limit ≤ r → limit ≤ d
-  not_below h = bounded_not limit d (rw e at h)
+  not_below h = grind (arith, nat_tests)
 
 pub bounded_under : (limit d : ℕ) → d < limit → bounded limit d ≡ d
 bounded_under limit d h = rw (lt-ltb d limit h) refl
@@ -93,6 +80,24 @@ pub filled_more : (l s : List ℕ) (k v : ℕ) → k ≡ length l → k < length
     → set (l ++ drop k s) k v ≡ (l ++ (v ∷ [])) ++ drop (k + 1) s
 filled_more l s k v e h =
     rw (drop-cons s k 0 h, set_at l _ _ v k (sym e), add-one) (sym (append_snoc l v (drop (suc k) s)))
+
+-- one node more, by the number r that was compared with the limit
+module _ (d : ℕ → ℕ) (radius i r limit : ℕ) (e : r ≡ bounded limit (d i)) (l : limit ≡ radius * radius + 1) where
+  pub listed_near : r < limit → within d radius (i + 1) ≡ within d radius i ++ (i ∷ [])
+  listed_near h = within_near d radius i (omega (arith, (below_limit r limit (d i) e h).0))
+
+  pub listed_not : limit ≤ r → within d radius (i + 1) ≡ within d radius i
+  listed_not h = within_not d radius i (omega (arith, not_below r limit (d i) e h))
+
+  pub room_near : (n room : ℕ) → r < limit → i < n → length (within d radius n) ≤ room → length (within d radius i) < room
+  room_near n room h lt le =
+      omega (arith, ap length (listed_near h), length-append (within d radius i) (i ∷ []), within_more d radius (i + 1) n (omega arith))
+
+  pub filled_near : (before places : List ℕ) (k : ℕ) → r < limit → k ≡ length (within d radius i) → k < length before
+      → places ≡ within d radius i ++ drop k before → set places k i ≡ within d radius (i + 1) ++ drop (k + 1) before
+  filled_near before places k h long room is =
+      ap (λ (p : List ℕ). set p k i) is ∙ filled_more (within d radius i) before k i long room
+      ∙ ap (λ (p : List ℕ). p ++ drop (k + 1) before) (sym (listed_near h))
 
 -- ---- the nearest
 

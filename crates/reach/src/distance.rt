@@ -34,6 +34,7 @@ pub(crate) fn beyond(radius: u16) -> u64
 }
 
 // The square of the steps between a, counted from the lowest, and a coordinate, given by its bits.
+#[tactic(auto, using(crate::proofs::Casts::apart_cast))]
 fn square_apart(a: u16, bits: u32) -> u64
     ensures { (result ≡ square_apart a (raised_step (step_of 2 (of_bits binary32 bits))))
         × (result ≤ 4294836225) }

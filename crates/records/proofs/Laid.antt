@@ -1,5 +1,5 @@
 -- Blocks lie at multiples of 16, apart, inside the total; and each is found where its address says. Each law by one induction over the blocks.
-use Prim.Native.Nat.{ℕ, zero, suc, ◌+◌, ◌-◌, ◌%◌, ◌≤◌, ◌<◌}
+use Prim.Native.Nat.{ℕ, zero, suc, ◌+◌, ◌%◌, ◌≤◌, ◌<◌}
 use native.Mathlib.Omega.{arith}
 use native.Mathlib.Nat.{add-zero}
 use mathlib.Core.Path.{◌≡◌, refl, sym, ap, ◌∙◌}
@@ -7,6 +7,7 @@ use mathlib.Core.List.{List, [], ◌∷◌, ◌++◌, map, append_assoc}
 use lib.ListN.{length, get_or, take, drop, replicate, length-append, length-replicate}
 use lib.Seq.{take-append_seam, drop_at}
 use borrow.Author.Tests.{eq-eqb, ne_eqb}
+use Rattle.std.proofs.lemmas.Bool.Decides.{nat_tests}
 use Rattle.records.specs.Bytes.{number_bytes}
 use Rattle.records.specs.Put.{put}
 use Rattle.records.specs.Root.{root_bytes}
@@ -25,23 +26,17 @@ some : (n s : ℕ) → (s ≡ 0 → ⊥) → start_of n s ≡ n + gap_for n s
 unfolding start_of
 some n s h = rw (ne_eqb s 0 h)
 
-by_size : (P : ℕ → Type 0) (s : ℕ) → P 0 → ((s ≡ 0 → ⊥) → P s) → P s
-by_size P zero a b = a
-by_size P (suc s) a b = b (λ e. omega arith)
-
 pub gap_small : (n s : ℕ) → gap_for n s ≤ 15
 unfolding gap_for
-gap_small n s = by_size (λ (k : ℕ). gap_for n k ≤ 15) s (omega arith) (λ h. rw (ne_eqb s 0 h) (omega arith))
+gap_small n s = grind (arith, nat_tests)
 
 pub at_16 : (n s : ℕ) → start_of n s % 16 ≡ 0
-unfolding gap_for
-at_16 n s = by_size (λ (k : ℕ). start_of n k % 16 ≡ 0) s (ap (λ (k : ℕ). k % 16) (none n)) (λ h. ap (λ (k : ℕ). k % 16) (some n s h) ∙ rw (ne_eqb s 0 h) (aligned n))
-  where
-    aligned : (n : ℕ) → (n + (16 - n % 16) % 16) % 16 ≡ 0
-    aligned n = omega arith
+unfolding start_of gap_for
+at_16 n s = grind (arith, nat_tests)
 
 ends : (n s : ℕ) → start_of n s + s ≤ end_of n s
-ends n s = by_size (λ (k : ℕ). start_of n k + k ≤ end_of n k) s (omega (arith, none n)) (λ h. omega (arith, some n s h))
+unfolding start_of gap_for
+ends n s = grind (arith, nat_tests)
 
 pub padded_length : (n : ℕ) (b : List ℕ) → length (padded n b) ≡ gap_for n (length b) + length b
 unfolding padded

@@ -24,10 +24,6 @@ use Rattle.records.specs.Bytes.{byte_at, number_at, number_bytes, bytes16, signe
 pub byte_below : (s : List ℕ) (at : ℕ) → byte_at s at < 256
 byte_below s at = omega arith
 
--- a byte is its own remainder
-pub byte_whole : (n : ℕ) → n < 256 → n ≡ n % 256
-byte_whole n h = omega arith
-
 pub number_below : (w : ℕ) (s : List ℕ) (at : ℕ) → number_at w s at < 256 ^ w
 unfolding number_at
 number_below zero s at = omega arith
@@ -102,14 +98,6 @@ signed_small n h = go (ltb n 32768) refl
   where
     go : (b : Bool) → ltb n 32768 ≡ b → mag (cond b (pos n) (negsuc (65535 - n))) < 32768
     go true e = omega (arith, ltb-true n 32768 e)
-    go false e = omega (arith, ltb-false n 32768 e)
-
-pub bits_back : (n : ℕ) → n < 65536 → bits16 (signed16 n) ≡ n
-unfolding signed16 bits16
-bits_back n h = go (ltb n 32768) refl
-  where
-    go : (b : Bool) → ltb n 32768 ≡ b → bits16 (cond b (pos n) (negsuc (65535 - n))) ≡ n
-    go true e = refl
     go false e = omega (arith, ltb-false n 32768 e)
 
 pub bits_below : (z : ℤ) → mag z < 32768 → bits16 z < 65536

@@ -1,7 +1,7 @@
 -- Laws of `put`: what is put in parts is put whole.
 use Prim.Native.Nat.{ℕ, ◌+◌, ◌-◌, ◌*◌, ◌≤◌, ◌<◌}
 use native.Mathlib.Omega.{arith}
-use native.Mathlib.Nat.{add-zero, zero-add}
+use native.Mathlib.Nat.{add-zero, mod-eq_of_lt, zero-add}
 use native.Mathlib.Numerals.{add-one}
 use mathlib.Core.Path.{◌≡◌, refl, ap, sym, ◌∙◌}
 use mathlib.Core.List.{List, [], ◌∷◌, ◌++◌, append_assoc, append-nil}
@@ -10,10 +10,12 @@ use borrow.Author.Tests.{le-leb, lt-leb, leb-true, leb-false}
 use borrow.Rule.Slice.PartMut.{put_mid}
 use mathlib.Core.Bool.{Bool, true, false, cond}
 use lib.Dec.{leb}
-use Rattle.std.proofs.lemmas.List.{set-append_left}
-use lib.Seq.{length-take-le, take_at, drop-append-add, drop-drop, set_split, drop-cons, append_snoc}
-use Rattle.records.proofs.LittleEndian.{bytes_length, byte_whole, le_bytes16, le_bytes32, le_bytes64}
+use Rattle.std.proofs.lemmas.List.{drop_more, set-append_left}
+use lib.Seq.{length-take-le, take_at, drop-append-add, drop-drop, set_split, append_snoc}
+use Rattle.records.proofs.LittleEndian.{bytes_length, le_bytes16, le_bytes32, le_bytes64}
+use Rattle.records.proofs.Shape.{placed, placed_is}
 use Rattle.records.specs.Put.{put, put_in, end_inside, joined}
+use Rattle.std.specs.List.{concat}
 use Rattle.std.specs.Prelude.{Ok, Err}
 use Rattle.numbers.specs.declared.refusal.Refusal.{Refusal}
 use Rattle.numbers.specs.declared.refusal.Lent.TheVariants as lent
@@ -106,9 +108,9 @@ module _ {A : Type 0} where
   pub ended : (l₀ l : List A) (at p : ℕ) (rest whole : List A) → put l p rest ≡ put l₀ at whole → rest ≡ [] → l ≡ put l₀ at whole
   ended l₀ l at p rest whole before none = sym (put_nil l p) ∙ ap (put l p) (sym none) ∙ before
 
-  -- one element and what is behind it
-  pub split : (l : List A) (i : ℕ) (z : A) → i < length l → drop i l ≡ get_or l i z ∷ drop (i + 1) l
-  split l i z h = drop-cons l i z h ∙ ap (λ (k : ℕ). get_or l i z ∷ drop k l) (sym (add-one i))
+-- one element and what is behind it
+pub split : {A : Type 0} (l : List A) (i : ℕ) (z : A) → i < length l → drop i l ≡ get_or l i z ∷ drop (i + 1) l
+split l i z h = drop_more l i z h
 
 pub joined_length : {A B : Type 0} (f : A → List B) (w : ℕ) → ((x : A) → length (f x) ≡ w) → (l : List A) → length (joined f l) ≡ w * length l
 unfolding joined
@@ -119,7 +121,7 @@ joined_length f w wide (x ∷ xs) = length-append (f x) (joined f xs) ∙ omega 
 
 pub joined_split : {A B : Type 0} (f : A → List B) (xs : List A) (i : ℕ) (z : A) → i < length xs → joined f (drop i xs) ≡ f (get_or xs i z) ++ joined f (drop (i + 1) xs)
 unfolding joined
-joined_split f xs i z h = ap (joined f) (split xs i z h)
+joined_split f xs i z h = ap (joined f) (drop_more xs i z h)
 
 pub joined_turn : {A B : Type 0} (f : A → List B) (l₀ l l' whole : List B) (at p q : ℕ) (xs : List A) (i : ℕ) (z : A) → i < length xs
     → put l p (joined f (drop i xs)) ≡ put l₀ at whole → l' ≡ put l p (f (get_or xs i z)) → q ≡ p + length (f (get_or xs i z)) → p ≤ length l
@@ -141,4 +143,21 @@ pub ruleset put_laws = (put_fits, put_out, put_part, part_long, end_found, end_o
 -- for a function that puts a number's bytes
 pub ruleset number_laws = (bytes_length, le_bytes16, le_bytes32, le_bytes64, put_part)
 
-pub ruleset byte_laws = (byte_whole, set_put)
+pub ruleset byte_laws = (mod-eq_of_lt, set_put)
+
+-- fields that are put one behind the other, the next one k bytes behind `at`
+pub data Fields (at : ℕ) : ℕ → List ℕ → List (List ℕ) → List ℕ → Type 0 where
+  done : {k : ℕ} {l : List ℕ} → Fields at k l [] l
+  next : {k : ℕ} {l l' l'' x : List ℕ} {xs : List (List ℕ)}
+      → l' ≡ put l (placed at k) x → Fields at (k + length x) l' xs l'' → Fields at k l (x ∷ xs) l''
+
+behind : (at k : ℕ) (s l w : List ℕ) (xs : List (List ℕ)) (l'' : List ℕ)
+    → length w ≡ k → at ≤ length s → l ≡ put s at w → Fields at k l xs l'' → l'' ≡ put s at (w ++ concat xs)
+behind at k s l w xs l'' long room e done = e ∙ ap (put s at) (sym (append-nil w))
+behind at k s l w xs l'' long room e (next {l'} {x} {xs = ys} f rest) =
+    behind at (k + length x) s l' (w ++ x) ys l'' (omega (arith, length-append w x)) room
+    (then s l l' at (placed at k) w x e f (omega (arith, placed_is at k)) room) rest
+    ∙ ap (put s at) (append_assoc w x (concat ys))
+
+pub fields_put : (at : ℕ) {s l : List ℕ} {xs : List (List ℕ)} → at ≤ length s → Fields at 0 s xs l → l ≡ put s at (concat xs)
+fields_put at {s} {l} {xs} room f = behind at 0 s s [] xs l refl room (sym (put_nil s at)) f

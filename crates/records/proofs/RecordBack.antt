@@ -69,26 +69,7 @@ node_fit n h = field h.unused0 (field h.unused1 (field h.unused2 (field h.unused
 
 node_own : (n : Node) → NodeFits n → node_of (node_values n) ≡ n
 unfolding node_of node_values
-node_own n h = λ i. record {
-  unused0 = n.unused0;
-  unused1 = n.unused1;
-  unused2 = n.unused2;
-  unused3 = n.unused3;
-  area_id = n.area_id;
-  node_id = n.node_id;
-  street_name = n.street_name;
-  unused4 = n.unused4;
-  link_id = n.link_id;
-  position_x = signed_back n.position_x h.position_x i;
-  position_y = signed_back n.position_y h.position_y i;
-  flags0 = n.flags0;
-  flags1 = n.flags1;
-  position_z = signed_back n.position_z h.position_z i;
-  flags2 = n.flags2;
-  link_count_flags = n.link_count_flags;
-  flags3 = n.flags3;
-  flags4 = n.flags4;
-}
+node_own n h = rw (signed_back n.position_x h.position_x, signed_back n.position_y h.position_y, signed_back n.position_z h.position_z)
 
 pub node_back : (n : Node) → NodeFits n → (s : List ℕ) (at : ℕ) → Stands s at (node_bytes n) → node_at s at ≡ n
 unfolding node_at node_bytes number_bytes node_of node_widths node_values fields_at field_bytes
@@ -210,15 +191,8 @@ junction_fit j h = field (bits_below j.max_z h.max_z) (field (bits_below j.posit
 
 junction_own : (j : NodeJunction) → JunctionFits j → junction_of (junction_values j) ≡ j
 unfolding junction_of junction_values
-junction_own j h = λ i. record {
-  max_z = signed_back j.max_z h.max_z i;
-  position_x = signed_back j.position_x h.position_x i;
-  position_y = signed_back j.position_y h.position_y i;
-  min_z = signed_back j.min_z h.min_z i;
-  heightmap_ptr = j.heightmap_ptr;
-  heightmap_dim_x = j.heightmap_dim_x;
-  heightmap_dim_y = j.heightmap_dim_y;
-}
+junction_own j h =
+    rw (signed_back j.max_z h.max_z, signed_back j.position_x h.position_x, signed_back j.position_y h.position_y, signed_back j.min_z h.min_z)
 
 pub junction_back : (j : NodeJunction) → JunctionFits j → (s : List ℕ) (at : ℕ) → Stands s at (junction_bytes j) → junction_at s at ≡ j
 unfolding junction_at junction_bytes number_bytes junction_of junction_widths junction_values fields_at field_bytes

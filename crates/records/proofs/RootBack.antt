@@ -1,14 +1,14 @@
 -- Reading the root where its bytes stand gives the root: the law of shapes once more.
 use Prim.Native.Nat.{ℕ, zero, suc, ◌+◌, ◌≤◌, ◌<◌}
 use native.Mathlib.Omega.{arith}
-use mathlib.Core.Path.{◌≡◌, refl, sym, ap, ◌∙◌}
+use mathlib.Core.Path.{◌≡◌, sym, ap, ◌∙◌}
 use mathlib.Core.List.{List, [], ◌∷◌, ◌++◌}
 use lib.ListN.{length, get_or, drop, drop_of_length-le}
 use lib.Seq.{drop-cons}
 use Rattle.records.specs.Bytes.{number_bytes}
 use Rattle.records.specs.Root.{unknowns_of, root_of, root_bytes, pages_address}
 use Rattle.records.specs.declared.root.Root.{Root}
-use Rattle.records.proofs.LittleEndian.{Stands, stands_start, number_below}
+use Rattle.records.proofs.LittleEndian.{Stands, stands_start}
 use Rattle.records.proofs.Shape.{field_bytes, fields_at, Fit, none, field, fields_back}
 
 pub record RootFits (r : Root) : Type 0 where
@@ -69,22 +69,7 @@ entries_all (suc n) u k e = ap (λ (l : List ℕ). get_or u k 0 ∷ l) (entries_
 
 root_own : (r : Root) → RootFits r → root_from (root_values r) ≡ r
 unfolding root_from root_values entries
-root_own r h = λ i. record {
-  vft = r.vft;
-  nodes = r.nodes;
-  node_count = r.node_count;
-  vehicle_node_count = r.vehicle_node_count;
-  ped_node_count = r.ped_node_count;
-  links = r.links;
-  link_count = r.link_count;
-  junctions = r.junctions;
-  heightmap = r.heightmap;
-  refs = r.refs;
-  ref_count = r.ref_count;
-  junction_count = r.junction_count;
-  heightmap_count = r.heightmap_count;
-  unknowns = entries_all 7 r.unknowns 0 (sym h.seven) i;
-}
+root_own r h = rw (entries_all 7 r.unknowns 0 (sym h.seven))
 
 pub root_stands : (r : Root) → RootFits r → (s : List ℕ) → Stands s 0 (root_bytes r) → root_of s ≡ r
 unfolding root_of unknowns_of root_bytes number_bytes root_from root_widths root_values fields_at field_bytes
@@ -93,34 +78,3 @@ root_stands r h s there = ap root_from (fields_back s 0 0 (root_fit r h) there) 
 -- whatever bytes come behind it
 pub root_back : (r : Root) → RootFits r → (rest : List ℕ) → root_of (root_bytes r ++ rest) ≡ r
 root_back r h rest = root_stands r h (root_bytes r ++ rest) (stands_start (root_bytes r) rest)
-
--- what is read fits
-pub root_fits : (s : List ℕ) → RootFits (root_of s)
-unfolding root_of unknowns_of
-root_fits s = record {
-  vft = number_below 4 s 0;
-  nodes = number_below 8 s 16;
-  node_count = number_below 4 s 24;
-  vehicle_node_count = number_below 4 s 28;
-  ped_node_count = number_below 4 s 32;
-  links = number_below 8 s 40;
-  link_count = number_below 4 s 48;
-  junctions = number_below 8 s 56;
-  heightmap = number_below 8 s 64;
-  refs = number_below 8 s 80;
-  ref_count = number_below 2 s 90;
-  junction_count = number_below 4 s 96;
-  heightmap_count = number_below 4 s 100;
-  words = words;
-  seven = refl;
-}
-  where
-    words : (k : ℕ) → get_or (unknowns_of s) k 0 < 4294967296
-    words zero = number_below 4 s 36
-    words (suc zero) = number_below 4 s 52
-    words (suc (suc zero)) = number_below 4 s 72
-    words (suc (suc (suc zero))) = number_below 4 s 76
-    words (suc (suc (suc (suc zero)))) = number_below 4 s 92
-    words (suc (suc (suc (suc (suc zero))))) = number_below 4 s 104
-    words (suc (suc (suc (suc (suc (suc zero)))))) = number_below 4 s 108
-    words (suc (suc (suc (suc (suc (suc (suc k))))))) = omega arith

@@ -34,7 +34,7 @@ pub data Fit : List ℕ → List ℕ → Type 0 where
   none : Fit [] []
   field : {w v : ℕ} {ws vs : List ℕ} → v < 256 ^ w → Fit ws vs → Fit (w ∷ ws) (v ∷ vs)
 
-placed_is : (at k : ℕ) → placed at k ≡ at + k
+pub placed_is : (at k : ℕ) → placed at k ≡ at + k
 placed_is at zero = sym (add-zero at)
 placed_is at (suc k) = refl
 

@@ -43,6 +43,7 @@ pub fn gap_for(at: usize, size: usize) -> usize
 }
 
 // Lays a block of that size behind the one that ends at `end`: its address, 0 for an empty one.
+#[tactic(auto, using(crate::proofs::Laid::gap_small), unfolding(crate::specs::Layout::address, crate::specs::Layout::start_of))]
 fn lay(end: &mut usize, size: usize) -> u64
     requires at { 1152 ≤ end.old }
     requires small { end.old + size ≤ 4611686018427387904 }

@@ -14,7 +14,8 @@ use Rattle.records.specs.Bytes.{byte_at, le16, bytes16, number_at, number_bytes}
 use Rattle.records.specs.Put.{put}
 use Rattle.records.proofs.LittleEndian.{Stands, stands_start, stands_first, stands_next, number_back, bytes_length}
 use Rattle.records.proofs.LittleEndian.{number_below}
-use Rattle.records.proofs.Puts.{put_start, split}
+use Rattle.std.proofs.lemmas.List.{drop_more}
+use Rattle.records.proofs.Puts.{put_start}
 use Rattle.cells.proofs.Sequences.Tests.{and_left, and_right, by_test, true_false}
 use Rattle.rounds.specs.declared.file.Version.TheVariants.{One}
 use Rattle.rounds.specs.Round.{head_bytes, rest_bytes, file_bytes, round_bytes, RoundLeft, round_left}
@@ -105,7 +106,7 @@ bytes_of (suc w) s at b h =
     let n = number_at w s (at + 1) in
     let first : get_or s at 0 ≡ (byte_at s at + 256 * n) % 256 = omega (arith, b at) in
     let rest : (byte_at s at + 256 * n) / 256 ≡ n = omega (arith, b at) in
-    ap (take (suc w)) (split s at 0 (omega arith)) ∙ (λ i. first i ∷ bytes_of w s (at + 1) b (omega arith) i)
+    ap (take (suc w)) (drop_more s at 0 (omega arith)) ∙ (λ i. first i ∷ bytes_of w s (at + 1) b (omega arith) i)
     ∙ ap (λ (m : ℕ). (byte_at s at + 256 * n) % 256 ∷ number_bytes w m) (sym rest)
 
 -- the mark and the version, as one number of five bytes

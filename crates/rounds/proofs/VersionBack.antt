@@ -3,13 +3,14 @@
 -- Assumes nothing.
 use Prim.Native.Nat.{ℕ, ◌+◌, ◌≤◌, ◌<◌}
 use native.Mathlib.Omega.{arith}
-use mathlib.Core.Path.{◌≡◌, refl, sym, ap, ◌∙◌}
-use mathlib.Core.Bool.{Bool, true, false}
+use mathlib.Core.Path.{◌≡◌, sym, ap, ◌∙◌}
+use mathlib.Core.Bool.{true, false}
 use mathlib.Core.List.{List, ◌++◌}
 use lib.Dec.{eqb, ltb}
 use lib.ListN.{length, take, length-take}
 use lib.Seq.{take-add}
 use borrow.Author.Tests.{le-ltb}
+use Rattle.std.proofs.lemmas.Bool.{false_from_ne_true}
 use Rattle.records.specs.Bytes.{le16, number_at, number_bytes}
 use Rattle.records.specs.Put.{put}
 use Rattle.records.proofs.LittleEndian.{number_below}
@@ -39,12 +40,8 @@ AreaFits (Two area) = area < 65536
 pub one_version : (v w : ℕ) (s : List ℕ) → has_version v s ≡ true → has_version w s ≡ true → v ≡ w
 one_version v w s h k = omega (arith, has_number v s h, has_number w s k)
 
-not_true_false : (b : Bool) → (b ≡ true → ⊥) → b ≡ false
-not_true_false true h = absurd (h refl)
-not_true_false false h = refl
-
 pub no_other : (v w : ℕ) (s : List ℕ) → has_version v s ≡ true → (v ≡ w → ⊥) → has_version w s ≡ false
-no_other v w s h apart = not_true_false (has_version w s) (λ k. apart (one_version v w s h k))
+no_other v w s h apart = false_from_ne_true (has_version w s) (λ k. apart (one_version v w s h k))
 
 -- T-11: "The T-03 reader answers every version 2 file with 15",
 pub old_reader : (s room : List ℕ) → has_version 2 s ≡ true → round_read s room ≡ round_left (Err NoRoundFile) room

@@ -1,26 +1,16 @@
 -- The members' areas stored in a list, and the first that is one.
-use Prim.Native.Nat.{ℕ, suc, ◌+◌, ◌-◌, ◌≤◌, ◌<◌}
+use Rattle.std.proofs.lemmas.List.{take-take}
+use Prim.Native.Nat.{ℕ, ◌-◌, ◌≤◌, ◌<◌}
 use native.Mathlib.Omega.{arith}
 use mathlib.Core.Path.{◌≡◌, ap, sym, ◌∙◌}
 use mathlib.Core.List.{List}
 use lib.ListN.{length, get_or, take, drop}
 use lib.Seq.{length-take-le, get_or-take, ext_get_or}
 use Rattle.cells.specs.NodeWords.{first_area}
-use Rattle.walks.proofs.Ranges.{cut_all}
-use Rattle.sets.specs.CellSet.{words_at}
 use Rattle.sets.specs.Leave.{start_of}
 use Rattle.sets.specs.SetParts.{count_of, Holding, areas_of}
-use Rattle.sets.proofs.PartLaws.{total_below, start_more, part_of, rest}
+use Rattle.sets.proofs.PartLaws.{part_of, rest}
 use Rattle.sets.proofs.CellSetLaws.{areas_many, area_in}
-
--- what stands in a part, from its start on
-pub front_of_part : {A : Type 0} (n room : ℕ) (l : List A) → n ≤ room → take n (take room l) ≡ take n l
-front_of_part n room l h = cut_all room 0 n l (omega arith)
-
--- where a part ends, in a list that holds all
-pub part_ends : (k size : ℕ) (ws : List (List ℕ)) (len i : ℕ) → i < length ws → Holding k size ws len
-    → start_of size ws i + count_of size ws i ≤ len
-part_ends k size ws len i lt h = omega (arith, h.fit, start_more size ws i lt, total_below (words_at size ws) (suc i))
 
 -- the area that is looked at, from the part's start on, is the member's
 pub area_seen : (ws nodes : List (List ℕ)) (i start n : ℕ) → i < length ws → Holding 10 15 ws (length nodes)
@@ -29,7 +19,7 @@ pub area_seen : (ws nodes : List (List ℕ)) (i start n : ℕ) → i < length ws
 area_seen ws nodes i start n lt h es en =
     ap (λ (l : List (List ℕ)). first_area (take n l)) (rest nodes start)
     ∙ (λ k. first_area (take (en k) (drop (es k) nodes)))
-    ∙ ap first_area (sym (front_of_part (count_of 10 ws i) (count_of 15 ws i) (drop (start_of 15 ws i) nodes)
+    ∙ ap first_area (sym (take-take (count_of 10 ws i) (count_of 15 ws i) (drop (start_of 15 ws i) nodes)
     (h.held i lt)))
     ∙ ap (λ (p : List (List ℕ)). first_area (take (count_of 10 ws i) p)) (sym (part_of 15 ws nodes i lt))
     ∙ sym (area_in ws nodes i lt)
@@ -42,8 +32,3 @@ areas_stored ws nodes areas fits h =
     ext_get_or 0 (take (length ws) areas) (areas_of ws nodes) (long ∙ sym (areas_many ws nodes)) (λ i lt.
     let li : i < length ws = omega (arith, long) in
     get_or-take (length ws) areas i 0 li ∙ h i li)
-
--- the same, of a list lent from its start
-pub areas_front : (ws nodes : List (List ℕ)) (areas : List ℕ) → take (length ws) areas ≡ areas_of ws nodes
-    → take (length ws - 0) areas ≡ areas_of ws nodes
-areas_front ws nodes areas e = let n : length ws - 0 ≡ length ws = omega arith in ap (λ (k : ℕ). take k areas) n ∙ e

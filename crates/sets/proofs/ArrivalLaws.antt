@@ -1,8 +1,10 @@
 -- Links that name a member, by words, test by test.
+use Rattle.std.proofs.Math.Seq.{take-length}
+use Rattle.std.proofs.Math.Bool.{and-true}
 use Prim.Native.Nat.{ℕ, zero, suc, ◌+◌, ◌-◌, ◌≤◌, ◌<◌, min}
 use native.Mathlib.Omega.{arith}
 use mathlib.Core.Path.{◌≡◌, refl, ap, sym, subst, ◌∙◌}
-use mathlib.Core.Bool.{Bool, true, false, not, ◌&&◌, ◌||◌}
+use mathlib.Core.Bool.{Bool, true, not, ◌&&◌, ◌||◌}
 use native.Mathlib.Numerals.{add-one}
 use mathlib.Core.List.{List, [], ◌∷◌, map}
 use Rattle.std.specs.List.{list_all, range_with_len}
@@ -24,9 +26,8 @@ use Rattle.walks.proofs.ShownLaws.{cut_held}
 use Rattle.sets.specs.Members.{member_for}
 use Rattle.sets.specs.SetRenumber.{is_member}
 use Rattle.sets.specs.Leave.{start_of}
-use Rattle.sets.specs.SetParts.{named_of, count_of, Holding}
+use Rattle.sets.specs.SetParts.{named_of, count_of}
 use Rattle.sets.specs.SetSoundParts.{all_below, word_meets, words_meet, numbers_of, part_meets}
-use Rattle.sets.proofs.AreasFilled.{part_ends}
 use Rattle.std.specs.Prelude.{Some, None}
 
 -- ---- one link
@@ -68,13 +69,10 @@ module _ (all : List ℕ) (k : ℕ) (ks : List ℕ) (i : ℕ) (links : List (Lis
   abbrev f : List ℕ → Bool
   f = word_meets all k ks i
 
-  whole : take (length links) links ≡ links
-  whole = take_all (length links) links (omega arith)
-
   pub no_links : length links ≤ link_start w → true ≡ words_meet all k ks i links w
   unfolding words_meet every
   no_links h =
-      sym (ap (λ (l : List (List ℕ)). every f (take (link_count w) (drop (link_start w) l))) (sym whole)
+      sym (ap (λ (l : List (List ℕ)). every f (take (link_count w) (drop (link_start w) l))) (sym (take-length links))
       ∙ ap (every f) (cut_none (length links) (link_start w) (link_count w) links h))
 
   pub its_links : (start count : ℕ) → start ≡ link_start w → start < length links
@@ -87,7 +85,7 @@ module _ (all : List ℕ) (k : ℕ) (ks : List ℕ) (i : ℕ) (links : List (Lis
       ap (λ (n : ℕ). every f (take n (drop start links))) n
       ∙ ap (every f) (cut_held links (length links) start (link_count w) count (e
       ∙ ap (λ (x : ℕ). min (link_count w) (x - start)) (sym end)) (omega arith))
-      ∙ ap (λ (l : List (List ℕ)). every f (take (link_count w) (drop start l))) whole
+      ∙ ap (λ (l : List (List ℕ)). every f (take (link_count w) (drop start l))) (take-length links)
       ∙ ap (λ (s : ℕ). every f (take (link_count w) (drop s links))) es
 
 -- ---- all of the first
@@ -105,17 +103,7 @@ below_all f (suc n) =
     ∙ ap (list_all (λ (b : Bool). b)) (ap (λ (k : ℕ). map f (range_with_len 0 k)) (sym (add-one n))
     ∙ map-range_with_len_more f 0 n n (omega arith))
     ∙ list_all-append (λ b. b) (map f (range_with_len 0 n)) (f n ∷ [])
-    ∙ (λ i. (list_all-map (λ b. b) f (range_with_len 0 n) ∙ below_all f n) i && and_true (f n) i)
-  where
-    and_true : (b : Bool) → b && true ≡ b
-    and_true true = refl
-    and_true false = refl
-
--- ---- the parts, lent from their starts
-
-pub starts_inside : (k size : ℕ) (ws : List (List ℕ)) (len i a : ℕ) → i < length ws → Holding k size ws len
-    → a ≡ start_of size ws i → a ≤ len
-starts_inside k size ws len i a lt h e = omega (arith, part_ends k size ws len i lt h, e)
+    ∙ (λ i. (list_all-map (λ b. b) f (range_with_len 0 n) ∙ below_all f n) i && and-true (f n) i)
 
 -- ---- the member that is named, by its own nodes
 

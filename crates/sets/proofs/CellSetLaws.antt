@@ -94,3 +94,6 @@ pub first_none : (xs : List ℕ) (k : ℕ) → ((j : ℕ) → j < length xs → 
 unfolding first_with
 first_none [] k h = refl
 first_none (x ∷ xs) k h = rw (ne_eqb x k (h 0 (omega arith)), first_none xs k (λ j l. h (suc j) (omega arith)))
+
+-- for the check
+pub ruleset place_laws = (first_found, first_none)

@@ -1,4 +1,5 @@
 -- The links of the others corrected in place: part by part, once each.
+use Rattle.std.proofs.Math.Bool.{and-false}
 use Prim.Native.Nat.{ℕ, suc, ◌+◌, ◌-◌, ◌≤◌, ◌<◌}
 use native.Mathlib.Omega.{arith}
 use native.Mathlib.Numerals.{add-one}
@@ -18,24 +19,15 @@ use Rattle.cells.specs.NodeWords.{first_area}
 use Rattle.cells.specs.Renumber.{over}
 use Rattle.cells.proofs.Sequences.Tests.{by_test}
 use Rattle.sets.specs.SetRenumber.{Change, is_member, meant, correct_words}
-use Rattle.sets.specs.CellSet.{word, words_at}
+use Rattle.sets.specs.CellSet.{word}
 use Rattle.sets.specs.Leave.{start_of}
 use Rattle.sets.specs.SetParts.{count_of, Holding, areas_of}
 use Rattle.sets.specs.RenumberMember.{correct_part, correct_parts}
 use Rattle.sets.specs.CorrectParts.{relabelled, part_corrected}
 use Rattle.sets.proofs.SetLists.{over_same, over_long}
 use Rattle.sets.proofs.SetLaws.{not_meant, meant_of_area}
-use Rattle.sets.proofs.PartLaws.{total_below, start_more, start_next, start_none}
+use Rattle.sets.proofs.PartLaws.{start_next, start_none, part_inside, part_below}
 use Rattle.sets.proofs.CellSetLaws.{area_there}
-
--- ---- where a part lies
-
-module _ {k size len : ℕ} {ws : List (List ℕ)} (h : Holding k size ws len) (i : ℕ) (lt : i < length ws) where
-  pub part_inside : start_of size ws i + count_of size ws i ≤ len
-  part_inside = omega (arith, start_more size ws i lt, total_below (words_at size ws) (suc i), h.fit)
-
-  pub start_inside : start_of size ws i ≤ len
-  start_inside = omega (arith, part_inside)
 
 -- the area of a member, by where its part starts
 pub area_at_start : {len : ℕ} (ws nodes : List (List ℕ)) (i start n : ℕ) → Holding 10 15 ws len → i < length ws
@@ -70,11 +62,7 @@ module _ (x : Change) (i c : ℕ) (part : List (List ℕ)) where
     by_area : (a : ℕ) → (b : Bool) → belongs (get_or x.areas i 0) area ≡ b → meant x i a ≡ not b && eqb a area
     by_area a b e = meant_of_area x area is first i a f ∙ by_test (eqb a area)
         (λ t. rw (eqb-true a area t, e))
-        (λ g. rw g (no (not (belongs (get_or x.areas i 0) a)) ∙ sym (no (not b))))
-      where
-        no : (d : Bool) → d && false ≡ false
-        no true = refl
-        no false = refl
+        (λ g. rw g (and-false (not (belongs (get_or x.areas i 0) a)) ∙ sym (and-false (not b))))
 
     -- its own rule claims the area
     pub part_claimed : belongs (get_or x.areas i 0) area ≡ true → correct_part x i c part ≡ part
@@ -140,17 +128,6 @@ module _ (x : Change) (ws : List (List ℕ)) where
         rest : drop (s (i + 1)) l' ≡ drop (z i) D
         rest = (λ k. drop (next k) (regrouped k)) ∙ drop_at (take (s i) l ++ P) (drop (z i) D) (s i + z i) front
 
-    pub turn_long : length l' ≡ length l
-    turn_long =
-        ap length regrouped
-        ∙ omega (
-          arith,
-          length-append (take (s i) l ++ P) (drop (z i) D),
-          front,
-          length-drop (z i) D,
-          length-drop (s i) l,
-        )
-
   -- a part that stays
   pub part_stays : (l : List (List ℕ)) (i : ℕ)
       → correct_part x i (count_of 11 ws i) (take (z i) (drop (s i) l)) ≡ take (z i) (drop (s i) l)
@@ -215,3 +192,6 @@ module _ (ws l : List (List ℕ)) (i : ℕ) (h : Holding 11 16 ws (length l)) (l
       (part_over (map (relabelled x.old area)) (count_of 11 ws i) z D (h.held i lt) (omega (arith, length-drop s l))
       ∙ ap (λ (t : List (List ℕ)). t ++ drop z D)
       (sym (part_named x i (count_of 11 ws i) (take z D) area is first f u)))
+
+-- for the check
+pub ruleset turn_laws = (part_below, parts_start, parts_turn, parts_end, others_stay)

@@ -1,8 +1,11 @@
 -- What the call of a crossing walk answers.
+use Rattle.std.proofs.lemmas.Result.{err_from_is_err_and}
+use Rattle.std.specs.Result.{IsErrAnd}
+use Rattle.std.proofs.lemmas.Bool.{not-false, or_parts}
 use Prim.Native.Nat.{ℕ, ◌≤◌, ◌<◌}
 use native.Mathlib.Omega.{arith}
 use mathlib.Core.Path.{◌≡◌, refl, ap, sym, ◌∙◌}
-use mathlib.Core.Bool.{Bool, true, false, not, ◌||◌}
+use mathlib.Core.Bool.{true, false, not}
 use mathlib.Core.List.{List, [], ◌∷◌, ◌++◌, map}
 use lib.Dec.{ltb, leb}
 use lib.ListN.{length, get_or, drop, length-map, get_or-eq_default}
@@ -17,7 +20,7 @@ use Rattle.walks.specs.Walk.{Trail}
 use Rattle.walks.specs.Claim.{places}
 use Rattle.sets.specs.Members.{no_cell, cell_at}
 use Rattle.sets.specs.Crossing.{Location, crossing}
-use Rattle.sets.specs.MemberList.{cells_of, node_count, nodes_together, any_over, over_set}
+use Rattle.sets.specs.MemberList.{cells_of, node_count, nodes_together, over_set}
 use Rattle.sets.specs.MemberList.{unless as kept_unless}
 use Rattle.sets.specs.CrossingCall.{location_words, crossing_left, crossed_by}
 use Rattle.sets.specs.CellSet.{CellSet, ynd_of, members_of, holds_list}
@@ -30,7 +33,7 @@ use Rattle.sets.proofs.CellSetLaws.{members_many, member_at_law, areas_held}
 use Rattle.sets.proofs.RoomLaws.{any_found, few_members, members_over, holding}
 use Rattle.sets.proofs.MemberCells.{nodes_at}
 use Rattle.sets.proofs.CrossSame.{SameRoute, same_route}
-use Rattle.std.specs.Prelude.{Ok, Err}
+use Rattle.std.specs.Prelude.{Ok, Err, Result}
 use Rattle.numbers.specs.declared.refusal.Refusal.{Refusal}
 use Rattle.numbers.specs.Refusals.{Answer}
 use Rattle.numbers.specs.declared.refusal.Refusal.TheVariants.{TooShort, NoSuchPlace, AtLimit}
@@ -38,17 +41,12 @@ use Rattle.numbers.specs.declared.refusal.Lent.TheVariants as lent
 
 -- ---- what an accepted start says
 
-or_right : (a b : Bool) → a || b ≡ false → b ≡ false
-or_right true b e = true_false e
-or_right false b e = e
-
 pub each_within : (ws : List (List ℕ)) → over_set (bare ws) ≡ false → (i : ℕ) → i < length ws
     → over_limit (ynd_of (get_or ws i [])) ≡ false
 unfolding over_set
 each_within ws o i lt = by_test (over_limit (ynd_of (get_or ws i [])))
     (λ t. true_false (any_found ws i lt t
-    ∙ or_right (ltb 65536 (nodes_together (bare ws))) (any_over (bare ws))
-    (or_right (ltb 9 (length (bare ws))) _ o)))
+    ∙ (or_parts (ltb 65536 (nodes_together (bare ws))) _ (or_parts (ltb 9 (length (bare ws))) _ o).1).1))
     (λ f. f)
 
 pub record Starts (ws nodes links : List (List ℕ)) (s : Location) : Type 0 where
@@ -67,13 +65,9 @@ starts ws nodes links s e =
       member = leb-false _ _ (passed cs 0 (sym e));
       place = leb-false _ _ (passed cs 1 (sym e));
       over = passed cs 2 (sym e);
-      nodes_hold = holding 10 15 ws (length nodes) (not_no (holds_list 10 15 ws (length nodes)) (passed cs 3 (sym e)));
-      links_hold = holding 11 16 ws (length links) (not_no (holds_list 11 16 ws (length links)) (passed cs 4 (sym e)));
+      nodes_hold = holding 10 15 ws (length nodes) (not-false (holds_list 10 15 ws (length nodes)) (passed cs 3 (sym e)));
+      links_hold = holding 11 16 ws (length links) (not-false (holds_list 11 16 ws (length links)) (passed cs 4 (sym e)));
     }
-  where
-    not_no : (b : Bool) → not b ≡ false → b ≡ true
-    not_no true e = refl
-    not_no false e = true_false e
 
 pub walking : (all : List ℕ) (ws nodes links : List (List ℕ)) (s : Location) → Starts ws nodes links s
     → all ≡ areas_of ws nodes → Walking all ws nodes links s
@@ -128,11 +122,15 @@ module _ (y : CellSet) (bs : List ℕ) (s : Location) (visited : List (List ℕ)
   unfolding cross_member
   call_split = ap (λ (a : Answer). crossed_by a trail visited) (causes_split (length (places trail)) (length visited))
 
-  pub start_refused : (x : Refusal) → Err x ≡ start → crossing_left (Err x) visited
-      ≡ cross_member y bs s visited
-  start_refused x e = sym (call_split ∙ ap
-      (λ (a : Answer). crossed_by (unless a
-      (decided (when (ltb (length visited) (length (places trail))) (TooShort lent.List) ∷ []))) trail visited) (sym e))
+  pub start_refused : {x : Refusal} {a : Answer} {r : Result Walked Refusal} → a ≡ Err x → a ≡ start
+      → IsErrAnd r (λ z. z ≡ x) → crossing_left r visited ≡ cross_member y bs s visited
+  start_refused is e er =
+      let k = err_from_is_err_and _ er in
+      ap (λ (q : Result Walked Refusal). crossing_left q visited) (k.1 ∙ ap Err k.2)
+      ∙ sym (call_split ∙ ap
+      (λ (b : Answer). crossed_by (unless b
+      (decided (when (ltb (length visited) (length (places trail))) (TooShort lent.List) ∷ []))) trail visited)
+      (sym e ∙ is))
 
   -- the other three lists don't count
   abbrev seen : Trail Location

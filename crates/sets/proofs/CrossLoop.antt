@@ -24,17 +24,19 @@ use Rattle.sets.specs.CrossingCall.{location_words}
 use Rattle.sets.specs.SetClaim.{Stands}
 use Rattle.sets.specs.CellSet.{ynd_of, members_of}
 use Rattle.sets.specs.Leave.{start_of}
-use Rattle.sets.specs.SetParts.{count_of, Holding}
+use Rattle.sets.specs.SetParts.{count_of}
 use Rattle.sets.specs.CrossParts.{walked_set, cells_in, trail_in, cross_of, Lent, crossed_of, visits_over}
 use Rattle.walks.specs.declared.walk.Walked.{Walked}
 use Rattle.sets.proofs.CellSetLaws.{members_many}
 use Rattle.sets.proofs.MemberLaws.{first_has, member_inside, take_in, next_is}
-use Rattle.sets.proofs.AreasFilled.{part_ends}
+use Rattle.sets.proofs.PartLaws.{part_inside}
 use Rattle.sets.proofs.MemberCells.{from_start, nodes_at}
 use Rattle.sets.proofs.TrailReached.{Reached, Finished, reached_step, reached_stop, reached_end, last_counted}
 use Rattle.sets.proofs.TrailStored.{visits_few, Stored, stored_start_law, stored_step, stored_last}
 use Rattle.std.specs.Prelude.{Err, Ok, Result}
 use Rattle.sets.specs.declared.cross.Location.{Location as Here}
+use Rattle.sets.specs.declared.world.World.{World}
+use Rattle.sets.specs.WorldParts.{trail_of}
 
 -- ---- a step leads to a node of a member
 
@@ -84,114 +86,115 @@ ended x y e = sym (ap led_to e ∙ led_back y)
 
 -- ---- the members that lists hold
 
-module _ (all : List ℕ) (ws nodes links : List (List ℕ)) (h : Lent all ws nodes) (hl : Holding 11 16 ws (length links))
-  where
-    abbrev pub cs : List Cell
-    cs = cells_in ws nodes links
+-- members and places are small numbers
+pub small : {all : List ℕ} {ws nodes : List (List ℕ)} → Lent all ws nodes → (i p : ℕ) → i < length ws
+    → p < count_of 10 ws i → (i < 65536) × (p < 65536)
+unfolding ynd_of
+small h i p li lp = (omega (arith, h.few), omega (arith, (limits _ (h.within i li)).0, lp))
 
-    cells_long : length cs ≡ length ws
-    unfolding cells_in
-    cells_long = length-map (members_of (walked_set ws nodes links)) cell_of ∙ members_many (walked_set ws nodes links)
+module _ (x : World) where
+  abbrev ws : List (List ℕ)
+  ws = x.members.now
 
-    pub nodes_count : (i : ℕ) → i < length ws → length (cell_at cs i).nodes ≡ count_of 10 ws i
-    unfolding cells_in cell_of ynd_of
-    nodes_count i lt =
-        let y = walked_set ws nodes links in
-        ap length (nodes_at y i lt (h.nodes_hold.held i lt) (hl.held i lt))
-        ∙ nodes_long (from_start y i lt) (record {
-          within = h.within i lt;
-          nodes_lie = omega (
-            arith,
-            length-drop (start_of 15 ws i) nodes,
-            part_ends 10 15 ws (length nodes) i lt h.nodes_hold,
-            h.nodes_hold.held i lt,
-          );
-          links_lie = omega (
-            arith,
-            length-drop (start_of 16 ws i) links,
-            part_ends 11 16 ws (length links) i lt hl,
-            hl.held i lt,
-          );
-        })
+  abbrev cs : List Cell
+  cs = cells_in ws x.nodes.now x.links.now
 
-    -- members and places are small numbers
-    pub small : (i p : ℕ) → i < length ws → p < count_of 10 ws i → (i < 65536) × (p < 65536)
-    unfolding ynd_of
-    small i p li lp = (omega (arith, h.few), omega (arith, (limits _ (h.within i li)).0, lp))
+  cells_long : length cs ≡ length ws
+  unfolding cells_in
+  cells_long =
+      let y = walked_set ws x.nodes.now x.links.now in
+      length-map (members_of y) cell_of ∙ members_many y
 
-    module _ (bs : List ℕ) (s : Location) where
-      abbrev pub At : ℕ → Location → Type 0
-      At k t = Reached (world_in cs) bs s k t
+  nodes_count : (i : ℕ) → i < length ws → length (cell_at cs i).nodes ≡ count_of 10 ws i
+  unfolding cells_in cell_of ynd_of
+  nodes_count i lt =
+      let y = walked_set ws x.nodes.now x.links.now in
+      let hn = x.lent.nodes_hold in
+      let hl = x.links_hold in
+      ap length (nodes_at y i lt (hn.held i lt) (hl.held i lt))
+      ∙ nodes_long (from_start y i lt) (record {
+        within = x.lent.within i lt;
+        nodes_lie = omega (arith, length-drop (start_of 15 ws i) x.nodes.now, part_inside hn i lt, hn.held i lt);
+        links_lie = omega (arith, length-drop (start_of 16 ws i) x.links.now, part_inside hl i lt, hl.held i lt);
+      })
 
-      trail_is : walk_in (world_in cs) bs s ≡ trail_in ws nodes links bs s
-      unfolding trail_in crossing
-      trail_is = refl
+  -- ---- the walk from s by the choices bs
 
-      -- how the walk ends, and how many nodes it visited
-      abbrev pub Ends : ℕ → Location → End → Type 0
-      Ends k t e = Finished (world_in cs) bs s k t e
+  abbrev At : List ℕ → Location → ℕ → Location → Type 0
+  At bs s k t = Reached (world_in cs) bs s k t
 
-      pub end_is : (k : ℕ) (t : Location) (e : End) → Ends k t e → e ≡ (trail_in ws nodes links bs s).ending
-      end_is k t e f = sym f.ending ∙ ap (λ (r : Trail Location). r.ending) trail_is
+  -- how it ends, and how many nodes it visited
+  abbrev Ends : List ℕ → Location → ℕ → Location → End → Type 0
+  Ends bs s k t e = Finished (world_in cs) bs s k t e
 
-      pub count_is : (k : ℕ) (t : Location) (e : End) → Ends k t e → k + 1
-          ≡ length (places (trail_in ws nodes links bs s))
-      count_is k t e f =
-          last_counted (world_in cs) bs s k t e f ∙ ap (λ (r : Trail Location). length (places r)) trail_is
+  trail_is : (bs : List ℕ) (s : Location) → walk_in (world_in cs) bs s ≡ trail_of x bs s
+  unfolding trail_in crossing
+  trail_is bs s = refl
 
-      pub trail_few : (room : ℕ) → length bs < room → true ≡ leb (length (places (trail_in ws nodes links bs s))) room
-      unfolding trail_in crossing
-      trail_few room lt = sym (le-leb (length (places (walk_in (world_in cs) bs s))) room
-          (omega (arith, visits_few (world_in cs) bs s)))
+  pub trail_few : (bs : List ℕ) (s : Location) (room : ℕ) → length bs < room
+      → true ≡ leb (length (places (trail_of x bs s))) room
+  unfolding trail_in crossing
+  trail_few bs s room lt = sym (le-leb (length (places (walk_in (world_in cs) bs s))) room
+      (omega (arith, visits_few (world_in cs) bs s)))
 
-      module _ (k i p : ℕ) (r : At k (location i p)) where
-        pub led : i < length ws → (j q : ℕ) → k < length bs → Ok (record { member = j; place = q })
-            ≡ cross_of (next_in cs (location i p) (get_or bs k 0))
-            → (j < length ws) × (q < count_of 10 ws j) × At (k + 1) (location j q)
-        led li j q lt e =
-            let y = led_on j q (next_in cs (location i p) (get_or bs k 0)) e in
-            let st = step_stands cs (location i p) (get_or bs k 0) (location j q)
-            (let z : i < length cs = omega (arith, cells_long) in z) y in
-            let lj : j < length ws = omega (arith, cells_long, st.in_set) in (
-              lj,
-              omega (arith, nodes_count j lj, st.in_cell),
-              reached_step (world_in cs) bs s k (location i p) r (location j q) lt y,
+  abbrev Storing : List ℕ → Location → List (List ℕ) → List (List ℕ) → ℕ → Location → Type 0
+  Storing bs s first now k t = Stored (world_in cs) location_words bs s first now k t
+
+  fits_walk : (bs : List ℕ) (s : Location) (first : List (List ℕ)) → length (places (trail_of x bs s)) ≤ length first
+      → length (places (walk_in (world_in cs) bs s)) ≤ length first
+  unfolding trail_in crossing
+  fits_walk bs s first fits = fits
+
+  module _ {bs : List ℕ} {s : Location} where
+    pub count_is : {k : ℕ} {t : Location} {e : End} → Ends bs s k t e → k + 1 ≡ length (places (trail_of x bs s))
+    count_is {k} {t} {e} f =
+        last_counted (world_in cs) bs s k t e f ∙ ap (λ (r : Trail Location). length (places r)) (trail_is bs s)
+
+    module _ {k : ℕ} {t : Location} (r : At bs s k t) where
+      pub led : {next : Here} → t.member < length ws → k < length bs
+          → Ok next ≡ cross_of (next_in cs t (get_or bs k 0))
+          → (next.member < length ws) × (next.place < count_of 10 ws next.member)
+          × At bs s (k + 1) (location next.member next.place)
+      led {next} li lt e =
+          let y = led_on next.member next.place (next_in cs t (get_or bs k 0)) e in
+          let st = step_stands cs t (get_or bs k 0) (location next.member next.place)
+          (let z : t.member < length cs = omega (arith, cells_long) in z) y in
+          let lj : next.member < length ws = omega (arith, cells_long, st.in_set) in (
+            lj,
+            omega (arith, nodes_count next.member lj, st.in_cell),
+            reached_step (world_in cs) bs s k t r (location next.member next.place) lt y,
+          )
+
+      pub stopped : {e : End} → k < length bs → Err e ≡ cross_of (next_in cs t (get_or bs k 0)) → Ends bs s k t e
+      stopped {e} lt is = reached_stop (world_in cs) bs s k t r e lt (ended e (next_in cs t (get_or bs k 0)) is)
+
+      pub finished : k ≡ length bs → Ends bs s (length bs) t Done
+      finished e = let le : length bs ≤ k = omega arith in rw e at (reached_end (world_in cs) bs s k t r le)
+
+    -- ---- what is stored
+
+    module _ {first : List (List ℕ)} (fits : length (places (trail_of x bs s)) ≤ length first) where
+      pub storing_start : Storing bs s first first 0 s
+      storing_start = stored_start_law (world_in cs) location_words bs s first (fits_walk bs s first fits)
+
+      module _ {now : List (List ℕ)} {k : ℕ} {t : Location} {w : List ℕ} (e : w ≡ t.member ∷ t.place ∷ [])
+          (h : Storing bs s first now k t) where
+        pub storing_step : {u : Location} → At bs s (k + 1) u → Storing bs s first (set now k w) (k + 1) u
+        storing_step {u} r =
+            stored_step (world_in cs) location_words bs s first (fits_walk bs s first fits) now k t h w e u r
+
+        pub storing_last : {z : End} → Ends bs s k t z
+            → ◌≡◌ {A = Walked} (record { end = z; count = k + 1 }) (crossed_of (trail_of x bs s))
+            × (set now k w ≡ visits_over (trail_of x bs s) first)
+        unfolding trail_in crossing
+        storing_last {z} f =
+            let n = count_is f in (
+              λ j. record { end = (sym f.ending) j; count = n j },
+              stored_last (world_in cs) location_words bs s first (fits_walk bs s first fits) now k t h w e n,
             )
 
-        pub stopped : (e : End) → k < length bs → Err e ≡ cross_of (next_in cs (location i p) (get_or bs k 0))
-            → Ends k (location i p) e
-        stopped e lt x = reached_stop (world_in cs) bs s k (location i p) r e lt
-            (ended e (next_in cs (location i p) (get_or bs k 0)) x)
-
-        pub finished : length bs ≤ k → Ends k (location i p) Done
-        finished le = reached_end (world_in cs) bs s k (location i p) r le
-
-      -- ---- what is stored
-
-      abbrev pub Storing : List (List ℕ) → List (List ℕ) → ℕ → Location → Type 0
-      Storing first now k t = Stored (world_in cs) location_words bs s first now k t
-
-      module _ (first : List (List ℕ)) (fits : length (places (trail_in ws nodes links bs s)) ≤ length first) where
-        fits_walk : length (places (walk_in (world_in cs) bs s)) ≤ length first
-        unfolding trail_in crossing
-        fits_walk = fits
-
-        pub storing_start : Storing first first 0 s
-        storing_start = stored_start_law (world_in cs) location_words bs s first fits_walk
-
-        module _ (now : List (List ℕ)) (k i p : ℕ) (x : List ℕ) (e : x ≡ i ∷ p ∷ [])
-            (t : Storing first now k (location i p)) where
-          pub storing_step : (j q : ℕ) → At (k + 1) (location j q) → Storing first (set now k x) (k + 1) (location j q)
-          storing_step j q r =
-              stored_step (world_in cs) location_words bs s first fits_walk now k (location i p) t x e (location j q) r
-
-          pub storing_last : (z : End) → Ends k (location i p) z
-              → ◌≡◌ {A = Walked} (record { end = z; count = k + 1 }) (crossed_of (trail_in ws nodes links bs s))
-              × (set now k x ≡ visits_over (trail_in ws nodes links bs s) first)
-          unfolding trail_in crossing
-          storing_last z f =
-              let n = count_is k (location i p) z f in
-              let ending = end_is k (location i p) z f in (
-                λ j. record { end = ending j; count = n j },
-                stored_last (world_in cs) location_words bs s first fits_walk now k (location i p) t x e n,
-              )
+        pub storing_end : k ≡ length bs
+            → ◌≡◌ {A = Walked} (record { end = Done; count = length bs + 1 }) (crossed_of (trail_of x bs s))
+            × (set now (length bs) w ≡ visits_over (trail_of x bs s) first)
+        storing_end n =
+            rw n at (storing_last {z = Done} (let f : Ends bs s k t Done = rw (← n) at (finished h.reached n) in f))

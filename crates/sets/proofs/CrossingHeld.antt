@@ -9,12 +9,13 @@ use lib.Dec.{ltb, leb}
 use lib.ListN.{length, get_or, drop, length-map, length-drop}
 use lib.Seq.{length-take-le}
 use borrow.Author.Tests.{le-ltb, le-leb, lt-leb, ltb-true, ltb-false}
+use Rattle.std.proofs.lemmas.List.{drop-map, map-append}
 use Rattle.numbers.specs.Refusals.{Cause, when, decided}
 use Rattle.cells.specs.Lists.{every}
 use Rattle.cells.specs.Memory.{Memory, over_limit}
 use Rattle.cells.specs.CellOf.{nodes_of, cell_of}
 use Rattle.cells.proofs.Forms.Limits.{within as limits}
-use Rattle.cells.proofs.Sequences.Tests.{by_test, map_drop, map_append}
+use Rattle.cells.proofs.Sequences.Tests.{by_test}
 use Rattle.walks.specs.Walk.{Visit, Trail, walk}
 use Rattle.walks.specs.Claim.{places}
 use Rattle.walks.specs.WalkCall.{Route, route, WalkLeft, walk_left, walk_call}
@@ -30,7 +31,7 @@ use Rattle.sets.specs.SetParts.{count_of, Holding}
 use Rattle.sets.proofs.SetLists.{every_all}
 use Rattle.sets.proofs.PartLaws.{part_of}
 use Rattle.sets.proofs.CellSetLaws.{members_many, member_at_law}
-use Rattle.sets.proofs.AreasFilled.{part_ends}
+use Rattle.sets.proofs.PartLaws.{part_inside}
 use Rattle.sets.proofs.OneMember.{one_member}
 use Rattle.std.specs.Prelude.{Ok, Err}
 use Rattle.numbers.specs.declared.refusal.Refusal.{Refusal}
@@ -54,7 +55,7 @@ pub part_long : {A : Type 0} (k size : ℕ) (ws : List (List ℕ)) (l : List A) 
 part_long k size ws l i lt h =
     ap length (part_of size ws l i lt)
     ∙ length-take-le (count_of size ws i) (drop (start_of size ws i) l)
-    (omega (arith, length-drop (start_of size ws i) l, part_ends k size ws (length l) i lt h))
+    (omega (arith, length-drop (start_of size ws i) l, part_inside h i lt))
 
 module _ (y : CellSet) (hn : Holding 10 15 y.members (length y.nodes)) (hl : Holding 11 16 y.members (length y.links))
   where
@@ -197,8 +198,8 @@ module _ (m : Memory) where
     stored_is : visit_words t ++ drop (length (places t)) (in_first visited) ≡ in_first (r.places ++ drop n visited)
     stored_is =
         (λ i. (ap (map location_words) places_are ∙ in_first_law r.places) i ++
-        (ap (λ (k : ℕ). drop k (in_first visited)) long ∙ map_drop (λ q. 0 ∷ q ∷ []) n visited) i)
-        ∙ sym (map_append (λ q. 0 ∷ q ∷ []) r.places (drop n visited))
+        (ap (λ (k : ℕ). drop k (in_first visited)) long ∙ drop-map (λ q. 0 ∷ q ∷ []) n visited) i)
+        ∙ sym (map-append (λ q. 0 ∷ q ∷ []) r.places (drop n visited))
 
     -- a set of one member is its cell: refused alike, ending alike, the same places, in the member 0
     pub one_walk : crossing_call (m ∷ []) choices (location 0 p) (in_first visited)

@@ -9,7 +9,9 @@ use lib.Seq.{length-take-le, take_at}
 use borrow.Author.Tests.{lt-leb}
 use Rattle.numbers.specs.Refusals.{decided}
 use Rattle.numbers.specs.Refusals.{unless as otherwise}
-use Rattle.cells.specs.Memory.{Memory, memory, Left, unless, refuse}
+use Rattle.cells.specs.Memory.{Memory, memory, Left, left, unless, refuse}
+use Rattle.std.specs.Result.{IsErrAnd}
+use Rattle.std.proofs.lemmas.Result.{err_from_is_err_and}
 use Rattle.cells.specs.Add.{done}
 use Rattle.cells.specs.Lookup.{first_with}
 use Rattle.cells.specs.CellOf.{link_of, ref_of, node_with, junction_with, nodes_of, junctions_of, refs_of, cell_of}
@@ -31,7 +33,7 @@ use Rattle.sets.proofs.MemberLaws.{first_has}
 use Rattle.sets.proofs.CellSetLaws.{areas_many}
 use Rattle.sets.proofs.RoomLaws.{accepted, causes_held}
 use Rattle.sets.proofs.MemberPartLaws.{OpenAt, member_whole}
-use Rattle.std.specs.Prelude.{Ok, Err, Some, None}
+use Rattle.std.specs.Prelude.{Result, Ok, Err, Some, None}
 use Rattle.numbers.specs.Refusals.{Answer}
 use Rattle.numbers.specs.declared.refusal.Refusal.{Refusal}
 use Rattle.numbers.specs.declared.refusal.Refusal.TheVariants.{NoSuchPlace}
@@ -136,12 +138,19 @@ module _ (y : CellSet) (area : ℕ) (m : Memory) where
     at : first_of_area y area ≡ some j
     at = sym (found_is y area) ∙ named_some y area j found f
 
-    pub hand_not : j < length y.members → (x : Refusal) → decided (ask_causes y j) ≡ Err x
-        → refuse x m ≡ hand_back y area m
-    hand_not lt x e = ap (λ (a : Answer). unless (otherwise a (last j)) m (done (copied (member_in y j) m)))
-        (sym e ∙ set_asked j lt) ∙ sym (hand_is j at)
+    -- what a `?` gives before anything is copied
+    refuses : {x : Refusal} (r : Result Ynd Refusal) → refuse x m ≡ hand_back y area m → IsErrAnd r (λ z. z ≡ x)
+        → left m.ynd r m.nodes m.links m.junctions m.heights m.refs ≡ hand_back y area m
+    refuses {x} r h e =
+        let k = err_from_is_err_and r e in
+        ap (λ (q : Result Ynd Refusal). left m.ynd q m.nodes m.links m.junctions m.heights m.refs) (k.1 ∙ ap Err k.2) ∙ h
 
-    module _ (p : MemberPart) (k : OpenAt y j p) where
+    pub hand_not : {x : Refusal} (r : Result Ynd Refusal) → decided (ask_causes y j) ≡ Err x → IsErrAnd r (λ z. z ≡ x)
+        → left m.ynd r m.nodes m.links m.junctions m.heights m.refs ≡ hand_back y area m
+    hand_not r e = refuses r (ap (λ (a : Answer). unless (otherwise a (last j)) m (done (copied (member_in y j) m)))
+        (sym e ∙ set_asked j (first_there y area j at)) ∙ sym (hand_is j at))
+
+    module _ {p : MemberPart} (k : OpenAt y j p) where
       abbrev asked : Answer
       asked = lack_of_back (memory p.ynd [] [] [] [] []) m
 
@@ -156,13 +165,14 @@ module _ (y : CellSet) (area : ℕ) (m : Memory) where
           ∙ sym (hand_is j at ∙ ap (λ (a : Answer). handed (otherwise a (last j)))
           (sym (set_asked j k.may.there) ∙ k.asked))
 
-      pub hand_short : (x : Refusal) → asked ≡ Err x → refuse x m ≡ hand_back y area m
-      hand_short x e = ap handed (sym e) ∙ passed
+      pub hand_short : {x : Refusal} (r : Result Ynd Refusal) → asked ≡ Err x → IsErrAnd r (λ z. z ≡ x)
+          → left m.ynd r m.nodes m.links m.junctions m.heights m.refs ≡ hand_back y area m
+      hand_short r e = refuses r (ap handed (sym e) ∙ passed)
 
-      pub hand_done : asked ≡ (Ok tt) → (r : Memory)
+      pub hand_done : {r : Memory} → asked ≡ (Ok tt)
           → r ≡ copied (part_memory p.ynd p.a p.e y) (memory p.ynd m.nodes m.links m.junctions m.heights m.refs)
           → done r ≡ hand_back y area m
-      hand_done d r e =
+      hand_done d e =
           ap done (e ∙ own_words (part_memory p.ynd p.a p.e y) m p.ynd ∙ ap (λ (v : Memory). copied v m) k.part)
           ∙ ap handed (sym d) ∙ passed
 

@@ -1,7 +1,7 @@
 -- The call `join`, by what its parts answer.
 use Prim.Native.Nat.{ℕ, ◌+◌, ◌≤◌, min}
 use native.Mathlib.Omega.{arith}
-use mathlib.Core.Path.{◌≡◌, ap, sym, ◌∙◌}
+use mathlib.Core.Path.{◌≡◌, refl, ap, sym, ◌∙◌}
 use mathlib.Core.Bool.{Bool, ◌||◌}
 use mathlib.Core.List.{List, [], ◌∷◌, ◌++◌}
 use lib.Dec.{ltb, leb}
@@ -17,7 +17,7 @@ use Rattle.sets.specs.Members as members
 use Rattle.sets.specs.Members.{areas}
 use Rattle.sets.specs.MemberList.{cells_of, node_count, nodes_together, any_over, over_set, unless}
 use Rattle.sets.specs.CellSet.{CellSet, cell_set, words_at, total, parts_in, members_of}
-use Rattle.sets.specs.Leave.{SetLeft, set_left, used, start_of, first_of_area}
+use Rattle.sets.specs.Leave.{SetLeft, set_left, left_after, used, start_of, first_of_area}
 use Rattle.sets.specs.Join.{entry_of, stored, lack_for, set_lengths, cell_lengths, join_causes, with_cell, join_cell}
 use Rattle.cells.specs.RenumberParts.{counts_of}
 use Rattle.sets.specs.SetParts.{starts_of, areas_of, bare, bare_cell, entry_causes}
@@ -26,7 +26,9 @@ use Rattle.sets.proofs.PartLaws.{start_all}
 use Rattle.sets.proofs.CellSetLaws.{members_many, areas_held}
 use Rattle.sets.proofs.RoomLaws.{bare_many, from_together, from_over}
 use Rattle.sets.proofs.JoinLaws.{together_more, over_more, AllFit, may}
-use Rattle.std.specs.Prelude.{Ok, Err}
+use Rattle.std.specs.Prelude.{Result, Ok, Err}
+use Rattle.std.specs.Result.{IsErrAnd}
+use Rattle.std.proofs.lemmas.Result.{err_from_is_err_and}
 use Rattle.numbers.specs.declared.refusal.Refusal.{Refusal}
 use Rattle.numbers.specs.Refusals.{Answer}
 use Rattle.numbers.specs.declared.refusal.Refusal.TheVariants.{TooShort, AtLimit, AreaTaken}
@@ -76,55 +78,77 @@ module _ (count : ℕ) (y : CellSet) (m : Memory) (sizes : Counts) where
   abbrev pub left : Answer → SetLeft
   left a = unless a (λ cause. set_left (Err cause) (length z.members) y) (set_left (Ok tt) (length z.members + 1) (with_cell y z m sizes))
 
-  module _ (area : ℕ) (ea : area ≡ first_area (take m.ynd.node_count m.nodes)) (h : ℕ) (eh : h ≡ min count room) where
-    pub call_is : left (asked area) ≡ join_cell count y m sizes
-    unfolding join_cell
-    call_is = ap left (causes_are area ea)
+  pub call_is : (area : ℕ) → area ≡ first_area (take m.ynd.node_count m.nodes) → left (asked area) ≡ join_cell count y m sizes
+  unfolding join_cell
+  call_is area ea = ap left (causes_are area ea)
 
-    pub refused_join : (x : Refusal) → Err x ≡ asked area → set_left (Err x) (length z.members) y ≡ join_cell count y m sizes
-    refused_join x e = ap left e ∙ call_is
+  -- by what the parts of the call give
+  module _ {area h : ℕ} {lens haves : Counts} {a : Answer} (ea : area ≡ first_area (take m.ynd.node_count m.nodes))
+      (eh : h ≡ min count room) (el : lens ≡ set_lengths y) (ec : haves ≡ cell_lengths m)
+      (ra : a ≡ decided (entry_causes (take h y.members) y.nodes lens haves m.ynd sizes area room)) where
+    told : left a ≡ join_cell count y m sizes
+    told =
+        ap left (ra
+        ∙ (λ i. decided (entry_causes (front_is y.members count h eh i) y.nodes (el i) (ec i) m.ynd sizes area room)))
+        ∙ call_is area ea
 
-    pub asked_is : (lens haves : Counts) → lens ≡ set_lengths y → haves ≡ cell_lengths m → (a : Answer)
-        → a ≡ decided (entry_causes (take h y.members) y.nodes lens haves m.ynd sizes area room) → a ≡ asked area
-    asked_is lens haves el ec a e =
-        e ∙ (λ i. decided (entry_causes (front_is y.members count h eh i) y.nodes (el i) (ec i) m.ynd sizes area room))
+    pub refused_join : {x : Refusal} (r : Result ℕ Refusal) → a ≡ Err x → IsErrAnd r (λ q. q ≡ x)
+        → left_after (length z.members) r y ≡ join_cell count y m sizes
+    refused_join {x} r e er =
+        let k = err_from_is_err_and r er in
+        ap (λ (q : Result ℕ Refusal). left_after (length z.members) q y) (k.1 ∙ ap Err k.2) ∙ ap left (sym e) ∙ told
 
-    end : (size : ℕ) → start_of size z.members h ≡ total (words_at size z.members)
-    end size = ap (start_of size z.members) (least_is y.members count h eh) ∙ start_all size z.members
-
-    module _ (d : (Ok tt) ≡ asked area) (s : Counts) (es : s ≡ starts_of z.members h) (k : Counts) (ek : k ≡ counts_of m.ynd) where
-      fits : AllFit z.members (set_lengths y) (cell_lengths m) m.ynd sizes
-      fits = (may z.members y.nodes (set_lengths y) (cell_lengths m) m.ynd sizes area room d).fit
+    module _ (d : a ≡ (Ok tt)) {s k : Counts} (es : s ≡ starts_of (take h y.members) h) (ek : k ≡ counts_of m.ynd) where
+      start : (of : Counts → ℕ) (size : ℕ) → ((ws : List (List ℕ)) (i : ℕ) → of (starts_of ws i) ≡ start_of size ws i)
+          → of s ≡ total (words_at size z.members)
+      start of size is =
+          ap of es ∙ is (take h y.members) h
+          ∙ (λ i. start_of size (front_is y.members count h eh i) (least_is y.members count h eh i))
+          ∙ start_all size z.members
 
       -- the cell's entries have room where they go
-      pub append_fits : ((k.nodes ≤ length m.nodes) × (s.nodes + k.nodes ≤ length y.nodes)) × ((k.links ≤ length m.links) × (s.links + k.links ≤ length y.links))
-          × ((k.junctions ≤ length m.junctions) × (s.junctions + k.junctions ≤ length y.junctions)) × ((k.heights ≤ length m.heights) × (s.heights + k.heights ≤ length y.heights))
+      pub append_fits : ((k.nodes ≤ length m.nodes) × (s.nodes + k.nodes ≤ length y.nodes))
+          × ((k.links ≤ length m.links) × (s.links + k.links ≤ length y.links))
+          × ((k.junctions ≤ length m.junctions) × (s.junctions + k.junctions ≤ length y.junctions))
+          × ((k.heights ≤ length m.heights) × (s.heights + k.heights ≤ length y.heights))
           × ((k.refs ≤ length m.refs) × (s.refs + k.refs ≤ length y.refs))
       append_fits =
-          let f = fits in
-          rw (es, ek) (
-            (f.nodes.in_cell, omega (arith, end 15, f.nodes.in_part, f.nodes.in_list)),
-            (f.links.in_cell, omega (arith, end 16, f.links.in_part, f.links.in_list)),
-            (f.junctions.in_cell, omega (arith, end 17, f.junctions.in_part, f.junctions.in_list)),
-            (f.heights.in_cell, omega (arith, end 18, f.heights.in_part, f.heights.in_list)),
-            (f.refs.in_cell, omega (arith, end 19, f.refs.in_part, f.refs.in_list)),
+          let f = rw (front_is y.members count h eh, el, ec) at (may _ _ _ _ _ _ _ _ (sym d ∙ ra)).fit in
+          rw ek (
+            (f.nodes.in_cell, omega (arith, start (λ c. c.nodes) 15 (λ ws i. refl), f.nodes.in_part, f.nodes.in_list)),
+            (f.links.in_cell, omega (arith, start (λ c. c.links) 16 (λ ws i. refl), f.links.in_part, f.links.in_list)),
+            (
+              f.junctions.in_cell,
+              omega (arith, start (λ c. c.junctions) 17 (λ ws i. refl), f.junctions.in_part, f.junctions.in_list),
+            ),
+            (
+              f.heights.in_cell,
+              omega (arith, start (λ c. c.heights) 18 (λ ws i. refl), f.heights.in_part, f.heights.in_list),
+            ),
+            (f.refs.in_cell, omega (arith, start (λ c. c.refs) 19 (λ ws i. refl), f.refs.in_part, f.refs.in_list)),
           )
 
-      pub joined : (W : List ℕ) (N L J R : List (List ℕ)) (H : List ℕ) → W ≡ entry_of m.ynd sizes
-          → N ≡ stored s.nodes (take k.nodes m.nodes) y.nodes → L ≡ stored s.links (take k.links m.links) y.links
-          → J ≡ stored s.junctions (take k.junctions m.junctions) y.junctions → H ≡ stored s.heights (take k.heights m.heights) y.heights
-          → R ≡ stored s.refs (take k.refs m.refs) y.refs
+      pub joined : {W : List ℕ} {N L J R : List (List ℕ)} {H : List ℕ} → W ≡ entry_of m.ynd sizes
+          → (N ≡ stored s.nodes (take k.nodes m.nodes) y.nodes) × (L ≡ stored s.links (take k.links m.links) y.links)
+          × (J ≡ stored s.junctions (take k.junctions m.junctions) y.junctions)
+          × (H ≡ stored s.heights (take k.heights m.heights) y.heights)
+          × (R ≡ stored s.refs (take k.refs m.refs) y.refs)
           → set_left (Ok tt) (h + 1) (cell_set (set y.members h W) N L J H R) ≡ join_cell count y m sizes
       unfolding with_cell
-      joined W N L J R H eW eN eL eJ eH eR =
-          let e = least_is y.members count h eh in
-          (λ i. set_left (Ok tt) (e i + 1) (record {
-            members = set y.members (e i) (eW i);
-            nodes = (eN ∙ (λ j. stored ((ap (λ (q : Counts). q.nodes) es ∙ end 15) j) (take (ek j).nodes m.nodes) y.nodes)) i;
-            links = (eL ∙ (λ j. stored ((ap (λ (q : Counts). q.links) es ∙ end 16) j) (take (ek j).links m.links) y.links)) i;
-            junctions = (eJ ∙ (λ j. stored ((ap (λ (q : Counts). q.junctions) es ∙ end 17) j) (take (ek j).junctions m.junctions) y.junctions)) i;
-            heights = (eH ∙ (λ j. stored ((ap (λ (q : Counts). q.heights) es ∙ end 18) j) (take (ek j).heights m.heights) y.heights)) i;
-            refs = (eR ∙ (λ j. stored ((ap (λ (q : Counts). q.refs) es ∙ end 19) j) (take (ek j).refs m.refs) y.refs)) i;
+      joined {W} {N} {L} {J} {R} {H} eW e =
+          let n = least_is y.members count h eh in
+          (λ i. set_left (Ok tt) (n i + 1) (record {
+            members = set y.members (n i) (eW i);
+            nodes = (e.0 ∙ (λ j. stored (start (λ c. c.nodes) 15 (λ ws i. refl) j) (take (ek j).nodes m.nodes) y.nodes)) i;
+            links = (e.1 ∙ (λ j. stored (start (λ c. c.links) 16 (λ ws i. refl) j) (take (ek j).links m.links) y.links)) i;
+            junctions = (e.2 ∙ (λ j. stored (start (λ c. c.junctions) 17 (λ ws i. refl) j)
+                (take (ek j).junctions m.junctions) y.junctions)) i;
+            heights = (e.3 ∙ (λ j. stored (start (λ c. c.heights) 18 (λ ws i. refl) j)
+                (take (ek j).heights m.heights) y.heights)) i;
+            refs = (e.4 ∙ (λ j. stored (start (λ c. c.refs) 19 (λ ws i. refl) j) (take (ek j).refs m.refs) y.refs)) i;
           }))
-          ∙ ap left d
-          ∙ call_is
+          ∙ ap left (sym d)
+          ∙ told
+
+-- for the check
+pub ruleset joining_laws = (may, least_is)

@@ -1,4 +1,8 @@
 -- What a cell that joins is asked, by the entries and the lists' lengths.
+use Rattle.std.proofs.lemmas.Result.{err_from_is_err_and}
+use Rattle.std.specs.Result.{IsErrAnd}
+use Rattle.std.proofs.Math.Bool.{or-false}
+use Rattle.std.proofs.lemmas.Bool.{not-false}
 use Prim.Native.Nat.{ℕ, ◌+◌, ◌-◌, ◌≤◌, ◌<◌}
 use native.Mathlib.Omega.{arith}
 use mathlib.Core.Path.{◌≡◌, refl, ap, sym, ◌∙◌}
@@ -20,7 +24,7 @@ use Rattle.sets.specs.CellSet.{words_at, total, room_for, holds_list}
 use Rattle.sets.specs.Join.{part_fits, lack_for}
 use Rattle.sets.specs.SetParts.{bare, bare_cell, areas_of, entry_causes}
 use Rattle.cells.specs.declared.count.Counts.{Counts}
-use Rattle.sets.proofs.RoomLaws.{bare_many, bare_together, fit_true, tail_done}
+use Rattle.sets.proofs.RoomLaws.{bare_many, bare_together, tail_done}
 use Rattle.std.specs.Prelude.{Ok, Err}
 use Rattle.numbers.specs.Refusals.{Answer}
 use Rattle.numbers.specs.declared.refusal.Refusal.{Refusal}
@@ -107,11 +111,11 @@ module _ (ws : List (List ℕ)) (lens haves : Counts) (y : Ynd) (sizes : Counts)
   pub all_fit : decided lack ≡ (Ok tt) → AllFit
   unfolding lack_for
   all_fit e = record {
-    nodes = fitting 10 15 ws _ _ _ _ (fit_true _ (passed lack 0 e));
-    links = fitting 11 16 ws _ _ _ _ (fit_true _ (passed lack 1 e));
-    junctions = fitting 12 17 ws _ _ _ _ (fit_true _ (passed lack 2 e));
-    heights = fitting 13 18 ws _ _ _ _ (fit_true _ (passed lack 3 e));
-    refs = fitting 14 19 ws _ _ _ _ (fit_true _ (passed lack 4 e));
+    nodes = fitting 10 15 ws _ _ _ _ (not-false _ (passed lack 0 e));
+    links = fitting 11 16 ws _ _ _ _ (not-false _ (passed lack 1 e));
+    junctions = fitting 12 17 ws _ _ _ _ (not-false _ (passed lack 2 e));
+    heights = fitting 13 18 ws _ _ _ _ (not-false _ (passed lack 3 e));
+    refs = fitting 14 19 ws _ _ _ _ (not-false _ (passed lack 4 e));
   }
 
 -- ---- the limits, with the cell
@@ -123,11 +127,7 @@ together_more (x ∷ xs) m = let h = together_more xs m in omega (arith, h)
 
 pub over_more : (ms : List Memory) (m : Memory) → any_over (ms ++ (m ∷ [])) ≡ any_over ms || over_limit m.ynd
 unfolding any_over
-over_more [] m = go (over_limit m.ynd)
-  where
-    go : (b : Bool) → b || false ≡ b
-    go true = refl
-    go false = refl
+over_more [] m = or-false (over_limit m.ynd)
 over_more (x ∷ xs) m = go (over_limit x.ynd) (over_more xs m)
   where
     go : (b : Bool) → any_over (xs ++ (m ∷ [])) ≡ any_over xs || over_limit m.ynd → b || any_over (xs ++ (m ∷ [])) ≡ (b || any_over xs) || over_limit m.ynd
@@ -200,8 +200,10 @@ module _ (ws nodes : List (List ℕ)) (lens haves : Counts) (y : Ynd) (sizes : C
       unfolding entry_causes
       joins_as = rw (n, o) (decided_append asked (when (leb room (length ws)) (TooShort lent.Members) ∷ []))
 
-      pub list_short : (x : Refusal) → decided asked ≡ Err x → Err x ≡ answer
-      list_short x e = sym (joins_as ∙ ap last e)
+      pub list_short : {x : Refusal} {r : Answer} → decided asked ≡ Err x → IsErrAnd r (λ z. z ≡ x) → r ≡ answer
+      list_short {x} {r} e er =
+          let k = err_from_is_err_and r er in
+          k.1 ∙ ap Err k.2 ∙ sym (joins_as ∙ ap last e)
 
       module _ (e : decided asked ≡ (Ok tt)) where
         pub list_full : room ≤ length ws → Err (TooShort lent.Members) ≡ answer

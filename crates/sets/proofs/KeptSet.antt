@@ -8,11 +8,12 @@ use mathlib.Core.Option.{Option, none, some}
 use lib.Dec.{ltb}
 use lib.ListN.{length, length-map}
 use borrow.Author.Tests.{lt-ltb, ltb-true}
+use Rattle.std.proofs.lemmas.Bool.{and_from}
 use Rattle.cells.specs.Lists.{every}
 use Rattle.cells.specs.Order.{last_with, new_place, new_number, place_or}
 use Rattle.cells.specs.Cell.{Link, Node, Cell, old_nodes, numbers, ped_flags}
 use Rattle.cells.proofs.WritingBack.KeptCells.{kept_link, kept_body, kept_node, kept_junction, kept_ref, kept_root, kept}
-use Rattle.cells.proofs.WritingBack.Kept.{both, kept_again}
+use Rattle.cells.proofs.WritingBack.Kept.{kept_again}
 use Rattle.cells.proofs.Renumbering.Named.{last_inside}
 use Rattle.cells.proofs.Renumbering.NewCell.{new_at}
 use Rattle.cells.proofs.Sequences.Tests.{and_left, and_right, every_at, every_map}
@@ -42,15 +43,15 @@ module _ (x : Change) (small : (k : ℕ) → k < 65536 → new_number x.old k < 
       go false = t
 
   link_kept : (l : Link) → kept_link l ≡ true → kept_link (correct_link x i l) ≡ true
-  link_kept l t = both (ltb l.area 65536) (ltb (corrected x i l.area l.number) 65536) (and_left _ _ t) (number_kept l.area l.number (and_right (ltb l.area 65536) _ t))
+  link_kept l t = and_from (ltb l.area 65536) (ltb (corrected x i l.area l.number) 65536) (and_left _ _ t) (number_kept l.area l.number (and_right (ltb l.area 65536) _ t))
 
   node_kept : (n : Node) → kept_node n ≡ true → kept_node (correct_node x i n) ≡ true
-  node_kept n t = both (kept_body n.body) (every kept_link (map (correct_link x i) n.links)) (and_left _ _ t) (every_map kept_link (correct_link x i) kept_link link_kept n.links (and_right (kept_body n.body) _ t))
+  node_kept n t = and_from (kept_body n.body) (every kept_link (map (correct_link x i) n.links)) (and_left _ _ t) (every_map kept_link (correct_link x i) kept_link link_kept n.links (and_right (kept_body n.body) _ t))
 
   correct_kept : (c : Cell) → kept c ≡ true → kept (correct_cell x i c) ≡ true
   unfolding kept
   correct_kept c t =
-      both (every kept_node (map (correct_node x i) c.nodes)) (every kept_junction c.junctions && (every kept_ref c.refs && kept_root c))
+      and_from (every kept_node (map (correct_node x i) c.nodes)) (every kept_junction c.junctions && (every kept_ref c.refs && kept_root c))
       (every_map kept_node (correct_node x i) kept_node node_kept c.nodes (and_left (every kept_node c.nodes) _ t))
       (and_right (every kept_node c.nodes) _ t)
 

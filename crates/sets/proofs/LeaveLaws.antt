@@ -8,28 +8,40 @@ use mathlib.Core.Option.{Option, none, some}
 use lib.ListN.{length}
 use Rattle.cells.specs.Lookup.{first_with}
 use Rattle.sets.specs.MemberList.{unless}
-use Rattle.sets.specs.CellSet.{CellSet, cell_set, words_at, total}
-use Rattle.sets.specs.Leave.{SetLeft, set_left, closed, start_of, without, first_of_area, leave_causes, left_by, leave_area}
-use Rattle.sets.specs.SetParts.{named_of, starts_of, areas_of}
+use Rattle.sets.specs.CellSet.{CellSet, cell_set, words_at}
+use Rattle.sets.specs.Leave.{SetLeft, set_left, left_after, closed, start_of, without, first_of_area, leave_causes, left_by, leave_area}
+use Rattle.sets.specs.Join.{set_lengths}
+use Rattle.sets.specs.SetParts.{Holding, named_of, starts_of, areas_of, list_causes}
 use Rattle.cells.specs.declared.count.Counts.{Counts}
 use Rattle.sets.proofs.MemberLaws.{first_has}
 use Rattle.sets.proofs.PartLaws.{total_below, start_next, start_all}
 use Rattle.sets.proofs.CellSetLaws.{areas_many, areas_held}
 use Rattle.sets.proofs.RoomLaws.{lists_of, causes_held}
-use Rattle.std.specs.Prelude.{Ok, Err, Some, None}
+use Rattle.std.specs.Prelude.{Result, Ok, Err, Some, None}
+use Rattle.std.specs.Result.{IsErrAnd}
+use Rattle.std.proofs.lemmas.Result.{err_from_is_err_and}
+use Rattle.numbers.specs.Refusals.{decided}
 use Rattle.numbers.specs.declared.refusal.Refusal.{Refusal}
 use Rattle.numbers.specs.Refusals.{Answer}
 use Rattle.numbers.specs.declared.refusal.Refusal.TheVariants.{NoSuchPlace}
 
+-- where a list's parts lie; `of` is the list's among the five
+pub closes : {k size room : ℕ} {ws : List (List ℕ)} → Holding k size ws room → (of : Counts → ℕ)
+    → ((i : ℕ) → of (starts_of ws i) ≡ start_of size ws i) → {a e t : Counts} (j : ℕ) → j < length ws
+    → a ≡ starts_of ws j → e ≡ starts_of ws (j + 1) → t ≡ starts_of ws (length ws)
+    → (of a ≤ of e) × (of e ≤ of t) × (of t ≤ room)
+closes {k} {size} {room} {ws} h of is j lt ea ee et =
+    let start = λ (i : ℕ). start_of size ws i in
+    let e = ap of ee ∙ is (j + 1) in
+    let t = ap of et ∙ is (length ws) in (
+      omega (arith, ap of ea ∙ is j, e, start_next size ws j lt),
+      omega (arith, e, t, start_all size ws, total_below (words_at size ws) (j + 1)),
+      omega (arith, t, start_all size ws, h.fit),
+    )
+
 module _ (y : CellSet) (j : ℕ) where
   abbrev ws : List (List ℕ)
   ws = y.members
-
-  -- where the parts lie
-  pub closes : j < length ws → (size room : ℕ) (a e t : ℕ) → total (words_at size ws) ≤ room → a ≡ start_of size ws j → e ≡ start_of size ws (j + 1) → t ≡ start_of size ws (length ws)
-      → (a ≤ e) × (e ≤ t) × (t ≤ room)
-  closes lt size room a e t f ea ee et =
-      (omega (arith, start_next size ws j lt), omega (arith, start_all size ws, total_below (words_at size ws) (j + 1)), omega (arith, start_all size ws))
 
   -- the six lists, closed
   pub taken_out : (a e t : Counts) → a ≡ starts_of ws j → e ≡ starts_of ws (j + 1) → t ≡ starts_of ws (length ws) → (W N L J R : List (List ℕ)) (H : List ℕ)
@@ -50,6 +62,11 @@ module _ (y : CellSet) (j : ℕ) where
       }
 
 -- ---- the call's answers
+
+-- what the set is asked, by the lists' lengths
+pub checked : (y : CellSet) {lens : Counts} {a : Answer} → lens ≡ set_lengths y
+    → a ≡ decided (list_causes y.members lens.nodes lens.links lens.junctions lens.heights lens.refs) → lists_of y ≡ a
+checked y e ea = sym (ea ∙ ap (λ (l : Counts). decided (list_causes y.members l.nodes l.links l.junctions l.heights l.refs)) e)
 
 module _ (y : CellSet) (area : ℕ) where
   abbrev found : Option ℕ
@@ -85,9 +102,12 @@ module _ (y : CellSet) (area : ℕ) where
     abbrev left : Answer → SetLeft
     left a = unless a (λ cause. set_left (Err cause) (length y.members) y) (left_by (some j) y)
 
-    pub refused_leave : (x : Refusal) → lists_of y ≡ Err x → set_left (Err x) (length y.members) y ≡ leave_area y area
-    refused_leave x e = ap left (sym e) ∙ sym asked
+    pub refused_leave : {x : Refusal} (r : Result ℕ Refusal) → lists_of y ≡ Err x → IsErrAnd r (λ z. z ≡ x)
+        → left_after (length y.members) r y ≡ leave_area y area
+    refused_leave {x} r e er =
+        let k = err_from_is_err_and r er in
+        ap (λ (q : Result ℕ Refusal). left_after (length y.members) q y) (k.1 ∙ ap Err k.2) ∙ ap left (sym e) ∙ sym asked
 
-    pub gone : (y' : CellSet) → lists_of y ≡ (Ok tt) → y' ≡ without y j
+    pub gone : {y' : CellSet} → lists_of y ≡ (Ok tt) → y' ≡ without y j
         → set_left (Ok tt) (length y.members - 1) y' ≡ leave_area y area
-    gone y' e t = ap (set_left (Ok tt) (length y.members - 1)) t ∙ ap left (sym e) ∙ sym asked
+    gone e t = ap (set_left (Ok tt) (length y.members - 1)) t ∙ ap left (sym e) ∙ sym asked

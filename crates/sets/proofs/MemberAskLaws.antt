@@ -1,25 +1,126 @@
--- What a call on a member answers that changes nothing of the set.
-use Prim.Native.Nat.{ℕ}
-use mathlib.Core.Path.{◌≡◌, ap, sym, ◌∙◌}
-use Rattle.numbers.specs.Refusals.{decided}
-use Rattle.cells.specs.Memory.{Memory}
-use Rattle.sets.specs.MemberList.{unless}
-use Rattle.sets.specs.CellSet.{CellSet}
-use Rattle.sets.specs.SetStored.{member_in, ask_causes}
-use Rattle.sets.specs.MemberParts.{part_memory}
-use Rattle.sets.specs.MemberLookup.{ask_member}
-use Rattle.sets.specs.declared.member.MemberPart.{MemberPart}
-use Rattle.sets.proofs.MemberPartLaws.{OpenAt}
-use Rattle.std.specs.Prelude.{Err}
+-- What a call on a member asks, where some lists aren't lent, and what it answers that changes nothing of the set.
+use Prim.Native.Nat.{ℕ, ◌≤◌, ◌<◌}
+use native.Mathlib.Omega.{arith}
+use mathlib.Core.Path.{◌≡◌, refl, ap, sym, ◌∙◌}
+use mathlib.Core.List.{List}
+use lib.Dec.{leb}
+use lib.ListN.{length}
+use borrow.Author.Tests.{lt-ltb, le-ltb, le-leb}
+use Rattle.std.specs.Prelude.{Result, Ok, Err}
+use Rattle.std.specs.Result.{IsErrAnd}
+use Rattle.std.proofs.lemmas.Result.{err_from_is_err_and}
+use Rattle.numbers.specs.Refusals.{Answer, decided}
 use Rattle.numbers.specs.declared.refusal.Refusal.{Refusal}
-use Rattle.numbers.specs.Refusals.{Answer}
+use Rattle.cells.specs.Memory.{Memory}
+use Rattle.cells.specs.declared.count.Counts.{Counts}
+use Rattle.cells.proofs.Sequences.Tests.{by_test}
+use Rattle.sets.specs.MemberList.{over_set, unless}
+use Rattle.sets.specs.CellSet.{CellSet, cell_set, words_at, total, holds_list, lack_of}
+use Rattle.sets.specs.Join.{per_list, set_lengths}
+use Rattle.sets.specs.Leave.{start_of}
+use Rattle.sets.specs.Lent.{Lies}
+use Rattle.sets.specs.MemberLookup.{ask_member}
+use Rattle.sets.specs.MemberParts.{entry_ask, opened, held_by, part_memory}
+use Rattle.sets.specs.SetParts.{starts_of, bare, list_causes}
+use Rattle.sets.specs.SetStored.{member_in, ask_causes}
+use Rattle.sets.specs.declared.member.MemberPart.{MemberPart}
+use Rattle.sets.proofs.PartLaws.{start_all}
+use Rattle.sets.proofs.RoomLaws.{few_members}
+use Rattle.sets.proofs.MemberPartLaws.{OpenAt, ask_held, open_in, open_refused}
 
-module _ {A : Type 0} (y : CellSet) (j : ℕ) (refused : Refusal → A) (call : Memory → A) where
-  pub ask_not : (x : Refusal) → decided (ask_causes y j) ≡ Err x → refused x ≡ ask_member y j refused call
-  unfolding ask_member
-  ask_not x e = ap (λ (a : Answer). unless a refused (call (member_in y j))) (sym e)
+-- ---- what the lists that aren't lent count as
 
-  pub ask_in : (p : MemberPart) → OpenAt y j p → (r : A) → r ≡ call (part_memory p.ynd p.a p.e y)
-      → r ≡ ask_member y j refused call
+pub held_many : (ws : List (List ℕ)) → 9 < length ws → per_list 0 0 0 0 0 ≡ held_by ws
+unfolding held_by
+held_many ws h = rw (lt-ltb 9 (length ws) h)
+
+pub held_few : (ws : List (List ℕ)) (t : Counts) → length ws ≤ 9 → t ≡ starts_of ws (length ws) → t ≡ held_by ws
+unfolding held_by
+held_few ws t h e = rw (le-ltb 9 (length ws) h) e
+
+held_is : (ws : List (List ℕ)) (t : Counts) → t ≡ held_by ws → length ws ≤ 9 → t ≡ starts_of ws (length ws)
+unfolding held_by
+held_is ws t e few = rw (le-ltb 9 (length ws) few) at e
+
+-- a list is asked as one of `len` entries: all its own where it is lent, else those that the members' parts hold
+pub record Counted {A : Type 0} (k : ℕ) (ws : List (List ℕ)) (held len : ℕ) (l : List A) : Type 0 where
+  pub alike : held ≡ start_of k ws (length ws) → leb (total (words_at k ws)) len ≡ leb (total (words_at k ws)) (length l)
+
+pub lent : {A : Type 0} {k : ℕ} {ws : List (List ℕ)} {held : ℕ} (l : List A) → Counted k ws held (length l) l
+lent l = record { alike = λ _. refl }
+
+pub apart : {A : Type 0} {k : ℕ} {ws : List (List ℕ)} {held : ℕ} (l : List A) → Lies k ws l → Counted k ws held held l
+apart {A} {k} {ws} {held} l h = record {
+  alike = λ e.
+      le-leb (total (words_at k ws)) held (let z : total (words_at k ws) ≤ held = omega (arith, start_all k ws) in z)
+      ∙ sym (le-leb (total (words_at k ws)) (length l) h);
+}
+
+-- the set is asked what a call asks by these lengths
+pub record Asks (lens : Counts) (y : CellSet) : Type 0 where
+  pub same : (j : ℕ) → decided (entry_ask y.members lens j) ≡ decided (ask_causes y j)
+
+pub asks : {ws N L J R : List (List ℕ)} {H : List ℕ} {t : Counts} {n l i h r : ℕ} → t ≡ held_by ws
+    → Counted 15 ws t.nodes n N → Counted 16 ws t.links l L → Counted 17 ws t.junctions i J
+    → Counted 18 ws t.heights h H → Counted 19 ws t.refs r R → Asks (per_list n l i h r) (cell_set ws N L J H R)
+unfolding entry_ask list_causes lack_of holds_list
+asks {ws} {N} {L} {J} {R} {H} {t} e cn cl ci ch cr = record {
+  same = λ j.
+      by_test (leb (length ws) j) (λ t. rw t) (λ f.
+      by_test (over_set (bare ws)) (λ t. rw (f, t)) (λ o.
+      let s = held_is ws t e (few_members ws o) in
+      rw (
+        f,
+        o,
+        cn.alike (ap (λ (c : Counts). c.nodes) s),
+        cl.alike (ap (λ (c : Counts). c.links) s),
+        ci.alike (ap (λ (c : Counts). c.junctions) s),
+        ch.alike (ap (λ (c : Counts). c.heights) s),
+        cr.alike (ap (λ (c : Counts). c.refs) s),
+      )))
+      ∙ ask_held (cell_set ws N L J H R) j;
+}
+
+-- all five lent
+pub all_lent : {lens : Counts} {y : CellSet} → lens ≡ set_lengths y → Asks lens y
+all_lent {lens} {y} e = record {
+  same = λ j. ap (λ (l : Counts). decided (entry_ask y.members l j)) e ∙ ask_held y j;
+}
+
+-- ---- the member opened, or not
+
+module _ {lens : Counts} {y : CellSet} (j : ℕ) {o : Result MemberPart Refusal} (f : Asks lens y)
+    (eo : o ≡ opened y.members lens j) where
+  pub opens : {p : MemberPart} → o ≡ Ok p → OpenAt y j p
+  opens {p} e = open_in y j p lens (f.same j) (sym e ∙ eo)
+
+  pub shuts : {x : Refusal} → o ≡ Err x → decided (ask_causes y j) ≡ Err x
+  shuts {x} e = sym (f.same j) ∙ open_refused y.members lens j x (sym e ∙ eo)
+
+  -- what the `?` at the opening gives
+  pub not_called : {A B : Type 0} {x : Refusal} {r : Result A Refusal} (told : Result A Refusal → B) (v : B)
+      → o ≡ Err x → IsErrAnd r (λ z. z ≡ x) → told r ≡ unless (decided (ask_causes y j)) (λ z. told (Err z)) v
+  not_called {A} {B} {x} {r} told v is e =
+      let k = err_from_is_err_and r e in
+      ap told (k.1 ∙ ap Err k.2) ∙ ap (λ (a : Answer). unless a (λ z. told (Err z)) v) (sym (shuts is))
+
+  pub not_told : {A B : Type 0} {x : Refusal} {r : Result A Refusal} (told : Result A Refusal → B) (call : Memory → B)
+      → o ≡ Err x → IsErrAnd r (λ z. z ≡ x) → told r ≡ ask_member y j (λ z. told (Err z)) call
   unfolding ask_member
-  ask_in p k r e = e ∙ ap call k.part ∙ ap (λ (a : Answer). unless a refused (call (member_in y j))) (sym k.asked)
+  not_told told call = not_called told (call (member_in y j))
+
+  pub not_asked : {A : Type 0} {x : Refusal} {r : Result A Refusal} (call : Memory → Result A Refusal)
+      → o ≡ Err x → IsErrAnd r (λ z. z ≡ x) → r ≡ ask_member y j Err call
+  not_asked {A} call = not_told (λ (z : Result A Refusal). z) call
+
+module _ {A : Type 0} {y : CellSet} {j : ℕ} {p : MemberPart} (refused : Refusal → A) (call : Memory → A) {r : A}
+    (k : OpenAt y j p) (e : r ≡ call (part_memory p.ynd p.a p.e y)) where
+  pub called : r ≡ unless (decided (ask_causes y j)) refused (call (member_in y j))
+  called = e ∙ ap call k.part ∙ ap (λ (a : Answer). unless a refused (call (member_in y j))) (sym k.asked)
+
+  pub answered : r ≡ ask_member y j refused call
+  unfolding ask_member
+  answered = called
+
+-- for the check
+pub ruleset held_laws = (held_many, held_few)

@@ -1,4 +1,5 @@
 -- The nodes of a member's cell, by the lists from where its parts start.
+use Rattle.std.proofs.lemmas.List.{take-take}
 use Prim.Native.Nat.{ℕ, ◌≤◌, ◌<◌}
 use mathlib.Core.Path.{◌≡◌, ap, ◌∙◌}
 use mathlib.Core.List.{List, [], map}
@@ -17,7 +18,6 @@ use Rattle.sets.specs.SetParts.{count_of}
 use Rattle.sets.proofs.SetMemory.{cell_at_law}
 use Rattle.sets.proofs.PartLaws.{part_of}
 use Rattle.sets.proofs.CellSetLaws.{member_at_law}
-use Rattle.sets.proofs.AreasFilled.{front_of_part}
 
 module _ (y : CellSet) (i : ℕ) (lt : i < length y.members) where
   abbrev ws : List (List ℕ)
@@ -38,19 +38,19 @@ module _ (y : CellSet) (i : ℕ) (lt : i < length y.members) where
       ≡ take (count_of 10 ws i) (drop (start_of 15 ws i) y.nodes)
   unfolding parts_in
   nodes_front h = ap (take (count_of 10 ws i)) (part_of 15 ws y.nodes i lt)
-      ∙ front_of_part (count_of 10 ws i) (count_of 15 ws i) (drop (start_of 15 ws i) y.nodes) h
+      ∙ take-take (count_of 10 ws i) (count_of 15 ws i) (drop (start_of 15 ws i) y.nodes) h
 
   links_front : count_of 11 ws i ≤ count_of 16 ws i → take (count_of 11 ws i) member.links
       ≡ take (count_of 11 ws i) (drop (start_of 16 ws i) y.links)
   unfolding parts_in
   links_front h = ap (take (count_of 11 ws i)) (part_of 16 ws y.links i lt)
-      ∙ front_of_part (count_of 11 ws i) (count_of 16 ws i) (drop (start_of 16 ws i) y.links) h
+      ∙ take-take (count_of 11 ws i) (count_of 16 ws i) (drop (start_of 16 ws i) y.links) h
 
   refs_front : count_of 14 ws i ≤ count_of 19 ws i → take (count_of 14 ws i) member.refs
       ≡ take (count_of 14 ws i) (drop (start_of 19 ws i) y.refs)
   unfolding parts_in
   refs_front h = ap (take (count_of 14 ws i)) (part_of 19 ws y.refs i lt)
-      ∙ front_of_part (count_of 14 ws i) (count_of 19 ws i) (drop (start_of 19 ws i) y.refs) h
+      ∙ take-take (count_of 14 ws i) (count_of 19 ws i) (drop (start_of 19 ws i) y.refs) h
 
   pub refs_at : count_of 14 ws i ≤ count_of 19 ws i → (cell_at (cells_of (members_of y)) i).refs
       ≡ map ref_of (take (count_of 14 ws i) (drop (start_of 19 ws i) y.refs))

@@ -1,10 +1,12 @@
 -- What a renumbering or a write-then-read keeps of a cell's memory: the lengths of its lists, how many nodes it has,
 -- and that each list is at least as long as its count.
+use Rattle.records.specs.Root.{root_of, unknowns_of}
+use Rattle.cells.specs.NewYnd.{new_root, new_ynd}
 use Prim.Native.Nat.{ℕ, ◌/◌, ◌≤◌}
 use native.Mathlib.Omega.{arith}
 use mathlib.Core.Path.{◌≡◌, refl, ap, sym, ◌∙◌, subst}
 use mathlib.Core.Bool.{false}
-use mathlib.Core.List.{List, [], ◌++◌, map}
+use mathlib.Core.List.{List, [], ◌++◌, map, ◌∷◌}
 use lib.ListN.{length, take, drop, length-append, length-drop, length-map}
 use lib.Seq.{length-take-le}
 use borrow.Author.Tests.{le-ltb}
@@ -120,6 +122,12 @@ renumber_stays m ps s r = go (answer_of (over_limit m.ynd) m.ynd.node_count (sho
     }
 
 -- ---- reading back
+
+-- the words that a reading leaves are seven
+pub seven_words : (s : List ℕ) → length (root_read s).unknowns ≡ 7
+unfolding new_root new_ynd root_of unknowns_of
+seven_words [] = refl
+seven_words (b ∷ bs) = refl
 
 refused : {P : Type 0} {a : Refusal} → ◌≡◌ {A = Answer} (Err a) (Ok tt) → P
 refused e = not_refused e
@@ -275,9 +283,6 @@ module _ (h m : Memory) (told : Told h) where
           ∙ (λ i. by (a.is_at i) (b.is_at i) (c.is_at i) (d.is_at i) (f.is_at i))
           ∙ (λ i. read_arrays (root_read w) (a.bytes i) (b.bytes i) (c.bytes i) (d.bytes i) (f.bytes i) m)
 
-  seven_read : length (root_read w).unknowns ≡ 7
-  seven_read = ap (λ (r : Root). length r.unknowns) (root_read_law h told.refs_told (written_few h told))
-
   back_stays : length h.nodes ≡ m.ynd.node_count → (read_of w [] m).answer ≡ (Ok tt) → Stays m (read_of w [] m).memory
   back_stays e t =
       let n = nodes_block h.links h.nodes in
@@ -287,7 +292,7 @@ module _ (h m : Memory) (told : Told h) where
       (heights_block h.heights h.junctions) (refs_block h.refs) m found_all.memory
       (arrays_filled (root_read w) n (links_block h.links h.nodes) (junctions_block h.heights h.junctions)
       (heights_block h.heights h.junctions) (refs_block h.refs) m
-      (ap (λ (l : Left). l.answer) (sym read_back) ∙ t)) many seven_read)
+      (ap (λ (l : Left). l.answer) (sym read_back) ∙ t)) many (seven_words w))
 
 pub write_read_stays : (m : Memory) (s : List ℕ) → Ready m → Stays m (write_read_of m s).memory
 unfolding write_read_of held

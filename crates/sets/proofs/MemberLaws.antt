@@ -88,3 +88,6 @@ next_is cs s b = go (link_at (cell_at cs s.member).nodes s.place b)
     go (some l) = rw (area_at cs i) (by_test (belongs (area_of (cell_at cs i)) l.area)
         (λ t. rw t (arrives i (find (numbers (cell_at cs i).nodes) l.number)))
         (λ f. rw f))
+
+-- for the check
+pub ruleset member_laws = (member_own, member_other)

@@ -7,8 +7,10 @@ use mathlib.Core.List.{List, [], ◌∷◌, ◌++◌, append_assoc}
 use lib.Dec.{leb}
 use lib.ListN.{length, get_or, take, drop, length-drop, take-append-drop}
 use lib.Seq.{length-take-le, drop-drop}
-use borrow.Author.Tests.{leb-false, le-leb, lt-leb}
+use borrow.Author.Tests.{leb-false}
 use Rattle.numbers.specs.Refusals.{decided, unless}
+use Rattle.std.specs.Result.{IsErrAnd}
+use Rattle.std.proofs.lemmas.Result.{err_from_is_err_and}
 use Rattle.numbers.proofs.Refusing.{not_refused}
 use Rattle.records.specs.Put.{put}
 use Rattle.cells.specs.Memory.{Memory, memory}
@@ -185,16 +187,6 @@ module _ (ws : List (List ℕ)) (lens : Counts) (j : ℕ) where
   refused : {P : Type 0} {a : Refusal} → ◌≡◌ {A = Answer} (Ok tt) (Err a) → P
   refused d = not_refused (sym d)
 
-  pub asked_13 : length ws ≤ j → Err NoSuchPlace ≡ decided (entry_ask ws lens j)
-  unfolding entry_ask
-  asked_13 h = rw (le-leb (length ws) j h)
-
-  pub asked_on : (a : Answer) → j < length ws
-      → a ≡ decided (list_causes ws lens.nodes lens.links lens.junctions lens.heights lens.refs)
-      → a ≡ decided (entry_ask ws lens j)
-  unfolding entry_ask
-  asked_on a h e = rw (lt-leb (length ws) j h) e
-
   -- who passed is on a member, of nine at most
   pub asked_few : (Ok tt) ≡ decided (entry_ask ws lens j) → (j < length ws) × (length ws ≤ 9)
   unfolding entry_ask list_causes
@@ -226,9 +218,12 @@ module _ (ws : List (List ℕ)) (lens : Counts) (j : ℕ) where
       (λ i. Ok (record { ynd = ev i; a = ea i; e = ee i }))
       ∙ ap (λ (z : Answer). unless z (Ok (member_part ws j))) t
 
-  pub open_not : (x : Refusal) → Err x ≡ decided (entry_ask ws lens j) → Err x ≡ opened ws lens j
+  pub open_not : {x : Refusal} {r : Result MemberPart Refusal} → Err x ≡ decided (entry_ask ws lens j)
+      → IsErrAnd r (λ z. z ≡ x) → r ≡ opened ws lens j
   unfolding opened
-  open_not x e = ap (λ (z : Answer). unless z (Ok (member_part ws j))) e
+  open_not {x} {r} e er =
+      let k = err_from_is_err_and r er in
+      k.1 ∙ ap Err k.2 ∙ ap (λ (z : Answer). unless z (Ok (member_part ws j))) e
 
 -- what an opened member is
 pub record OpenAt (y : CellSet) (j : ℕ) (p : MemberPart) : Type 0 where
@@ -258,15 +253,5 @@ open_in y j p lens same e =
       asked = sym (o.0 ∙ same);
     }
 
--- by the lengths of the lists lent
-pub lens_held : (y : CellSet) (j : ℕ) (lens : Counts) → lens ≡ set_lengths y
-    → decided (entry_ask y.members lens j) ≡ decided (ask_causes y j)
-lens_held y j lens e = ap (λ (l : Counts). decided (entry_ask y.members l j)) e ∙ ask_held y j
-
-module _ (y : CellSet) (j : ℕ) (lens : Counts) (same : decided (entry_ask y.members lens j) ≡ decided (ask_causes y j))
-    (o : Result MemberPart Refusal) (eo : o ≡ opened y.members lens j) where
-  pub is_open : (p : MemberPart) → o ≡ Ok p → OpenAt y j p
-  is_open p e = open_in y j p lens same (sym e ∙ eo)
-
-  pub not_open : (x : Refusal) → o ≡ Err x → decided (ask_causes y j) ≡ Err x
-  not_open x e = sym same ∙ open_refused y.members lens j x (sym e ∙ eo)
+-- for the check
+pub ruleset open_laws = (asked_few, open_done)

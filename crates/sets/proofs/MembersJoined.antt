@@ -1,27 +1,28 @@
 -- What joins stands behind the others, which are as they were, and holds the cell that was joined.
-use Prim.Native.Nat.{ℕ, ◌+◌, ◌-◌, ◌≤◌, ◌<◌, min}
+use Rattle.sets.proofs.SetLists.{firsts, firsts_all}
+use Rattle.std.proofs.lemmas.List.{take_more_set, length-take, map-append}
+use Prim.Native.Nat.{ℕ, ◌+◌, ◌-◌, ◌≤◌, ◌<◌}
 use native.Mathlib.Omega.{arith}
-use native.Mathlib.Numerals.{add-one}
 use mathlib.Core.Path.{◌≡◌, refl, ap, sym, ◌∙◌}
 use mathlib.Core.List.{List, [], ◌∷◌, ◌++◌, map, append_assoc}
 use lib.Dec.{ltb}
 use lib.ListN.{length, get_or, set, take, drop, length-append, length-drop, take-append-drop, get_or-append}
-use lib.Seq.{length-take-le, take_all, take_at, drop_at, take-add, take-suc-set, get_or-append_seam}
+use lib.Seq.{length-take-le, take_at, drop_at, get_or-append_seam}
 use borrow.Author.Tests.{ltb-true, ltb-false}
 use Rattle.cells.specs.Memory.{Memory, memory}
 use Rattle.cells.specs.NodeWords.{first_area}
 use Rattle.cells.specs.CellOf.{link_of, ref_of, node_with, junction_with, nodes_of, junctions_of, refs_of, cell_of}
 use Rattle.cells.specs.declared.ynd.Ynd.{Ynd}
-use Rattle.cells.proofs.Sequences.Tests.{by_test, map_append}
+use Rattle.cells.proofs.Sequences.Tests.{by_test}
 use Rattle.sets.specs.MemberList.{no_memory, member_at}
 use Rattle.sets.specs.CellSet.{CellSet, cell_set, word, ynd_of, words_at, total, parts_of, parts_in, members_of}
 use Rattle.sets.specs.Leave.{SetLeft, used}
 use Rattle.sets.specs.Join.{entry_of, stored, set_lengths, cell_lengths, part_of_cell, joined_member, with_cell, join_cell}
 use Rattle.cells.specs.declared.count.Counts.{Counts}
-use Rattle.sets.proofs.PartLaws.{words_many, parts_many}
+use Rattle.sets.proofs.PartLaws.{words_many, parts_many, split}
 use Rattle.sets.proofs.CellSetLaws.{members_many, member_at_law, members_same}
 use Rattle.sets.proofs.JoinLaws.{Fitting, AllFit, may}
-use Rattle.sets.proofs.JoinDone.{asked, left, call_is}
+use Rattle.sets.proofs.JoinDone.{asked, left, call_is, front_is}
 use Rattle.std.specs.Prelude.{Ok, Err}
 use Rattle.numbers.specs.declared.refusal.Refusal.{Refusal}
 use Rattle.numbers.specs.Refusals.{Answer}
@@ -29,9 +30,6 @@ use Rattle.numbers.specs.Refusals.{Answer}
 -- ---- one list
 
 module _ {A : Type 0} where
-  split : (c d : ℕ) (l r : List A) → take (c + d) l ++ r ≡ take c l ++ (take d (drop c l) ++ r)
-  split c d l r = ap (λ (t : List A). t ++ r) (take-add c d l) ∙ append_assoc (take c l) (take d (drop c l)) r
-
   parts_append : (cs : List ℕ) (c : ℕ) (l n t : List A) → total cs ≤ length l → length n ≡ c → parts_of (cs ++ (c ∷ [])) (take (total cs) l ++ (n ++ t)) ≡ parts_of cs l ++ (n ∷ [])
   unfolding parts_of total
   parts_append [] c l n t h e = λ i. take_at n t c e i ∷ []
@@ -68,31 +66,17 @@ module _ {A : Type 0} where
 -- the set's entries, and one more
 pub entries_more : (l : List (List ℕ)) (count : ℕ) (w : List ℕ) → length (take count l) < length l → take (length (take count l) + 1) (set l (length (take count l)) w) ≡ take count l ++ (w ∷ [])
 entries_more l count w lt =
-    let n = length (take count l) in
-    ap (λ (k : ℕ). take k (set l n w)) (add-one n)
-    ∙ take-suc-set l n w lt
-    ∙ ap (λ (t : List (List ℕ)). t ++ (w ∷ [])) (front l count)
-  where
-    front : (l : List (List ℕ)) (count : ℕ) → take (length (take count l)) l ≡ take count l
-    front l count = by_test (ltb count (length l))
-        (λ t. ap (λ (k : ℕ). take k l) (length-take-le count l (let z = ltb-true count (length l) t in omega arith)))
-        (λ f. let a = take_all count l (ltb-false count (length l) f) in ap (λ (t : List (List ℕ)). take (length t) l) a ∙ take_all (length l) l (omega arith) ∙ sym a)
+    take_more_set l (length (take count l)) w lt
+    ∙ ap (λ (t : List (List ℕ)). t ++ (w ∷ [])) (front_is l count (length (take count l)) (length-take count l))
 
 pub words_more : (k : ℕ) (ws : List (List ℕ)) (w : List ℕ) → words_at k (ws ++ (w ∷ [])) ≡ words_at k ws ++ (word k w ∷ [])
 unfolding words_at
-words_more k ws w = map_append (word k) ws (w ∷ [])
+words_more k ws w = map-append (word k) ws (w ∷ [])
 
 -- seven words are their list
 seven : (u : List ℕ) → length u ≡ 7 → get_or u 0 0 ∷ get_or u 1 0 ∷ get_or u 2 0 ∷ get_or u 3 0 ∷ get_or u 4 0 ∷ get_or u 5 0 ∷ get_or u 6 0 ∷ [] ≡ u
-seven (a ∷ b ∷ c ∷ d ∷ e ∷ f ∷ g ∷ []) h = refl
-seven [] h = absurd (omega arith)
-seven (a ∷ []) h = absurd (omega arith)
-seven (a ∷ b ∷ []) h = absurd (omega arith)
-seven (a ∷ b ∷ c ∷ []) h = absurd (omega arith)
-seven (a ∷ b ∷ c ∷ d ∷ []) h = absurd (omega arith)
-seven (a ∷ b ∷ c ∷ d ∷ e ∷ []) h = absurd (omega arith)
-seven (a ∷ b ∷ c ∷ d ∷ e ∷ f ∷ []) h = absurd (omega arith)
-seven (a ∷ b ∷ c ∷ d ∷ e ∷ f ∷ g ∷ x ∷ xs) h = absurd (omega arith)
+unfolding firsts
+seven u h = firsts_all 7 0 u (sym h)
 
 pub ynd_entry : (y : Ynd) (sizes : Counts) → length y.unknowns ≡ 7 → ynd_of (entry_of y sizes) ≡ y
 unfolding ynd_of
@@ -228,13 +212,13 @@ module _ (count : ℕ) (y : CellSet) (m : Memory) (sizes : Counts) (u : length m
   -- an accepted call: the members are those before it and the cell, in parts of its own
   pub join_done : (join_cell count y m sizes).answer ≡ (Ok tt) → Stored (join_cell count y m sizes)
   join_done e =
-      let s = call_is count y m sizes area refl (min count (length y.members)) refl in
+      let s = call_is count y m sizes area refl in
       rw (← s) (after (asked count y m sizes area) refl (ap (λ (r : SetLeft). r.answer) s ∙ e))
 
   -- a refused one leaves all six lists, and the number of members
   pub join_refused : (x : Refusal) → (join_cell count y m sizes).answer ≡ Err x → ((join_cell count y m sizes).lists ≡ y) × ((join_cell count y m sizes).count ≡ length (take count y.members))
   join_refused x e =
-      let s = call_is count y m sizes area refl (min count (length y.members)) refl in
+      let s = call_is count y m sizes area refl in
       rw (← s) (go (asked count y m sizes area) (ap (λ (r : SetLeft). r.answer) s ∙ e))
     where
       go : (a : Answer) → (left count y m sizes a).answer ≡ Err x → ((left count y m sizes a).lists ≡ y) × ((left count y m sizes a).count ≡ length (take count y.members))

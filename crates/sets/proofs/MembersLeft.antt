@@ -6,7 +6,7 @@ use mathlib.Core.List.{List, [], ◌∷◌, ◌++◌, append_assoc}
 use mathlib.Core.Option.{Option, none, some}
 use lib.Dec.{ltb}
 use lib.ListN.{length, get_or, take, drop, length-append, length-drop, length-map}
-use lib.Seq.{length-take-le, take_all, take_at, drop_at, take-add, drop-drop}
+use lib.Seq.{length-take-le, take_all, take_at, drop_at, drop-drop}
 use borrow.Author.Tests.{ltb-true, ltb-false}
 use Rattle.numbers.specs.Refusals.{decided}
 use Rattle.cells.specs.Memory.{memory}
@@ -17,7 +17,7 @@ use Rattle.sets.specs.MemberList.{no_memory, cells_of, unless}
 use Rattle.sets.specs.CellSet.{CellSet, cell_set, word, ynd_of, words_at, total, parts_of, parts_in, members_of}
 use Rattle.sets.specs.Leave.{closed, start_of, without, SetLeft, set_left, first_of_area, leave_causes, left_by, leave_area, removed, used}
 use Rattle.sets.specs.SetParts.{Holds}
-use Rattle.sets.proofs.PartLaws.{words_many, start_all}
+use Rattle.sets.proofs.PartLaws.{words_many, start_all, split}
 use Rattle.sets.proofs.CellSetLaws.{members_many, member_at_law, members_same}
 use Rattle.sets.proofs.MemberLaws.{first_has}
 use Rattle.sets.proofs.RoomLaws.{lists_of, accepted}
@@ -29,9 +29,6 @@ use Rattle.numbers.specs.Refusals.{Answer}
 -- ---- one list
 
 module _ {A : Type 0} where
-  split : (c d : ℕ) (l r : List A) → take (c + d) l ++ r ≡ take c l ++ (take d (drop c l) ++ r)
-  split c d l r = ap (λ (t : List A). t ++ r) (take-add c d l) ∙ append_assoc (take c l) (take d (drop c l)) r
-
   -- what stands behind the parts doesn't matter
   parts_only : (cs : List ℕ) (l t : List A) → total cs ≤ length l → parts_of cs (take (total cs) l ++ t) ≡ parts_of cs l
   unfolding parts_of total

@@ -3,15 +3,15 @@ use Prim.Native.Nat.{ℕ, zero, suc, ◌+◌, ◌-◌, ◌≤◌, ◌<◌}
 use native.Mathlib.Omega.{arith}
 use native.Mathlib.Numerals.{add-one}
 use mathlib.Core.Path.{◌≡◌, refl, ap, sym, ◌∙◌}
-use mathlib.Core.List.{List, [], ◌∷◌}
+use mathlib.Core.List.{List, [], ◌∷◌, ◌++◌, append_assoc}
 use lib.Dec.{ltb}
 use lib.ListN.{length, get_or, take, drop, length-map, length-drop, drop_of_length-le, get_or-map}
-use lib.Seq.{take_all, drop-drop}
+use lib.Seq.{take_all, drop-drop, take-add}
 use borrow.Author.Tests.{lt-ltb, le-ltb, ltb-true}
 use Rattle.cells.proofs.Sequences.Tests.{by_test}
 use Rattle.sets.specs.CellSet.{word, words_at, total, parts_of}
 use Rattle.sets.specs.Leave.{start_of}
-use Rattle.sets.specs.SetParts.{count_of, part_end}
+use Rattle.sets.specs.SetParts.{count_of, part_end, Holding}
 
 -- ---- sums of counts
 
@@ -63,6 +63,10 @@ part_at (c ∷ cs) l (suc i) lt = part_at cs (drop c l) i (omega arith) ∙ ap (
 pub part_of : {A : Type 0} (k : ℕ) (ws : List (List ℕ)) (l : List A) (i : ℕ) → i < length ws → get_or (parts_of (words_at k ws) l) i [] ≡ take (count_of k ws i) (drop (start_of k ws i) l)
 part_of k ws l i lt = part_at (words_at k ws) l i (rw words_many lt) ∙ ap (λ (c : ℕ). take c (drop (start_of k ws i) l)) (count_of_law k ws i)
 
+-- two parts in front of a list
+pub split : {A : Type 0} (c d : ℕ) (l r : List A) → take (c + d) l ++ r ≡ take c l ++ (take d (drop c l) ++ r)
+split {A} c d l r = ap (λ (t : List A). t ++ r) (take-add c d l) ∙ append_assoc (take c l) (take d (drop c l)) r
+
 -- what follows a part, wherever the list ends
 pub behind_part : {A : Type 0} (l : List A) (start at room : ℕ) → start ≤ length l → drop start l ≡ drop at l → drop (part_end start room (length l)) l ≡ drop (at + room) l
 unfolding part_end
@@ -91,3 +95,19 @@ start_none k ws = refl
 -- a part to the end
 pub rest : {A : Type 0} (l : List A) (a : ℕ) → take (length l - a) (drop a l) ≡ drop a l
 rest l a = take_all (length l - a) (drop a l) (let z : length (drop a l) ≤ length l - a = omega (arith, length-drop a l) in z)
+
+-- ---- where a part lies
+
+pub part_below : (size : ℕ) (ws : List (List ℕ)) (i : ℕ) → i < length ws
+    → start_of size ws i + count_of size ws i ≤ total (words_at size ws)
+part_below size ws i lt = omega (arith, start_more size ws i lt, total_below (words_at size ws) (suc i))
+
+module _ {k size len : ℕ} {ws : List (List ℕ)} (h : Holding k size ws len) (i : ℕ) (lt : i < length ws) where
+  pub part_inside : start_of size ws i + count_of size ws i ≤ len
+  part_inside = omega (arith, part_below size ws i lt, h.fit)
+
+  pub start_inside : start_of size ws i ≤ len
+  start_inside = omega (arith, part_inside)
+
+-- for the check
+pub ruleset end_laws = (end_cut, end_inside)

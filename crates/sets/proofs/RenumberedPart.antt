@@ -21,7 +21,7 @@ use Rattle.cells.specs.Cell.{Cell, old_nodes}
 use Rattle.cells.specs.CellOf.{link_of, nodes_of, cell_of}
 use Rattle.cells.specs.NewNumbers.{new_numbers, numbers_left, NumbersLeft, numbers_causes, numbers_if, numbers_call}
 use Rattle.cells.specs.Renumber.{Renumbered, renumbered_by, over, vehicles, peds, renumber_lists, recounted}
-use Rattle.cells.specs.Renumber.{answer_of, new_lists, renumber_memory, left_by, renumber}
+use Rattle.cells.specs.Renumber.{answer_of, new_lists, renumber_memory, left_by, renumber, scratch_left}
 use Rattle.cells.specs.declared.ynd.Ynd.{Ynd}
 use Rattle.cells.proofs.Sequences.Tests.{by_test}
 use Rattle.cells.proofs.Forms.Limits.{within}
@@ -36,11 +36,15 @@ use Rattle.sets.specs.SetParts.{Holding, Holds, count_of, starts_of}
 use Rattle.sets.specs.SetStored.{member_in, entry_with, with_member}
 use Rattle.sets.specs.RenumberMember.{member_renumbered, correct_parts, others_corrected, renumbered_at}
 use Rattle.sets.specs.CorrectParts.{Table, Tells, change_in}
+use Rattle.sets.specs.declared.member.MemberPart.{MemberPart}
+use Rattle.std.specs.Result.{IsErrAnd}
+use Rattle.std.proofs.lemmas.Result.{err_from_is_err_and}
 use Rattle.cells.specs.declared.count.Counts.{Counts}
 use Rattle.sets.proofs.PartLaws.{part_of}
 use Rattle.sets.proofs.CellSetLaws.{member_at_law, areas_held}
 use Rattle.sets.proofs.SetMemory.{cell_at_law}
-use Rattle.sets.proofs.CorrectLaws.{part_inside, part_own, part_over}
+use Rattle.sets.proofs.CorrectLaws.{part_own, part_over}
+use Rattle.sets.proofs.PartLaws.{part_inside}
 use Rattle.sets.proofs.SetCorrected.{links_long, links_parts}
 use Rattle.sets.proofs.MemberPartLaws.{put_back}
 use Rattle.std.specs.Prelude.{Result, Ok, Err}
@@ -84,10 +88,24 @@ asked_plain over n lack s p e w = rw (e, w)
 
 -- ---- the member in its parts
 
-module _ (y : CellSet) (j : ℕ) (lt : j < length y.members) (h : Holds y)
-    (few : over_limit (ynd_of (get_or y.members j [])) ≡ false) where
+-- what the call is lent
+abbrev pub Lent : CellSet → ℕ → MemberPart → Type 0
+Lent y j part =
+    (j < length y.members) × (length y.members ≤ 9) × (over_limit part.ynd ≡ false)
+    × (part.ynd ≡ ynd_of (get_or y.members j [])) × (part.a ≡ starts_of y.members j) × Holds y
+
+module _ (y : CellSet) (j : ℕ) (part : MemberPart) (q : Lent y j part) where
   abbrev ws : List (List ℕ)
   ws = y.members
+
+  abbrev lt : j < length ws
+  lt = q.0
+
+  abbrev h : Holds y
+  h = q.5
+
+  few : over_limit (ynd_of (get_or ws j [])) ≡ false
+  few = sym (ap over_limit q.3) ∙ q.2
 
   abbrev v : Ynd
   v = ynd_of (get_or ws j [])
@@ -152,13 +170,6 @@ module _ (y : CellSet) (j : ℕ) (lt : j < length y.members) (h : Holds y)
   few_nodes : n ≤ 65536
   few_nodes = (within v few).0
 
-  -- what the code's call says of the new numbers
-  pub numbers_told : (ynd : Ynd) (at : Counts) → ynd ≡ v → at ≡ starts_of ws j
-      → (S P : List ℕ) (a : Answer) (t p : List ℕ)
-      → numbers_left a t p ≡ numbers_call ynd.node_count (drop at.nodes y.nodes) S P
-      → numbers_left a t p ≡ numbers_call n N S P
-  numbers_told ynd at ey ea S P a t p e = e ∙ (λ i. numbers_call (ey i).node_count (drop (ea i).nodes y.nodes) S P)
-
   -- ---- what the call answers
 
   abbrev causes : ℕ → ℕ → Answer
@@ -197,13 +208,19 @@ module _ (y : CellSet) (j : ℕ) (lt : j < length y.members) (h : Holds y)
     unfolding renumber
     own_call = ap (λ (a : Answer). left_by a m P) (asked_part m refl m_whole (length S) (length P))
 
-    module _ (a : Answer) (t p : List ℕ) (e : numbers_left a t p ≡ numbers_call n N S P) where
+    -- what the code's call says of the new numbers
+    module _ (a : Answer) (t p : List ℕ)
+        (told : numbers_left a t p ≡ numbers_call part.ynd.node_count (drop part.a.nodes y.nodes) S P) where
+      e : numbers_left a t p ≡ numbers_call n N S P
+      e = told ∙ (λ i. numbers_call (q.3 i).node_count (drop (q.4 i).nodes y.nodes) S P)
+
       is : a ≡ causes (length S) (length P)
       is = ap (λ (r : NumbersLeft). r.answer) (e ∙ by_causes) ∙ answered
 
-      pub refused_at : (x : Refusal) → a ≡ Err x
-          → (member_renumbered (Err x) y p ≡ renumbered_at y j (renumber (member_in y j) (length S) P)) × (t ≡ S)
-      refused_at x d =
+      pub refused_at : {x : Refusal} {r : Answer} → a ≡ Err x → IsErrAnd r (λ z. z ≡ x)
+          → (member_renumbered r y p ≡ renumbered_at y j (renumber (member_in y j) (length S) P)) × scratch_left r S t
+      refused_at {x} {r} d er =
+          let k = err_from_is_err_and r er in
           let c : causes (length S) (length P) ≡ Err x = sym is ∙ d in
           let left = e ∙ by_causes ∙ ap called c in
           let same : p ≡ P = ap (λ (r : NumbersLeft). r.places) left in
@@ -211,7 +228,7 @@ module _ (y : CellSet) (j : ℕ) (lt : j < length y.members) (h : Holds y)
           (λ i. member_renumbered (Err x) y (same i))
           ∙ sym (ap (λ (k : Memory). renumbered_at y j (renumber k (length S) P)) m_is
           ∙ ap (renumbered_at y j) (own_call ∙ ap (λ (z : Answer). left_by z m P) c)) in
-          (whole, ap (λ (r : NumbersLeft). r.table) left)
+          rw (k.1, k.2) (whole, ap (λ (r : NumbersLeft). r.table) left)
 
       -- an accepted call
       module _ (d : a ≡ (Ok tt)) where
@@ -337,27 +354,37 @@ module _ (y : CellSet) (j : ℕ) (lt : j < length y.members) (h : Holds y)
           unfolding renumber
           m₁_call = ap (λ (z : Answer). left_by z m₁ p) (asked_part m₁ refl m₁_whole (length t) (length p) ∙ same_room)
 
-          -- what the code's call says, where the member is and how it starts
-          pub called_at : (ynd : Ynd) (at : Counts) → ynd ≡ v → at ≡ starts_of ws j
-              → (r : Result Ynd Refusal) (N' L' R' : List (List ℕ)) (P' : List ℕ)
-              → renumbered_by ynd r (drop at.nodes N') (drop at.links L') y.junctions y.heights (drop at.refs R') P'
-              ≡ renumber (memory ynd (drop at.nodes y.nodes) (drop at.links Lc) y.junctions y.heights
-              (drop at.refs y.refs)) (length t) p
-              → renumbered_by v r (drop (start 15) N') (drop (start 16) L') y.junctions y.heights (drop (start 19) R') P'
-              ≡ renumber m₁ (length t) p
-          called_at ynd at ey ea r N' L' R' P' er =
-              sym (λ i. renumbered_by (ey i) r (drop (ea i).nodes N') (drop (ea i).links L') y.junctions y.heights
-              (drop (ea i).refs R') P')
-              ∙ er
-              ∙ (λ i. renumber (memory (ey i) (drop (ea i).nodes y.nodes) (drop (ea i).links Lc) y.junctions y.heights
-              (drop (ea i).refs y.refs)) (length t) p)
-
+          -- what the code's call says of the part
           module _ (r : Result Ynd Refusal) (N' L' R' : List (List ℕ)) (P' : List ℕ)
-              (er : renumbered_by v r (drop (start 15) N') (drop (start 16) L') y.junctions y.heights
-              (drop (start 19) R') P'
-              ≡ renumber m₁ (length t) p)
-              (eN : take (start 15) N' ≡ take (start 15) y.nodes) (eL : take (start 16) L' ≡ take (start 16) Lc)
-              (eR : take (start 19) R' ≡ take (start 19) y.refs) where
+              (call : renumbered_by part.ynd r (drop part.a.nodes N') (drop part.a.links L') y.junctions y.heights
+              (drop part.a.refs R') P'
+              ≡ renumber (memory part.ynd (drop part.a.nodes y.nodes) (drop part.a.links Lc) y.junctions y.heights
+              (drop part.a.refs y.refs)) (length t) p)
+              (before : (take part.a.nodes N' ≡ take part.a.nodes y.nodes)
+              × (take part.a.links L' ≡ take part.a.links Lc) × (take part.a.refs R' ≡ take part.a.refs y.refs)) where
+            er : renumbered_by v r (drop (start 15) N') (drop (start 16) L') y.junctions y.heights
+                (drop (start 19) R') P'
+                ≡ renumber m₁ (length t) p
+            er =
+                sym (λ i. renumbered_by (q.3 i) r (drop (q.4 i).nodes N') (drop (q.4 i).links L') y.junctions y.heights
+                (drop (q.4 i).refs R') P')
+                ∙ call
+                ∙ (λ i. renumber (memory (q.3 i) (drop (q.4 i).nodes y.nodes) (drop (q.4 i).links Lc) y.junctions
+                y.heights (drop (q.4 i).refs y.refs)) (length t) p)
+
+            same_before : {A : Type 0} (of : Counts → ℕ) (l l' : List A) → take (of part.a) l' ≡ take (of part.a) l
+                → take (of (starts_of ws j)) l' ≡ take (of (starts_of ws j)) l
+            same_before of l l' b = sym (λ i. take (of (q.4 i)) l') ∙ b ∙ (λ i. take (of (q.4 i)) l)
+
+            eN : take (start 15) N' ≡ take (start 15) y.nodes
+            eN = same_before (λ z. z.nodes) _ _ before.0
+
+            eL : take (start 16) L' ≡ take (start 16) Lc
+            eL = same_before (λ z. z.links) _ _ before.1
+
+            eR : take (start 19) R' ≡ take (start 19) y.refs
+            eR = same_before (λ z. z.refs) _ _ before.2
+
             done : renumbered_by v r (drop (start 15) N') (drop (start 16) L') y.junctions y.heights
                 (drop (start 19) R') P'
                 ≡ left_by (Ok tt) m₁ p

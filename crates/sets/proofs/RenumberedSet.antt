@@ -1,4 +1,5 @@
 -- A sound set in which one member is renumbered: each crossing walk is the one before, its locations moved, and the set is sound.
+use Rattle.std.proofs.lemmas.List.{map-set}
 use Prim.Native.Nat.{ℕ, ◌<◌}
 use native.Mathlib.Omega.{arith}
 use native.Mathlib.Nat.{zero-add}
@@ -27,7 +28,7 @@ use Rattle.sets.specs.SetSound.{has_node, link_arrives, node_arrives, member_arr
 use Rattle.sets.specs.SetRenumber.{Change, is_member, corrected, correct_link, correct_node, correct_cell, change_of, renumber_cells}
 use Rattle.sets.specs.SetCalls.{moves_to}
 use Rattle.sets.specs.SetClaim.{Stands}
-use Rattle.sets.proofs.SetLists.{every_all, from_at, from_all, length_from, from_map, map_set, map_from_same}
+use Rattle.sets.proofs.SetLists.{every_all, from_at, from_all, length_from, from_map, map_from_same}
 use Rattle.sets.proofs.MemberLaws.{member_inside, names_own, take_in, area_at, next_is}
 use Rattle.sets.proofs.CorrectedCell.{numbers_same, first_same, node_same, link_same, see_same, correct_sound}
 
@@ -105,7 +106,7 @@ module _ (cs : List Cell) (j : ℕ) (lj : j < length cs) (s : set_sound cs ≡ t
   pub areas_same : areas ds ≡ areas cs
   unfolding renumber_cells
   areas_same =
-      map_set area_of (map_from (correct_cell x) 0 cs) j (renumber_cell cj)
+      map-set area_of (map_from (correct_cell x) 0 cs) j (renumber_cell cj)
       ∙ (λ i. set (map_from_same area_of (correct_cell x) (λ k c. first_same x k c.nodes) 0 cs i) j (area_kept cj (sound_at j lj) i))
       ∙ ap (set (areas cs) j) (sym (area_at cs j))
       ∙ set-get_or (areas cs) j 0

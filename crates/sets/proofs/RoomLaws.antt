@@ -1,8 +1,9 @@
 -- What a set made by hand is refused for: limits, and lists that don't hold it.
+use Rattle.std.proofs.lemmas.Bool.{not-false}
 use Prim.Native.Nat.{ℕ, zero, suc, ◌+◌, ◌≤◌, ◌<◌}
 use native.Mathlib.Omega.{arith}
 use mathlib.Core.Path.{◌≡◌, refl, ap, sym, ◌∙◌}
-use mathlib.Core.Bool.{Bool, true, false, not, cond, ◌||◌}
+use mathlib.Core.Bool.{Bool, true, false, cond, ◌||◌}
 use mathlib.Core.List.{List, [], ◌∷◌}
 use Rattle.std.specs.List.{list_any}
 use lib.Dec.{ltb, leb}
@@ -89,9 +90,6 @@ members_over y =
 
 -- ---- room
 
-pub every_not : {A : Type 0} (f : A → Bool) (l : List A) (i : ℕ) (d : A) → i < length l → f (get_or l i d) ≡ false → false ≡ every f l
-every_not f l i d lt e = by_test (every f l) (λ t. true_false (sym (every_at f l i d t lt) ∙ e)) (λ g. sym g)
-
 pub held_no : (k size : ℕ) (ws : List (List ℕ)) (len : ℕ) → every (room_for k size) ws ≡ false → false ≡ holds_list k size ws len
 unfolding holds_list
 held_no k size ws len e = rw e
@@ -107,10 +105,6 @@ holding k size ws len t = record {
   held = λ i lt. leb-true _ _ (every_at (room_for k size) ws i [] (and_left (every (room_for k size) ws) (leb (total (words_at size ws)) len) t) lt);
 }
 
-pub fit_true : (b : Bool) → not b ≡ false → b ≡ true
-fit_true true e = refl
-fit_true false e = true_false e
-
 -- of an accepted list the later causes are an accepted list
 pub tail_done : (c : Cause) (cs : List Cause) → decided (c ∷ cs) ≡ (Ok tt) → decided cs ≡ (Ok tt)
 tail_done c cs e = go c.fits (decided cs) e
@@ -122,11 +116,11 @@ tail_done c cs e = go c.fits (decided cs) e
 pub holds : (y : CellSet) → decided (lack y) ≡ (Ok tt) → Holds y
 unfolding lack_of
 holds y e = record {
-  nodes_hold = holding _ _ _ _ (fit_true _ (passed (lack y) 0 e));
-  links_hold = holding _ _ _ _ (fit_true _ (passed (lack y) 1 e));
-  junctions_hold = holding _ _ _ _ (fit_true _ (passed (lack y) 2 e));
-  heights_hold = holding _ _ _ _ (fit_true _ (passed (lack y) 3 e));
-  refs_hold = holding _ _ _ _ (fit_true _ (passed (lack y) 4 e));
+  nodes_hold = holding _ _ _ _ (not-false _ (passed (lack y) 0 e));
+  links_hold = holding _ _ _ _ (not-false _ (passed (lack y) 1 e));
+  junctions_hold = holding _ _ _ _ (not-false _ (passed (lack y) 2 e));
+  heights_hold = holding _ _ _ _ (not-false _ (passed (lack y) 3 e));
+  refs_hold = holding _ _ _ _ (not-false _ (passed (lack y) 4 e));
 }
 
 -- the set's causes, by its entries and the lists' lengths
@@ -149,3 +143,9 @@ accepted y e =
       few = few_members y.members (passed (c ∷ lack y) 0 (sym e));
       whole = holds y (tail_done c (lack y) (sym e));
     }
+
+-- for the check
+pub ruleset hold_laws = (held_no, held_yes)
+
+-- for the check
+pub ruleset limit_laws = (over_many, over_nodes, over_else)

@@ -1,4 +1,7 @@
 -- Joining, and joining then leaving, at the calls.
+use Rattle.sets.proofs.MemberKept.{seven_words}
+use Rattle.std.proofs.lemmas.Bool.{not-false}
+use Rattle.std.proofs.lemmas.List.{map-append}
 use Prim.Native.Nat.{ℕ, suc, ◌+◌, ◌-◌, ◌≤◌, ◌<◌}
 use native.Mathlib.Omega.{arith}
 use mathlib.Core.Path.{◌≡◌, refl, ap, sym, ◌∙◌, subst}
@@ -13,17 +16,14 @@ use Rattle.numbers.specs.Refusals.{Cause, decided, when}
 use Rattle.numbers.proofs.Refusing.{passed}
 use Rattle.cells.specs.Lists.{every}
 use Rattle.cells.specs.Memory.{Memory, over_limit}
-use Rattle.cells.specs.Checks.{root_read}
 use Rattle.cells.specs.Add.{done}
 use Rattle.cells.specs.Memory.{unless as unless-left}
-use Rattle.cells.specs.NewYnd.{new_root, new_ynd}
 use Rattle.cells.specs.Cell.{Cell}
 use Rattle.cells.specs.CellOf.{cell_of}
 use Rattle.cells.specs.Lookup.{first_with, is_some, or_later}
 use Rattle.cells.specs.Read.{filled, cell_read, read_of}
-use Rattle.records.specs.Root.{root_of, unknowns_of}
 use Rattle.cells.proofs.Reading.FileRead.{read_all}
-use Rattle.cells.proofs.Sequences.Tests.{by_test, and_left, and_right, true_false, every_at, map_append}
+use Rattle.cells.proofs.Sequences.Tests.{by_test, and_left, and_right, true_false, every_at}
 use Rattle.sets.specs.Members.{areas, area_of}
 use Rattle.sets.specs.MemberList.{no_memory, member_at, cells_of, nodes_together, any_over, over_set, unless}
 use Rattle.sets.specs.SetClaim.{CellAsRead}
@@ -38,7 +38,7 @@ use Rattle.sets.specs.SetCallLaws.{joined_set, JoinStores, JoinStoresTheorem, Re
 use Rattle.cells.specs.declared.count.Counts.{Counts}
 use Rattle.sets.proofs.CellSetLaws.{members_many}
 use Rattle.sets.proofs.JoinLaws.{Fitting, AllFit, all_fit, both_done, together_more, over_more}
-use Rattle.sets.proofs.RoomLaws.{fit_true, tail_done}
+use Rattle.sets.proofs.RoomLaws.{tail_done}
 use Rattle.numbers.specs.Refusals.{unless as handed_on}
 use Rattle.numbers.specs.declared.refusal.Lent.TheVariants as lent
 use Rattle.sets.proofs.MembersJoined.{entries_more, words_more, members_joined, cell_joined, part_long}
@@ -195,11 +195,11 @@ module _ (count : ℕ) (y : CellSet) (m : Memory) (sizes : Counts) (seven : leng
   old_held =
       let a = lack_for es (set_lengths y) (cell_lengths m) m.ynd sizes in
       record {
-        nodes_hold = list_held 10 15 es _ _ _ _ (fit_true _ (passed a 0 j.all));
-        links_hold = list_held 11 16 es _ _ _ _ (fit_true _ (passed a 1 j.all));
-        junctions_hold = list_held 12 17 es _ _ _ _ (fit_true _ (passed a 2 j.all));
-        heights_hold = list_held 13 18 es _ _ _ _ (fit_true _ (passed a 3 j.all));
-        refs_hold = list_held 14 19 es _ _ _ _ (fit_true _ (passed a 4 j.all));
+        nodes_hold = list_held 10 15 es _ _ _ _ (not-false _ (passed a 0 j.all));
+        links_hold = list_held 11 16 es _ _ _ _ (not-false _ (passed a 1 j.all));
+        junctions_hold = list_held 12 17 es _ _ _ _ (not-false _ (passed a 2 j.all));
+        heights_hold = list_held 13 18 es _ _ _ _ (not-false _ (passed a 3 j.all));
+        refs_hold = list_held 14 19 es _ _ _ _ (not-false _ (passed a 4 j.all));
       }
 
   long : {A : Type 0} (size n room have : ℕ) (new l : List A) → have ≡ length new
@@ -285,7 +285,7 @@ module _ (count : ℕ) (y : CellSet) (m : Memory) (sizes : Counts) (seven : leng
     others = kept_at;
     same_cell = ap cell_of it ∙ cell_joined count y m sizes seven fit;
     all_cells =
-        ap cells_of all ∙ map_append cell_of old (m⁺ ∷ [])
+        ap cells_of all ∙ map-append cell_of old (m⁺ ∷ [])
         ∙ ap (λ (c : Cell). cells_of old ++ (c ∷ [])) (cell_joined count y m sizes seven fit);
     as_read = λ r. rw it (read_kept r);
     all_read = λ o r i lt. by_test (ltb i (length es))
@@ -319,8 +319,8 @@ module _ (count : ℕ) (y : CellSet) (m : Memory) (sizes : Counts) (seven : leng
       let many : length os ≡ length es = length-map (cells_of old) area_of ∙ length-map old cell_of
       ∙ members_many (used count y) in
       (λ i. first_with (areas (cells_of (all i))) area)
-      ∙ ap (λ (l : List Cell). first_with (areas l) area) (map_append cell_of old (m⁺ ∷ []))
-      ∙ ap (λ (l : List ℕ). first_with l area) (map_append area_of (cells_of old) (cell_of m⁺ ∷ []))
+      ∙ ap (λ (l : List Cell). first_with (areas l) area) (map-append cell_of old (m⁺ ∷ []))
+      ∙ ap (λ (l : List ℕ). first_with l area) (map-append area_of (cells_of old) (cell_of m⁺ ∷ []))
       ∙ ap (λ (c : Cell). first_with (os ++ (area_of c ∷ [])) area) (cell_joined count y m sizes seven fit)
       ∙ first_last os j.not_there
       ∙ ap some many
@@ -373,12 +373,6 @@ pub join_then_leave : JoinThenLeaveTheorem
 join_then_leave = then_leave
 
 -- ---- a cell read, then joined
-
--- the words that a reading leaves are seven
-seven_words : (s : List ℕ) → length (root_read s).unknowns ≡ 7
-unfolding new_root new_ynd root_of unknowns_of
-seven_words [] = refl
-seven_words (b ∷ bs) = refl
 
 pub seven_read : (s g : List ℕ) (m : Memory) → (read_of s g m).answer ≡ (Ok tt)
     → length (read_of s g m).memory.ynd.unknowns ≡ 7

@@ -1,9 +1,10 @@
 -- What a call on a member needs is kept by storing what the call leaves: the lists hold the members, within the
 -- limits.
+use Rattle.std.proofs.lemmas.Bool.{or_parts}
 use Prim.Native.Nat.{ℕ, zero, suc, ◌+◌, ◌≤◌, ◌<◌}
 use native.Mathlib.Omega.{arith}
 use mathlib.Core.Path.{◌≡◌, refl, ap, sym, ◌∙◌}
-use mathlib.Core.Bool.{Bool, true, false, ◌||◌}
+use mathlib.Core.Bool.{Bool, false, ◌||◌}
 use mathlib.Core.List.{List, [], ◌∷◌}
 use lib.Dec.{eqb, ltb}
 use lib.ListN.{length, get_or, set, length-set}
@@ -15,7 +16,7 @@ use Rattle.records.specs.Put.{put}
 use Rattle.records.proofs.Puts.{length_put}
 use Rattle.cells.specs.Memory.{Memory, over_limit}
 use Rattle.cells.proofs.Reading.Fits.{Whole}
-use Rattle.cells.proofs.Sequences.Tests.{by_test, true_false}
+use Rattle.cells.proofs.Sequences.Tests.{by_test}
 use Rattle.sets.specs.MemberList.{member_at, node_count, nodes_together, any_over, over_set, member_causes}
 use Rattle.sets.specs.CellSet.{CellSet, word, words_at, members_of, lack_of, lack, set_causes}
 use Rattle.sets.specs.Leave.{start_of}
@@ -23,7 +24,7 @@ use Rattle.sets.specs.SetParts.{Holding, Holds, count_of}
 use Rattle.sets.specs.SetStored.{member_in, ask_causes, entry_with, with_member}
 use Rattle.sets.proofs.CellSetLaws.{members_many}
 use Rattle.sets.proofs.RoomLaws.{holds, tail_done}
-use Rattle.sets.proofs.CorrectLaws.{part_inside}
+use Rattle.sets.proofs.PartLaws.{part_inside}
 use Rattle.sets.proofs.CrossingHeld.{holds_test}
 use Rattle.sets.proofs.MemberPartLaws.{member_fits, member_whole}
 use Rattle.sets.proofs.MemberStored.{FitsMember, member_stored}
@@ -148,26 +149,14 @@ limits_set ms j d e o =
 any_of : (ms : List Memory) (j : ℕ) → j < length ms → any_over ms ≡ false → over_limit (member_at ms j).ynd ≡ false
 unfolding any_over
 any_of [] j lt e = absurd (omega arith)
-any_of (m ∷ ms) zero lt e = go (over_limit m.ynd) e
-  where
-    go : (b : Bool) → b || any_over ms ≡ false → b ≡ false
-    go true q = q
-    go false q = refl
-any_of (m ∷ ms) (suc j) lt e = any_of ms j (omega arith) (go (over_limit m.ynd) e)
-  where
-    go : (b : Bool) → b || any_over ms ≡ false → any_over ms ≡ false
-    go true q = true_false q
-    go false q = q
+any_of (m ∷ ms) zero lt e = (or_parts (over_limit m.ynd) (any_over ms) e).0
+any_of (m ∷ ms) (suc j) lt e = any_of ms j (omega arith) (or_parts (over_limit m.ynd) (any_over ms) e).1
 
 pub member_within : (ms : List Memory) (j : ℕ) → j < length ms → over_set ms ≡ false
     → over_limit (member_at ms j).ynd ≡ false
 unfolding over_set
-member_within ms j lt e = any_of ms j lt (go (ltb 9 (length ms)) (ltb 65536 (nodes_together ms)) e)
-  where
-    go : (a b : Bool) → a || (b || any_over ms) ≡ false → any_over ms ≡ false
-    go true b q = true_false q
-    go false true q = true_false q
-    go false false q = q
+member_within ms j lt e =
+    any_of ms j lt (or_parts (ltb 65536 (nodes_together ms)) _ (or_parts (ltb 9 (length ms)) _ e).1).1
 
 -- the member is what a cell's call starts from
 pub member_ready : (y : CellSet) → Usable y → (j : ℕ) → j < length y.members → Ready (member_in y j)

@@ -1,4 +1,5 @@
 -- The set that is left when a member leaves may be used like the one before.
+use Rattle.std.proofs.lemmas.Bool.{or_parts, or_from}
 use Prim.Native.Nat.{ℕ, zero, suc, ◌+◌, ◌-◌, ◌≤◌, ◌<◌}
 use native.Mathlib.Omega.{arith}
 use mathlib.Core.Path.{◌≡◌, refl, ap, sym, ◌∙◌, subst}
@@ -59,17 +60,10 @@ fewer_together (m ∷ ms) (suc j) = omega (arith, fewer_together ms j)
 fewer_over : (ms : List Memory) (j : ℕ) → any_over ms ≡ false → any_over (removed j ms) ≡ false
 unfolding any_over removed
 fewer_over [] j e = refl
-fewer_over (m ∷ ms) zero e = go (over_limit m.ynd) e
-  where
-    go : (b : Bool) → b || any_over ms ≡ false → any_over ms ≡ false
-    go true t = true_false t
-    go false t = t
-fewer_over (m ∷ ms) (suc j) e = go (over_limit m.ynd) (fewer_over ms j) e
-  where
-    go : (b : Bool) → (any_over ms ≡ false → any_over (removed j ms) ≡ false) → b || any_over ms ≡ false
-        → b || any_over (removed j ms) ≡ false
-    go true h t = true_false t
-    go false h t = h t
+fewer_over (m ∷ ms) zero e = (or_parts (over_limit m.ynd) (any_over ms) e).1
+fewer_over (m ∷ ms) (suc j) e =
+    let p = or_parts (over_limit m.ynd) (any_over ms) e in
+    or_from (over_limit m.ynd) (any_over (removed j ms)) p.0 (fewer_over ms j p.1)
 
 -- ---- lists
 

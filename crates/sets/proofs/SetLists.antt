@@ -1,16 +1,28 @@
 -- Lists whose elements are changed and asked by their place.
+use lib.Seq.{drop-cons}
 use Prim.Native.Nat.{ℕ, zero, suc, ◌+◌, ◌<◌}
 use native.Mathlib.Omega.{arith}
 use native.Mathlib.Nat.{add-zero, suc-add, add-suc}
-use mathlib.Core.Path.{◌≡◌, refl, ap, ◌∙◌}
-use mathlib.Core.Bool.{Bool, true, ◌&&◌}
-use Rattle.std.specs.List.{list_all}
+use mathlib.Core.Path.{◌≡◌, refl, ap, ◌∙◌, sym}
+use mathlib.Core.Bool.{Bool, true}
 use mathlib.Core.List.{List, [], ◌∷◌, map}
-use lib.ListN.{length, get_or, set, take}
+use lib.ListN.{length, get_or, take, drop, drop_of_length-le}
 use Rattle.cells.specs.Lists.{every}
 use Rattle.cells.proofs.Sequences.Tests.{and_left, and_right}
 use Rattle.cells.specs.Renumber.{over}
 use Rattle.sets.specs.Members.{map_from, every_from}
+
+-- a list written out, from its place k on
+unfoldable pub firsts : ℕ → ℕ → List ℕ → List ℕ
+firsts zero k w = []
+firsts (suc n) k w = get_or w k 0 ∷ firsts n (suc k) w
+
+pub firsts_all : (n k : ℕ) (w : List ℕ) → k + n ≡ length w → firsts n k w ≡ drop k w
+unfolding firsts
+firsts_all zero k w e = sym (drop_of_length-le w {i = k} (omega (arith, e)))
+firsts_all (suc n) k w e =
+    ap {B = List ℕ} (λ t. get_or w k 0 ∷ t) (firsts_all n (suc k) w (omega (arith, e)))
+    ∙ sym (drop-cons w k 0 (omega (arith, e)))
 
 module _ {A : Type 0} where
   -- all, by place
@@ -18,11 +30,6 @@ module _ {A : Type 0} where
   unfolding every
   every_all f [] d h = refl
   every_all f (x ∷ xs) d h = cc (h 0 (omega arith), every_all f xs d (λ i lt. h (suc i) (omega arith)))
-
-  pub all_every : (f : A → Bool) (l : List A) → list_all f l ≡ every f l
-  unfolding every
-  all_every f [] = refl
-  all_every f (x ∷ xs) = ap (λ (b : Bool). f x && b) (all_every f xs)
 
   pub from_at : (f : ℕ → A → Bool) (k : ℕ) (l : List A) (i : ℕ) (d : A) → every_from f k l ≡ true → i < length l → f (k + i) (get_or l i d) ≡ true
   unfolding every_from
@@ -65,11 +72,6 @@ module _ {A B : Type 0} where
   from_map f k [] i d e lt = absurd (omega arith)
   from_map f k (x ∷ xs) zero d e lt = rw add-zero
   from_map f k (x ∷ xs) (suc i) d e lt = from_map f (suc k) xs i d e (omega arith) ∙ rw (suc-add, add-suc)
-
-  pub map_set : (f : A → B) (l : List A) (i : ℕ) (x : A) → map f (set l i x) ≡ set (map f l) i (f x)
-  map_set f [] i x = refl
-  map_set f (y ∷ ys) zero x = refl
-  map_set f (y ∷ ys) (suc i) x = ap {B = List B} (λ r. f y ∷ r) (map_set f ys i x)
 
   -- what a function makes of changed elements, where it makes the same of each
   pub map_from_same : (h : A → B) (f : ℕ → A → A) → ((i : ℕ) (x : A) → h (f i x) ≡ h x) → (k : ℕ) (l : List A) → map h (map_from f k l) ≡ map h l

@@ -1,4 +1,5 @@
 -- Correcting the links in memory corrects the links of the cell that it holds.
+use Rattle.std.proofs.lemmas.List.{map-set, take-map, drop-map}
 use Prim.Native.Nat.{ℕ, ◌<◌}
 use mathlib.Core.Path.{◌≡◌, refl, ap, sym, ◌∙◌}
 use mathlib.Core.List.{List, [], ◌∷◌, map}
@@ -12,12 +13,12 @@ use Rattle.cells.specs.Memory.{Memory}
 use Rattle.cells.specs.Cell.{Link, Cell, renumber_cell}
 use Rattle.cells.specs.CellOf.{link_of, node_with, nodes_of, junctions_of, refs_of, cell_of}
 use Rattle.cells.specs.Renumber.{over, renumber}
-use Rattle.cells.proofs.Sequences.Tests.{by_test, map_take, map_drop}
+use Rattle.cells.proofs.Sequences.Tests.{by_test}
 use Rattle.cells.proofs.Renumbering.CellRenumbered.{done_call}
 use Rattle.sets.specs.Members.{no_cell, cell_at, map_from}
 use Rattle.sets.specs.MemberList.{no_memory, member_at, cells_of, member_causes}
 use Rattle.sets.specs.SetRenumber.{Change, meant, corrected, correct_link, correct_node, correct_cell, change_of, renumber_cells, correct_words, correct_memory, members_after}
-use Rattle.sets.proofs.SetLists.{front_over, map_set, map_from_law}
+use Rattle.sets.proofs.SetLists.{front_over, map_from_law}
 use Rattle.std.specs.Prelude.{Ok}
 
 module _ (x : Change) (i : ℕ) where
@@ -31,7 +32,7 @@ module _ (x : Change) (i : ℕ) where
 
   node_new : (ls : List Link) (w : List ℕ) → node_with (map (correct_link x i) ls) w ≡ correct_node x i (node_with ls w)
   node_new ls w = ap (λ (l : List Link). record { area = (node_with ls w).area; number = (node_with ls w).number; links = l; body = (node_with ls w).body })
-      (ap (take (link_count w)) (map_drop (correct_link x i) (link_start w) ls) ∙ map_take (correct_link x i) (link_count w) (drop (link_start w) ls))
+      (ap (take (link_count w)) (drop-map (correct_link x i) (link_start w) ls) ∙ take-map (correct_link x i) (link_count w) (drop (link_start w) ls))
 
   nodes_new : (ls : List Link) (ws : List (List ℕ)) → map (node_with (map (correct_link x i) ls)) ws ≡ map (correct_node x i) (map (node_with ls) ws)
   nodes_new ls [] = refl
@@ -77,5 +78,5 @@ pub cells_renumbered : (ms : List Memory) (j s : ℕ) (ps : List ℕ) → (renum
 unfolding renumber_cells
 cells_renumbered ms j s ps e =
     let x = change_of (cells_of ms) j in
-    map_set cell_of (map_from (correct_memory x) 0 ms) j (renumber (member_at ms j) s ps).memory
+    map-set cell_of (map_from (correct_memory x) 0 ms) j (renumber (member_at ms j) s ps).memory
     ∙ (λ i. set (map_from_law cell_of (correct_memory x) (correct_cell x) (correct_memory_law x) 0 ms i) j ((done_call (member_at ms j) ps s e ∙ ap renumber_cell (sym (cell_at_law ms j))) i))

@@ -39,11 +39,6 @@ indexed_leads (suc n) nodes s h room =
 
 -- ---- one member after the other
 
-pub to_long : (f : ℕ → List ℕ) (k : ℕ) (s : List ℕ) → length (indexed_to f k s) ≡ length s
-unfolding indexed_to
-to_long f zero s = refl
-to_long f (suc k) s = indexed_long (f k) 0 (indexed_to f k s) ∙ to_long f k s
-
 pub to_start : (f : ℕ → List ℕ) (s : List ℕ) → s ≡ indexed_to f 0 s
 unfolding indexed_to
 to_start f s = refl

@@ -1,4 +1,5 @@
 -- What the call `set_sound` answers: each member's soundness by its parts, each link by its words, and the causes.
+use Rattle.std.proofs.lemmas.Bool.{not-false}
 use Prim.Native.Nat.{ℕ, zero, suc, ◌+◌, ◌-◌, ◌≤◌, ◌<◌}
 use native.Mathlib.Omega.{arith}
 use native.Mathlib.Numerals.{add-one}
@@ -8,7 +9,7 @@ use mathlib.Core.List.{List, [], map}
 use lib.ListN.{length, get_or, take, drop, length-map, length-drop}
 use borrow.Author.Tests.{ltb-false}
 use Rattle.numbers.specs.Refusals.{Cause, decided}
-use Rattle.numbers.proofs.Refusing.{not_refused, passed}
+use Rattle.numbers.proofs.Refusing.{passed}
 use Rattle.cells.specs.Lists.{every}
 use Rattle.cells.specs.Memory.{Memory, memory}
 use Rattle.cells.specs.Cell.{Cell, numbers}
@@ -18,7 +19,6 @@ use Rattle.cells.specs.LookupCall.{numbers_in}
 use Rattle.cells.specs.NodeWords.{link_start, link_count}
 use Rattle.cells.specs.RenumberParts.{Indexed}
 use Rattle.cells.specs.declared.ynd.Ynd.{Ynd}
-use Rattle.cells.proofs.Sequences.Tests.{true_false, map_take, map_drop}
 use Rattle.walks.specs.Sound.{differing, node_sound, ref_named, is_empty, sound}
 use Rattle.walks.specs.SoundCall.{verdict, indexed, SoundLeft, sound_left, sound_call}
 use Rattle.walks.specs.SoundParts.{Ready}
@@ -33,18 +33,22 @@ use Rattle.sets.specs.CellSet.{CellSet, ynd_of, members_of, holds_list}
 use Rattle.sets.specs.Leave.{start_of}
 use Rattle.sets.specs.SetSoundCall.{indexed_set, sound_causes, set_sound_call}
 use Rattle.sets.specs.SetParts.{Holding, count_of, bare, areas_of}
-use Rattle.sets.specs.CrossParts.{Lent}
 use Rattle.sets.specs.SetSoundParts.{all_below, link_meets, node_meets, member_meets, judged_at, word_meets, words_meet}
 use Rattle.sets.specs.SetSoundParts.{numbers_of, part_meets, SetHeld, indexed_to, entries_causes, cells_in}
 use Rattle.sets.proofs.PartLaws.{rest}
 use Rattle.sets.proofs.CellSetLaws.{members_many, areas_held}
 use Rattle.sets.proofs.RoomLaws.{few_members, members_over, holding}
-use Rattle.sets.proofs.AreasFilled.{part_ends}
+use Rattle.sets.proofs.PartLaws.{part_inside}
 use Rattle.sets.proofs.MemberCells.{numbers_at, nodes_at, refs_at}
 use Rattle.sets.proofs.CrossCases.{each_within}
 use Rattle.sets.proofs.SetJudged.{set_judged}
-use Rattle.sets.proofs.SetScratch.{indexed_leads, indexed_long, indexed_set_law}
+use Rattle.sets.proofs.SetScratch.{indexed_leads, indexed_long, indexed_set_law, to_start}
 use Rattle.std.specs.Prelude.{Result, Ok, Err}
+use Rattle.sets.specs.declared.world.World.{World}
+use Rattle.sets.specs.WorldParts.{set_of}
+use Rattle.std.specs.Result.{IsErrAnd}
+use Rattle.std.proofs.lemmas.Result.{err_from_is_err_and}
+use Rattle.std.proofs.lemmas.List.{take-map, drop-map}
 use Rattle.numbers.specs.Refusals.{Answer}
 use Rattle.numbers.specs.declared.refusal.Refusal.{Refusal}
 
@@ -55,17 +59,6 @@ sound_same : (c d : Cell) → c.nodes ≡ d.nodes → c.refs ≡ d.refs → soun
 unfolding sound
 sound_same c d en er = λ i. is_empty (en i) ||
     (every (node_sound (en i)) (en i) && differing (numbers (en i)) && every (ref_named (en i)) (er i))
-
-abbrev value : Result Bool Refusal → Bool
-value (Ok v) = v
-value (Err x) = false
-
-pub said : (a b : Bool) (s t : List ℕ) → sound_left (Ok a) s ≡ sound_left (verdict b) t → (a ≡ b) × (s ≡ t)
-said a b s t e = (ap (λ (l : SoundLeft). value l.answer) e, ap (λ (l : SoundLeft). l.scratch) e)
-
-pub never_refused : {P : Type 0} (b : Bool) (s t : List ℕ) (x : Refusal)
-    → sound_left (Err x) s ≡ sound_left (verdict b) t → P
-never_refused b s t x e = not_refused (ap (λ (l : SoundLeft). l.answer) e)
 
 module _ (y : CellSet) (h : SetHeld y.members y.nodes y.links y.refs) (k : ℕ) (lt : k < length y.members) where
   abbrev ws : List (List ℕ)
@@ -98,39 +91,39 @@ module _ (y : CellSet) (h : SetHeld y.members y.nodes y.links y.refs) (k : ℕ) 
         omega (
           arith,
           length-drop (start_of 15 ws k) y.nodes,
-          part_ends 10 15 ws (length y.nodes) k lt h.nodes_hold,
+          part_inside h.nodes_hold k lt,
           h.nodes_hold.held k lt,
         ) in
         let ll : count_of 11 ws k ≤ length (drop (start_of 16 ws k) y.links) =
         omega (
           arith,
           length-drop (start_of 16 ws k) y.links,
-          part_ends 11 16 ws (length y.links) k lt h.links_hold,
+          part_inside h.links_hold k lt,
           h.links_hold.held k lt,
         ) in
         let lr : count_of 14 ws k ≤ length (drop (start_of 19 ws k) y.refs) =
         omega (
           arith,
           length-drop (start_of 19 ws k) y.refs,
-          part_ends 14 19 ws (length y.refs) k lt h.refs_hold,
+          part_inside h.refs_hold k lt,
           h.refs_hold.held k lt,
         ) in
         says (whole js hs) s (h.within k lt) ln ll lr room
         ∙ (λ i. sound_left (verdict (sound_whole i)) (indexed (scratch_whole i) 0 s))
 
     -- the call, lent the parts from their starts
-    pub member_called : (v : Ynd) (a c e : ℕ) (s : List ℕ) → v ≡ ynd_of (get_or ws k []) → a ≡ start_of 15 ws k
+    member_called : {v : Ynd} {a c e : ℕ} (s : List ℕ) → v ≡ ynd_of (get_or ws k []) → a ≡ start_of 15 ws k
         → c ≡ start_of 16 ws k → e ≡ start_of 19 ws k → 65536 ≤ length s
         → sound_call (memory v (take (length y.nodes - a) (drop a y.nodes)) (take (length y.links - c) (drop c y.links))
         js hs (take (length y.refs - e) (drop e y.refs))) s
         ≡ sound_left (verdict (sound (cell_at (cells_in y) k))) (indexed (numbers_of ws y.nodes k) 0 s)
-    member_called v a c e s ev ea ec ee room =
+    member_called {v} {a} {c} {e} s ev ea ec ee room =
         (λ i. sound_call (memory v (rest y.nodes a i) (rest y.links c i) js hs (rest y.refs e i)) s)
         ∙ (λ i. sound_call (memory (ev i) (drop (ea i) y.nodes) (drop (ec i) y.links) js hs (drop (ee i) y.refs)) s)
         ∙ called_whole s room
 
   -- the scratch after it leads to the member's nodes
-  pub ready_of : (s now : List ℕ) → 65536 ≤ length s → now ≡ indexed (numbers_of ws y.nodes k) 0 s
+  ready_of : (s now : List ℕ) → 65536 ≤ length s → now ≡ indexed (numbers_of ws y.nodes k) 0 s
       → Ready (count_of 10 ws k) (drop (start_of 15 ws k) y.nodes) now
   unfolding numbers_of
   ready_of s now room e =
@@ -139,7 +132,7 @@ module _ (y : CellSet) (h : SetHeld y.members y.nodes y.links y.refs) (k : ℕ) 
       let fits : n ≤ length d = omega (
         arith,
         length-drop (start_of 15 ws k) y.nodes,
-        part_ends 10 15 ws (length y.nodes) k lt h.nodes_hold,
+        part_inside h.nodes_hold k lt,
         h.nodes_hold.held k lt,
       ) in
       record {
@@ -168,8 +161,8 @@ module _ (y : CellSet) (h : SetHeld y.members y.nodes y.links y.refs) (k : ℕ) 
     node_same : (w : List ℕ) → node_meets cs k i (node_with (map link_of pool) w) ≡ words_meet all k ks i pool w
     unfolding words_meet
     node_same w =
-        ap (every (link_meets cs k i)) (ap (take (link_count w)) (map_drop link_of (link_start w) pool)
-        ∙ map_take link_of (link_count w) (drop (link_start w) pool))
+        ap (every (link_meets cs k i)) (ap (take (link_count w)) (drop-map link_of (link_start w) pool)
+        ∙ take-map link_of (link_count w) (drop (link_start w) pool))
         ∙ every_mapped (link_meets cs k i) link_of (word_meets all k ks i) link_same
         (take (link_count w) (drop (link_start w) pool))
 
@@ -194,23 +187,17 @@ module _ (y : CellSet) (h : SetHeld y.members y.nodes y.links y.refs) where
   parts_same all e k lk (suc n) le = λ i. parts_same all e k lk n (omega arith) i && part_same y h k lk all (e
       ∙ areas_held y) n (omega arith) i
 
-  -- the member k is not sound, or else its links decide
-  pub judged_unsound : (k : ℕ) → false ≡ sound (cell_at (cells_in y) k)
-      → false ≡ judged_at (cells_in y) (length y.members) k
-  unfolding judged_at
-  judged_unsound k e = rw (← e)
-
-  pub judged_by : (all : List ℕ) → all ≡ areas_of y.members y.nodes → (k : ℕ) → k < length y.members
+  judged_by : (all : List ℕ) → all ≡ areas_of y.members y.nodes → (k : ℕ) → k < length y.members
       → true ≡ sound (cell_at (cells_in y) k)
       → all_below (part_meets all y.members y.nodes y.links k) (length y.members)
       ≡ judged_at (cells_in y) (length y.members) k
   unfolding judged_at
   judged_by all e k lk t = parts_same all e k lk (length y.members) (omega arith) ∙ rw (← t)
 
-  pub all_judged : all_below (judged_at (cells_in y) (length y.members)) (length y.members) ≡ set_sound (cells_in y)
+  all_judged : all_below (judged_at (cells_in y) (length y.members)) (length y.members) ≡ set_sound (cells_in y)
   all_judged = (λ i. all_below (judged_at (cells_in y) (sym cells_many i)) (sym cells_many i)) ∙ set_judged (cells_in y)
 
-  pub all_indexed : (s : List ℕ) → indexed_to (numbers_of y.members y.nodes) (length y.members) s
+  all_indexed : (s : List ℕ) → indexed_to (numbers_of y.members y.nodes) (length y.members) s
       ≡ indexed_set (cells_in y) s
   all_indexed s =
       ap (λ (n : ℕ). indexed_to (numbers_of y.members y.nodes) n s) (sym cells_many)
@@ -221,21 +208,63 @@ pub none_judged : (ds : List Cell) (n : ℕ) → true ≡ all_below (judged_at d
 unfolding all_below
 none_judged ds n = refl
 
-pub next_judged : (f : ℕ → Bool) (k : ℕ) (good b c : Bool) → c ≡ (good && b) → good ≡ all_below f k → b ≡ f k
+pub next_judged : (f : ℕ → Bool) (k : ℕ) {good b c : Bool} → c ≡ (good && b) → good ≡ all_below f k → b ≡ f k
     → c ≡ all_below f (k + 1)
 unfolding all_below
-next_judged f k good b c e eg eb = e ∙ (λ i. eg i && eb i) ∙ ap (all_below f) (sym (add-one k))
+next_judged f k e eg eb = e ∙ (λ i. eg i && eb i) ∙ ap (all_below f) (sym (add-one k))
 
--- lists that hold the members, as a set that links lead through has them
-pub held_in : (all : List ℕ) (ws nodes links refs : List (List ℕ)) → Lent all ws nodes
-    → Holding 11 16 ws (length links) → Holding 14 19 ws (length refs) → SetHeld ws nodes links refs
-held_in _ _ _ _ _ h hl hr = record {
-  few = h.few;
-  within = h.within;
-  nodes_hold = h.nodes_hold;
-  links_hold = hl;
-  refs_hold = hr;
-}
+-- ---- a set that links lead through, with refs that hold its members
+
+abbrev value : Result Bool Refusal → Bool
+value (Ok v) = v
+value (Err x) = false
+
+module _ (x : World) (refs : List (List ℕ)) (hr : Holding 14 19 x.members.now (length refs)) where
+  held : SetHeld x.members.now x.nodes.now x.links.now refs
+  held = record {
+    few = x.lent.few;
+    within = x.lent.within;
+    nodes_hold = x.lent.nodes_hold;
+    links_hold = x.links_hold;
+    refs_hold = hr;
+  }
+
+  pub all_told : {n : ℕ} {b : Bool} (js : List (List ℕ)) (hs : List ℕ) → n ≡ length x.members.now
+      → b ≡ all_below (judged_at (cells_in (set_of x js hs refs)) (length x.members.now)) n → b ≡ set_sound (cells_in (set_of x js hs refs))
+  all_told js hs en e =
+      e ∙ ap (all_below (judged_at (cells_in (set_of x js hs refs)) (length x.members.now))) en ∙ all_judged (set_of x js hs refs) held
+
+  module _ (k : ℕ) (lt : k < length x.members.now) where
+    -- the member k, by the cell's own call from where its parts start
+    pub member_told : {v : Ynd} {a c e : ℕ} (r : Result Bool Refusal) (s : List ℕ) {now : List ℕ}
+        → v ≡ ynd_of (get_or x.members.now k []) → a ≡ start_of 15 x.members.now k → c ≡ start_of 16 x.members.now k → e ≡ start_of 19 x.members.now k
+        → 65536 ≤ length s
+        → ((js : List (List ℕ)) (hs : List ℕ) → sound_left r now
+        ≡ sound_call (memory v (take (length x.nodes.now - a) (drop a x.nodes.now))
+        (take (length x.links.now - c) (drop c x.links.now)) js hs (take (length refs - e) (drop e refs))) s)
+        → ((js : List (List ℕ)) (hs : List ℕ) → value r ≡ sound (cell_at (cells_in (set_of x js hs refs)) k))
+        × (now ≡ indexed (numbers_of x.members.now x.nodes.now k) 0 s)
+    member_told r s ev ea ec ee room call =
+        let told = λ (js : List (List ℕ)) (hs : List ℕ).
+        call js hs ∙ member_called (set_of x js hs refs) held k lt js hs s ev ea ec ee room in
+        (λ js hs. ap (λ (l : SoundLeft). value l.answer) (told js hs), ap (λ (l : SoundLeft). l.scratch) (told [] []))
+
+    pub ready_at : (s now : List ℕ) → 65536 ≤ length s → now ≡ indexed (numbers_of x.members.now x.nodes.now k) 0 s
+        → Ready (count_of 10 x.members.now k) (drop (start_of 15 x.members.now k) x.nodes.now) now
+    ready_at = ready_of (set_of x [] [] refs) held k lt
+
+    -- it is not sound, or else its links decide
+    pub unsound_at : {b : Bool} (js : List (List ℕ)) (hs : List ℕ) → b ≡ false
+        → b ≡ sound (cell_at (cells_in (set_of x js hs refs)) k) → b ≡ judged_at (cells_in (set_of x js hs refs)) (length x.members.now) k
+    unfolding judged_at
+    unsound_at js hs e es = rw (← es, e)
+
+    pub judged_told : {b v : Bool} (js : List (List ℕ)) (hs : List ℕ) → v ≡ true
+        → v ≡ sound (cell_at (cells_in (set_of x js hs refs)) k)
+        → b ≡ all_below (part_meets x.areas.now x.members.now x.nodes.now x.links.now k) (length x.members.now)
+        → b ≡ judged_at (cells_in (set_of x js hs refs)) (length x.members.now) k
+    judged_told js hs e es eb =
+        eb ∙ judged_by (set_of x js hs refs) held x.areas.now x.lent.areas_are k lt (sym e ∙ es)
 
 -- ---- the call
 
@@ -243,10 +272,6 @@ module _ (ws nodes links refs : List (List ℕ)) (room : ℕ) (done : (Ok tt)
     ≡ decided (entries_causes ws (length nodes) (length links) (length refs) room)) where
   abbrev causes : List Cause
   causes = entries_causes ws (length nodes) (length links) (length refs) room
-
-  not_no : (b : Bool) → not b ≡ false → b ≡ true
-  not_no true e = refl
-  not_no false e = true_false e
 
   over_none : over_set (bare ws) ≡ false
   unfolding entries_causes
@@ -258,11 +283,11 @@ module _ (ws nodes links refs : List (List ℕ)) (room : ℕ) (done : (Ok tt)
     few = few_members ws over_none;
     within = each_within ws over_none;
     nodes_hold = holding 10 15 ws (length nodes)
-        (not_no (holds_list 10 15 ws (length nodes)) (passed causes 1 (sym done)));
+        (not-false (holds_list 10 15 ws (length nodes)) (passed causes 1 (sym done)));
     links_hold = holding 11 16 ws (length links)
-        (not_no (holds_list 11 16 ws (length links)) (passed causes 2 (sym done)));
+        (not-false (holds_list 11 16 ws (length links)) (passed causes 2 (sym done)));
     refs_hold = holding 14 19 ws (length refs)
-        (not_no (holds_list 14 19 ws (length refs)) (passed causes 3 (sym done)));
+        (not-false (holds_list 14 19 ws (length refs)) (passed causes 3 (sym done)));
   }
 
   pub room_of_law : 65536 ≤ room
@@ -283,14 +308,24 @@ module _ (y : CellSet) (s : List ℕ) where
   by_start = ap (λ (a : Answer). unless a (λ cause. sound_left (Err cause) s)
       (sound_left (verdict (set_sound (cells_in y))) (indexed_set (cells_in y) s))) causes_are
 
-  pub call_refused : (x : Refusal) → Err x ≡ start → sound_left (Err x) s ≡ set_sound_call y s
-  call_refused x e = sym (by_start ∙ ap
+  pub call_refused : {x : Refusal} {a : Answer} {r : Result Bool Refusal} → a ≡ Err x → a ≡ start → IsErrAnd r (λ z. z ≡ x)
+      → sound_left r s ≡ set_sound_call y s
+  call_refused {x} {r} is e er =
+      let k = err_from_is_err_and r er in
+      ap (λ (q : Result Bool Refusal). sound_left q s) (k.1 ∙ ap Err k.2)
+      ∙ sym (by_start ∙ ap
       (λ (a : Answer). unless a (λ cause. sound_left (Err cause) s)
-      (sound_left (verdict (set_sound (cells_in y))) (indexed_set (cells_in y) s))) (sym e))
+      (sound_left (verdict (set_sound (cells_in y))) (indexed_set (cells_in y) s))) (sym e ∙ is))
 
-  pub call_judged : (Ok tt) ≡ start → (v : Bool) (now : List ℕ) → v ≡ set_sound (cells_in y) → now ≡ indexed_set (cells_in y) s
-      → sound_left (Ok v) now ≡ set_sound_call y s
-  call_judged e v now ev en =
-      (λ i. sound_left (Ok (ev i)) (en i))
+  pub call_judged : (Ok tt) ≡ start → {v : Bool} {now : List ℕ} → v ≡ set_sound (cells_in y)
+      → now ≡ indexed_to (numbers_of y.members y.nodes) (length y.members) s → sound_left (Ok v) now ≡ set_sound_call y s
+  call_judged e ev en =
+      let h = held_of y.members y.nodes y.links y.refs (length s) e in
+      (λ i. sound_left (Ok (ev i)) ((en ∙ all_indexed y h s) i))
       ∙ sym (by_start ∙ ap (λ (a : Answer). unless a (λ cause. sound_left (Err cause) s)
       (sound_left (verdict (set_sound (cells_in y))) (indexed_set (cells_in y) s))) (sym e))
+
+-- for the check
+pub ruleset judge_laws = (held_of, room_of_law)
+
+pub ruleset loop_laws = (to_start, none_judged)

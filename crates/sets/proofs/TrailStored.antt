@@ -1,12 +1,12 @@
 -- The nodes visited by a walk, over places of any kind, stored one by one.
+use Rattle.cells.proofs.Sequences.Filled.{fill_turn}
 use Prim.Native.Nat.{ℕ, suc, ◌+◌, ◌<◌, ◌≤◌}
 use native.Mathlib.Omega.{arith}
 use native.Mathlib.Nat.{add-zero}
-use native.Mathlib.Numerals.{add-one}
 use mathlib.Core.Path.{◌≡◌, refl, ap, sym, ◌∙◌}
 use mathlib.Core.List.{List, [], ◌∷◌, ◌++◌, map}
 use lib.ListN.{length, get_or, drop, take, set, length-set, length-map, length-drop}
-use lib.Seq.{get_or-drop, drop-cons, take-suc, set_at, length-take-le, append_snoc, take_all}
+use lib.Seq.{get_or-drop, take_all}
 use Rattle.walks.specs.Walk.{Next, to, stop, World, go_on, walk_in}
 use Rattle.walks.specs.Claim.{places}
 use Rattle.walks.proofs.StepLaws.{get_d_map_in}
@@ -38,14 +38,7 @@ module _ {L : Type 0} (w : World L) where
 
 -- ---- a list stored over another from its start, element by element
 
-module _ (P W : List (List ℕ)) (fits : length P ≤ length W) (i : ℕ) where
-  turn : (x : List ℕ) → i < length P → get_or P i [] ≡ x → set (take i P ++ drop i W) i x
-      ≡ take (i + 1) P ++ drop (i + 1) W
-  turn x lt e =
-      let lv : i < length W = omega arith in
-      rw (add-one, take-suc P i [] lt, e, append_snoc, drop-cons W i [] lv)
-      (set_at (take i P) (get_or W i []) (drop (suc i) W) x i (length-take-le i P (omega arith)))
-
+module _ (P W : List (List ℕ)) (i : ℕ) where
   whole : length P ≡ i + 1 → take (i + 1) P ++ drop (i + 1) W ≡ P ++ drop (length P) W
   whole n = rw (← n) (ap (λ (l : List (List ℕ)). l ++ drop (length P) W) (take_all (length P) P (omega arith)))
 
@@ -90,8 +83,8 @@ module _ {L : Type 0} (w : World L) (f : L → List ℕ) (bs : List ℕ) (s : L)
     turned : (x : List ℕ) → x ≡ f p → set now i x ≡ take (i + 1) D ++ drop (i + 1) first
     turned x e =
         ap (λ (l : List (List ℕ)). set l i x) h.stored
-        ∙ turn D first (omega (arith, d_long)) i x (omega (arith, inside i p h.reached, d_long)) (at_here i p h.reached
-        ∙ sym e)
+        ∙ fill_turn first D i [] x (omega (arith, inside i p h.reached)) (omega (arith, inside i p h.reached, d_long))
+        (at_here i p h.reached ∙ sym e)
 
     pub stored_step : (x : List ℕ) → x ≡ f p → (q : L) → Reached w bs s (i + 1) q
         → Stored w f bs s first (set now i x) (i + 1) q
@@ -104,5 +97,5 @@ module _ {L : Type 0} (w : World L) (f : L → List ℕ) (bs : List ℕ) (s : L)
 
     pub stored_last : (x : List ℕ) → x ≡ f p → i + 1 ≡ length P → set now i x ≡ D ++ drop (length P) first
     stored_last x e n =
-        turned x e ∙ whole D first (omega (arith, d_long)) i (d_long ∙ sym n)
+        turned x e ∙ whole D first i (d_long ∙ sym n)
         ∙ ap (λ (k : ℕ). D ++ drop k first) d_long

@@ -9,6 +9,7 @@ use cells::area::{belongs_to, own_area};
 use cells::node::NodeWords;
 
 // Stores the members' areas, in the order of joining.
+#[tactic(auto, using(crate::proofs::AreasFilled::areas_stored))]
 pub(crate) fn fill_areas(members: &[MemberWords], nodes: &[NodeWords], areas: &mut [u16])
     requires { (length members.now ≤ length areas.old) × Holding 10 15 members.now (length nodes.now) }
     ensures { take (length members.now) areas.new ≡ areas_of members.now nodes.now }
@@ -21,6 +22,7 @@ pub(crate) fn fill_areas(members: &[MemberWords], nodes: &[NodeWords], areas: &m
 }
 
 // The first of the areas that is this one.
+#[tactic(auto, using(crate::proofs::CellSetLaws::place_laws))]
 fn first_with(areas: &[u16], area: u16) -> Option<usize>
     ensures { result ≡ named_of (first_with areas.now area) }
 {
@@ -28,6 +30,7 @@ fn first_with(areas: &[u16], area: u16) -> Option<usize>
 }
 
 // The member that a link of this area in the member i names. Its cell's own rule has its say first.
+#[tactic(auto, using(crate::proofs::MemberLaws::member_laws))]
 pub(crate) fn member_named(areas: &[u16], i: usize, area: u16) -> Option<usize>
     requires { i < length areas.now }
     ensures { result ≡ named_of (member_for areas.now i area) }

@@ -30,6 +30,7 @@ pub(crate) struct Target<'a> {
 impl Target<'_> {
     // Whether one of its nodes has the number. An entry of the scratch counts only if the node that it leads to has
     // the number.
+    #[tactic(auto, using(walks::proofs::ScratchLaws::number_laws))]
     fn has_number(&self, number: u16) -> bool
         ensures { result ≡ is_some (first_with (numbers_in (length self.now.nodes.now) self.now.nodes.now) number) }
     {
@@ -38,6 +39,7 @@ impl Target<'_> {
     }
 
     // Whether a link of the member i, if it names this one, names a node here.
+    #[tactic(auto, using(crate::proofs::Rules::meet_laws))]
     fn link_meets(&self, i: usize, w: LinkWords) -> bool
         requires { i < length self.now.set.members.now }
         ensures { result ≡ word_meets self.now.set.areas.now self.now.member
@@ -89,6 +91,7 @@ impl Target<'_> {
 }
 
 // Whether all links of all members that name the member k name nodes of it. The scratch leads to that member's nodes.
+#[tactic(auto, using(crate::proofs::ArrivalLaws::ready_taken))]
 pub(crate) fn members_meet(set: &World, scratch: &[u32], k: usize) -> bool
     requires { (k < length set.now.members.now)
         × Ready (count_of 10 set.now.members.now k) (drop (start_of 15 set.now.members.now k) set.now.nodes.now)

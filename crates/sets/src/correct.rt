@@ -26,6 +26,7 @@ struct Renamed<'a> {
 
 impl<'a> Renamed<'a> {
     // A link, as it is after the numbers in the table became the new ones: it is changed if it names the area.
+    #[tactic(auto, unfolding(crate::specs::CorrectParts::relabelled))]
     fn relabel(self, w: LinkWords) -> LinkWords
         ensures { (o : Old) → Tells o self.entry.table.now → result ≡ relabelled o self.entry.area w }
     {
@@ -36,6 +37,7 @@ impl<'a> Renamed<'a> {
     }
 
     // All these links.
+    #[tactic(auto, using(crate::proofs::Rules::map_laws))]
     fn relabel_all(self, links: &mut [LinkWords])
         ensures { (o : Old) → Tells o self.entry.table.now
             → links.new ≡ map (relabelled o self.entry.area) links.old }
@@ -66,6 +68,7 @@ fn is_member(n: Option<usize>, j: usize) -> bool
 
 // The links of the member i that name the area of the member j, the first of its area, unless its own rule claims
 // them.
+#[tactic(auto, using(crate::proofs::CorrectLaws::lent_links))]
 fn correct_member(
     members: &[MemberWords],
     nodes: &[NodeWords],
@@ -94,6 +97,7 @@ fn correct_member(
 
 // The links of all members but the member j, by a table of the new numbers. Nothing is to be done where j is not the
 // first member of its area.
+#[tactic(auto, using(crate::proofs::CorrectLaws::turn_laws))]
 pub(crate) fn correct_others(
     members: &[MemberWords],
     nodes: &[NodeWords],

@@ -24,6 +24,7 @@ pub(crate) struct Location {
 
 impl World<'_> {
     // On to the node with this number in the member k.
+    #[tactic(auto, using(crate::proofs::PartLaws::total_below))]
     fn arrive_in(&self, k: usize, number: u16) -> Result<Location, End>
         requires { k < length self.now.members.now }
         ensures { result ≡ cross_of (arrive_in k (find (numbers
@@ -42,6 +43,7 @@ impl World<'_> {
     }
 
     // By a link of the member i, to this number of this area.
+    #[tactic(auto, using(crate::proofs::CrossLaws::named_laws))]
     fn enter_by(&self, i: usize, area: u16, number: u16) -> Result<Location, End>
         requires { i < length self.now.members.now }
         ensures { result ≡ cross_of (enter (cells_in self.now.members.now self.now.nodes.now self.now.links.now)
@@ -54,6 +56,7 @@ impl World<'_> {
     }
 
     // Where the choice b leads from the place p of the member i.
+    #[tactic(auto, using(crate::proofs::CrossLaws::step_laws))]
     pub(crate) fn step_in(&self, i: usize, p: usize, b: u8) -> Result<Location, End>
         requires { (i < length self.now.members.now) × (p < count_of 10 self.now.members.now i) }
         ensures { result ≡ cross_of (next_in

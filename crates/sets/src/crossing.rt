@@ -40,6 +40,7 @@ fn nodes_visited(set: &World, member: usize, place: usize, choices: &[u8]) -> us
 }
 
 // Whether the nodes visited go into a list of `room` entries. They are counted only where there are as many choices.
+#[tactic(auto, using(crate::proofs::CrossLoop::trail_few))]
 fn has_room(set: &World, member: usize, place: usize, choices: &[u8], room: usize) -> bool
     requires { (member < length set.now.members.now) × (place < count_of 10 set.now.members.now member) }
     ensures { result ≡ leb (length (places (trail_of set.now choices.now (location member place)))) room }
@@ -59,6 +60,7 @@ fn location_words(i: usize, p: usize) -> LocationWords
 }
 
 // Stores the nodes visited.
+#[tactic(auto, using(crate::proofs::CrossLoop::small))]
 fn store(
     set: &World,
     member: usize,
@@ -90,6 +92,7 @@ fn store(
 }
 
 // What a walk is refused for before its first step.
+#[tactic(auto, using(crate::proofs::Rules::few_laws), unfolding(crate::specs::CrossParts::start_causes))]
 fn start_answer(
     members: &[MemberWords],
     nodes: usize,
@@ -118,6 +121,7 @@ fn start_answer(
 }
 
 // The walk, where nothing refuses its start.
+#[tactic(auto, using(crate::proofs::Rules::start_laws))]
 fn walk_started(
     members: &[MemberWords],
     nodes: &[NodeWords],

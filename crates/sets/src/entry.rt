@@ -22,6 +22,7 @@ pub(crate) fn word_at(w: MemberWords, k: usize) -> usize
     wide(w[k])
 }
 
+#[tactic(auto, unfolding(crate::specs::CellSet::ynd_of))]
 pub(crate) fn ynd_of(w: MemberWords) -> Ynd
     ensures { result ≡ ynd_of w }
 {

@@ -31,6 +31,7 @@ fn give_part(p: MemberPart, from: Given, to: &mut Lists)
 
 // The cell that `leave` would take out, copied into the caller's lists. A refusal changes nothing, and neither does
 // the set change: `leave` follows.
+#[tactic(auto, using(crate::proofs::HandBackLaws::hand_nobody))]
 pub fn hand_back(
     members: &[MemberWords],
     nodes: &[NodeWords],

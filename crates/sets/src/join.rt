@@ -152,6 +152,7 @@ fn join_answer(
 // A cell joins: what its counts say is copied behind the other members' parts. Its parts get `sizes` entries, at least
 // as many as its counts. The first `count` entries of `members` are the set's before it. Gives how many there are
 // after it; a refusal changes nothing.
+#[tactic(auto, using(crate::proofs::JoinDone::joining_laws))]
 pub fn join(
     count: usize,
     members: &mut [MemberWords],

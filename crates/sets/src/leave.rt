@@ -38,6 +38,7 @@ fn take_out(members: &mut [MemberWords], lists: &mut Lists, j: usize)
 
 // Takes the member with this area out, the first joined of several. `members` are all entries of the set; gives how
 // many of them are after it. A refusal changes nothing.
+#[tactic(auto, using(crate::proofs::LeaveLaws::nobody))]
 pub fn leave(
     members: &mut [MemberWords],
     nodes: &mut [NodeWords],

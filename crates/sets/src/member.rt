@@ -30,6 +30,7 @@ fn check_member(members: &[MemberWords], lens: Counts, j: usize) -> Result<(), R
     check_set(members, lens)
 }
 
+#[tactic(auto, using(crate::proofs::MemberPartLaws::open_laws))]
 pub(crate) fn open_member(
     members: &[MemberWords],
     lens: Counts,
@@ -51,6 +52,7 @@ pub(crate) fn open_member(
 }
 
 // How many entries the parts in each list have together. With it a list that a call isn't lent counts as long enough.
+#[tactic(auto, using(crate::proofs::MemberAskLaws::held_laws))]
 pub(crate) fn held(members: &[MemberWords]) -> Counts
     ensures { result ≡ held_by members.now }
 {

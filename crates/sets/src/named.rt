@@ -22,6 +22,7 @@ fn area_in(nodes: &[NodeWords], start: usize, room: usize, n: usize) -> u16
 }
 
 // Where a part of `room` entries from `start` on ends in a list of `len`.
+#[tactic(auto, using(crate::proofs::PartLaws::end_laws))]
 fn part_end(start: usize, room: usize, len: usize) -> usize
     requires { start ≤ len }
     ensures { (result ≡ part_end start room len) × (result ≤ len) }

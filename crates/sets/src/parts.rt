@@ -61,6 +61,7 @@ impl Kind {
 }
 
 // The sum of word k of the members before the member i.
+#[tactic(auto, using(crate::proofs::Rules::before_laws), unfolding(crate::specs::CellSet::total))]
 pub(crate) fn count_before(members: &[MemberWords], k: usize, i: usize) -> usize
     requires { (k < 20) × (i ≤ length members.now) × (length members.now ≤ 9) }
     ensures { result ≡ total (take i (words_at k members.now)) }
@@ -73,6 +74,7 @@ pub(crate) fn count_before(members: &[MemberWords], k: usize, i: usize) -> usize
 }
 
 // The sum of word k of all members.
+#[tactic(auto, using(crate::proofs::PartLaws::start_all))]
 pub(crate) fn count_all(members: &[MemberWords], k: usize) -> usize
     requires { (k < 20) × (length members.now ≤ 9) }
     ensures { result ≡ total (words_at k members.now) }
@@ -81,6 +83,7 @@ pub(crate) fn count_all(members: &[MemberWords], k: usize) -> usize
 }
 
 // The member i's own entries of a list that holds all parts: as many as word k says, in the part of word `size`.
+#[tactic(auto, using(crate::proofs::PartLaws::part_below))]
 pub(crate) fn own_entries<'a, T>(
     members: &[MemberWords],
     k: usize,
@@ -90,7 +93,8 @@ pub(crate) fn own_entries<'a, T>(
 ) -> &'a [T]
     requires { (k < 20) × (size < 20) × (i < length members.now) × (length members.now ≤ 9)
         × Holding k size members.now (length list.now) }
-    ensures { result.now ≡ take (count_of k members.now i) (drop (start_of size members.now i) list.now) }
+    ensures value { result.now ≡ take (count_of k members.now i) (drop (start_of size members.now i) list.now) }
+    ensures long { length result.now ≡ count_of k members.now i }
 {
     let start = count_before(members, size, i);
     &list[start..start + word_at(members[i], k)]

@@ -22,6 +22,7 @@ fn rooms_hold(members: &[MemberWords], k: usize, size: usize) -> bool
 }
 
 // Whether a list of `len` entries holds all members' parts, and each part its member's entries.
+#[tactic(auto, using(crate::proofs::RoomLaws::hold_laws))]
 pub(crate) fn holds_list(members: &[MemberWords], k: usize, size: usize, len: usize) -> bool
     requires { (k < 20) × (size < 20) × (length members.now ≤ 9) }
     ensures { result ≡ holds_list k size members.now len }
@@ -66,6 +67,7 @@ pub(crate) fn any_over(members: &[MemberWords]) -> bool
 }
 
 // Whether the set is over a limit: nine members, 65,536 nodes together, or a member's own.
+#[tactic(auto, using(crate::proofs::RoomLaws::limit_laws))]
 pub(crate) fn over_set(members: &[MemberWords]) -> bool
     ensures { result ≡ over_set (bare members.now) }
 {
@@ -79,7 +81,7 @@ pub(crate) fn over_set(members: &[MemberWords]) -> bool
 }
 
 // 14 for a set over a limit, 7 for lists of these lengths that don't hold it.
-#[tactic(auto, using(numbers::proofs::Refusing::tested), unfolding(crate::specs::SetParts::list_causes))]
+#[tactic(auto, using(crate::proofs::Rules::few_laws), unfolding(crate::specs::SetParts::list_causes))]
 pub(crate) fn check_set(members: &[MemberWords], lens: Counts) -> Result<(), Refusal>
     ensures { result ≡ decided (list_causes members.now lens.nodes lens.links lens.junctions lens.heights lens.refs) }
 {

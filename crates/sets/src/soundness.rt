@@ -23,6 +23,7 @@ use numbers::refusal::{Lent, Refusal};
 use walks::sound::sound;
 
 // Whether the member k is sound. The scratch then leads to its nodes.
+#[tactic(auto, using(crate::proofs::PartLaws::total_below))]
 fn member_sound(set: &World, refs: &[LinkWords], k: usize, scratch: &mut [u32]) -> bool
     requires { Holding 14 19 set.now.members.now (length refs.now) × (k < length set.now.members.now)
         × (65536 ≤ length scratch.old) }
@@ -53,6 +54,7 @@ fn judge_member(set: &World, refs: &[LinkWords], k: usize, scratch: &mut [u32]) 
 }
 
 // The same of each member. One that is not sound ends nothing, so that the scratch is known whatever the answer.
+#[tactic(auto, using(crate::proofs::SetSoundLaws::loop_laws))]
 fn judge_members(set: &World, refs: &[LinkWords], scratch: &mut [u32]) -> bool
     requires { Holding 14 19 set.now.members.now (length refs.now)
         × (65536 ≤ length scratch.old) }
@@ -69,6 +71,7 @@ fn judge_members(set: &World, refs: &[LinkWords], scratch: &mut [u32]) -> bool
 }
 
 // What the call is refused for, with a scratch of `room` entries.
+#[tactic(auto, using(crate::proofs::Rules::few_laws), unfolding(crate::specs::SetSoundParts::entries_causes))]
 fn sound_answer(
     members: &[MemberWords],
     nodes: usize,
@@ -97,6 +100,7 @@ fn sound_answer(
 }
 
 // The answer, where nothing refuses the call.
+#[tactic(auto, using(crate::proofs::SetSoundLaws::judge_laws))]
 fn judge_set(
     members: &[MemberWords],
     nodes: &[NodeWords],

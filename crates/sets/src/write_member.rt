@@ -20,6 +20,7 @@ use cells::write_read::{WroteRead, write_then_read};
 use numbers::refusal::Refusal;
 
 // The cell whose lists are the parts of p.
+#[tactic(auto, using(crate::proofs::MemberPartLaws::put_part))]
 fn write_read_part(
     p: MemberPart,
     lists: &mut Lists,

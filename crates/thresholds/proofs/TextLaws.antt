@@ -2,7 +2,7 @@
 use Rattle.std.proofs.Common.{◌≡◌, ℕ, ◌+◌, ◌*◌, ◌<◌, List, ◌++◌, length, take, drop, ap, sym, ◌∙◌, subst, inl, inr, arith}
 use Rattle.numbers.specs.Table.{Least}
 use Rattle.numbers.proofs.TableLaws.{entry, least_entry}
-use Rattle.numbers.proofs.Units.{lt_or_ge}
+use Rattle.std.proofs.lemmas.Bool.{cases_lt}
 use Rattle.std.proofs.lemmas.List.{drop-append-le, take-append-le, take_all, drop_all, length-drop}
 use Rattle.numbers.specs.ThresholdSearch.{LineOfLeast}
 
@@ -22,7 +22,7 @@ last k j s line long nine e =
 pub lines_more : (k : ℕ) (s line : List ℕ) → length s ≡ 9 * k → length line ≡ 9
     → ((j : ℕ) → j < k → LineOfLeast j (line_at j s)) → LineOfLeast k line
     → (j : ℕ) → j < k + 1 → LineOfLeast j (line_at j (s ++ line))
-lines_more k s line long nine so-far new j h = elim (lt_or_ge j k) [
+lines_more k s line long nine so-far new j h = elim (cases_lt j k) [
   | inl l ↦ λ t x. earlier k j s line long l ∙ so-far j l t x
   | inr g ↦ λ t x.
       let e : k ≡ j = omega arith in

@@ -18,10 +18,6 @@ pub record Has (ns : List ℕ) (k p : ℕ) : Type 0 where
   pub inside : p < length ns
   pub number : get_or ns p 0 ≡ k
 
--- two constructors are never equal
-some_none : {P : Type 0} {i : ℕ} → ◌≡◌ {A = Option ℕ} (some i) none → P
-some_none e = let z : ◌≡◌ {A = ℕ} 0 1 = cc in absurd (omega arith)
-
 next_some : (r : Option ℕ) → is_some (or_later false r) ≡ is_some r
 next_some (some i) = refl
 next_some none = refl

@@ -26,12 +26,6 @@ use Rattle.walks.proofs.SoundWords.{numbers_same}
 use Rattle.walks.proofs.ScratchLaws.{numbers_long}
 use Rattle.std.specs.Prelude.{Ok, Err}
 
-never : {P : Type 0} {i : ℕ} → ◌≡◌ {A = Option ℕ} none (some i) → P
-never e = let z : ◌≡◌ {A = ℕ} 0 1 = cc in absurd (omega arith)
-
-to_stop : {P : Type 0} {q : ℕ} {e : End} → Ok q ≡ Err e → P
-to_stop e = let z : ◌≡◌ {A = ℕ} 0 1 = cc in absurd (omega arith)
-
 -- after i choices the walk stands at p: what is left of its places is the route from there
 pub record Reached (ns : List Node) (bs : List ℕ) (s i p : ℕ) : Type 0 where
   pub ending : (route ns bs s).ending ≡ (route ns (drop i bs) p).ending
@@ -76,13 +70,13 @@ one_left l i p e = omega (arith, simp length-drop at (ap length e))
 
 first_inside : (xs : List ℕ) (k q : ℕ) → first_with xs k ≡ some q → q < length xs
 unfolding first_with
-first_inside [] k q e = never e
+first_inside [] k q e = absurd (cc)
 first_inside (x ∷ xs) k q e = go (eqb x k) (first_with xs k) (first_inside xs k) e
   where
     go : (b : Bool) (r : Option ℕ) → ((j : ℕ) → r ≡ some j → j < length xs) → or_later b r ≡ some q → q < suc (length xs)
     go true r h e = let z : 0 ≡ q = cc in omega arith
     go false (some j) h e = let z : suc j ≡ q = cc in omega (arith, h j refl)
-    go false none h e = never e
+    go false none h e = absurd (cc)
 
 find_inside : (xs : List ℕ) (k q : ℕ) → find xs k ≡ some q → q < length xs
 unfolding find
@@ -106,21 +100,21 @@ module _ (m : Memory) (fits : m.ynd.node_count ≤ length m.nodes) where
   goes_on p b q e = go (link_at N p b) e
     where
       go : (l : Option Link) → Ok q ≡ step_of (take_link N l) → (take_link N l ≡ to q) × (q < n)
-      go none e = to_stop e
+      go none e = absurd (cc)
       go (some l) e = own (belongs (first_of N) l.area) (find (numbers N) l.number) (found_inside l.number q) e
         where
           own : (t : Bool) (r : Option ℕ) → (r ≡ some q → q < n)
               → Ok q ≡ step_of (cond t (arrive r) (stop (Left l.area l.number))) → (cond t (arrive r) (stop (Left l.area l.number)) ≡ to q) × (q < n)
           own true (some j) h e = let z : j ≡ q = cc in (ap to z, h (ap some z))
-          own true none h e = to_stop e
-          own false r h e = to_stop e
+          own true none h e = absurd (cc)
+          own false r h e = absurd (cc)
 
   stops : (p b : ℕ) (e : End) → Err e ≡ step_in m p b → next N p b ≡ stop e
   unfolding step_in
   stops p b e h = go (next N p b) h
     where
       go : (x : Next ℕ) → Err e ≡ step_of x → x ≡ stop e
-      go (to q) h = to_stop (sym h)
+      go (to q) h = absurd (cc)
       go (stop s) h = cc
 
   -- ---- the loop over the choices

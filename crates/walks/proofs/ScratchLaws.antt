@@ -1,5 +1,5 @@
 -- The scratch as a map from numbers to places. It is never cleared: an entry counts if the node there has the number.
-use Prim.Native.Nat.{ℕ, zero, suc, ◌+◌, ◌≤◌, ◌<◌}
+use Prim.Native.Nat.{ℕ, suc, ◌+◌, ◌≤◌, ◌<◌}
 use native.Mathlib.Omega.{arith}
 use native.Mathlib.Numerals.{add-one}
 use native.Mathlib.Nat.{zero-add, suc-add, add-suc, add-zero}
@@ -9,6 +9,9 @@ use mathlib.Core.List.{List, [], ◌∷◌, ◌++◌, map}
 use lib.Dec.{eqb}
 use borrow.Author.Tests.{eqb-true, eqb-false}
 use Rattle.std.specs.List.{list_all, enumerate_from}
+use Rattle.std.proofs.lemmas.List.FromFn.{get_or-enumerate_from, length-enumerate_from}
+use Rattle.std.proofs.lemmas.List.{map_push}
+use Rattle.std.proofs.lemmas.List.Recursion.{and_at}
 use lib.ListN.{length, get_or, set, take, length-map, get_or-map}
 use lib.Seq.{get_or-take, take-suc, length-take-le, take_all}
 use Rattle.cells.specs.NodeWords.{number_of}
@@ -16,7 +19,7 @@ use Rattle.cells.specs.Lookup.{first_with, is_some}
 use Rattle.cells.specs.LookupCall.{numbers_in}
 use Rattle.cells.specs.RenumberParts.{Indexed}
 use Rattle.cells.proofs.Renumbering.Named as cells
-use Rattle.cells.proofs.Sequences.Tests.{by_test, and_left, and_right, true_false}
+use Rattle.cells.proofs.Sequences.Tests.{by_test, true_false}
 use Rattle.walks.specs.Sound.{differing}
 use Rattle.walks.specs.SoundCall.{indexed}
 use Rattle.walks.specs.SoundParts.{all_numbers, Ready}
@@ -47,7 +50,7 @@ pub indexed_turn : (nodes : List (List ℕ)) (i k : ℕ) (s now : List ℕ) → 
 unfolding numbers_in
 indexed_turn nodes i k s now lt e h =
     let long : length (map number_of (take i nodes)) ≡ i = length-map (take i nodes) number_of ∙ length-take-le i nodes (omega arith) in
-    rw (add-one, take-suc nodes i [] lt, cells.map_snoc, ← e, indexed_snoc, long, zero-add, h)
+    rw (add-one, take-suc nodes i [] lt, map_push, ← e, indexed_snoc, long, zero-add, h)
 
 -- ---- the numbers
 
@@ -81,9 +84,9 @@ differ_yes (n ∷ ns) h =
 
 each_place : {A : Type 0} (f : ℕ × A → Bool) (d : A) (l : List A) (i : ℕ) → list_all f (enumerate_from i l) ≡ true
     → (j : ℕ) → j < length l → f (i + j, get_or l j d) ≡ true
-each_place f d [] i h j lt = absurd (omega arith)
-each_place f d (x ∷ xs) i h zero lt = rw add-zero (and_left _ _ h)
-each_place f d (x ∷ xs) i h (suc j) lt = rw (add-suc, ← suc-add, ← add-one) (each_place f d xs (i + 1) (and_right (f (i, x)) _ h) j (omega arith))
+each_place f d l i h j lt =
+    ap f (sym (get_or-enumerate_from i l j (0, d) lt))
+    ∙ and_at (list_all f) f refl (λ _ _. refl) (enumerate_from i l) j (0, d) (omega (arith, length-enumerate_from i l)) h
 
 some_place : {A : Type 0} (f : ℕ × A → Bool) (d : A) (l : List A) (i : ℕ) → list_all f (enumerate_from i l) ≡ false
     → (j : ℕ) × (j < length l) × (f (i + j, get_or l j d) ≡ false)

@@ -7,8 +7,8 @@ use mathlib.Core.Bool.{true, false}
 use mathlib.Core.List.{List, [], ◌++◌, map}
 use mathlib.Core.Option.{Option, none, some}
 use lib.Dec.{ltb}
-use lib.ListN.{length, get_or, get_elem?, take, drop, length-map, length-drop, length-take, drop_of_length-le}
-use lib.Seq.{length-take-le, get_or-take, take_all, take-nil}
+use lib.ListN.{length, get_or, get_elem?, take, drop, length-map, length-drop, length-take}
+use lib.Seq.{length-take-le, get_or-take}
 use borrow.Author.Tests.{le-leb, lt-leb, lt-ltb, le-ltb, ltb-true, ltb-false}
 use Rattle.records.specs.Put.{put}
 use Rattle.std.specs.Prelude.{Some, None, MatchOption, IsSomeAnd}
@@ -29,7 +29,8 @@ use Rattle.walks.specs.declared.shown.SeenNode.{SeenNode}
 use Rattle.walks.specs.declared.shown.SeenJunction.{SeenJunction}
 use Rattle.walks.specs.declared.shown.SeenLink.{SeenLink}
 use Rattle.walks.proofs.Ranges.{cut_all, cut_part}
-use Rattle.walks.proofs.StepLaws.{elem_at, elem_past, get_d_map_in, node_in, linked, link_found}
+use Rattle.std.proofs.lemmas.List.{get_or-map, take_min}
+use Rattle.walks.proofs.StepLaws.{elem_at, elem_past, node_in, linked, link_found}
 use Rattle.std.specs.Prelude.{Ok, Err}
 use Rattle.numbers.specs.declared.refusal.Refusal.TheVariants.{TooShort, NoSuchPlace, AtLimit}
 use Rattle.numbers.specs.declared.refusal.Lent.TheVariants as lent
@@ -42,15 +43,6 @@ module _ {A : Type 0} (xs : List A) (l start count : ℕ) where
   abbrev end : ℕ
   end = min l (length xs)
 
-  pub cut_gone : end ≤ start → [] ≡ take count (drop start (take l xs))
-  cut_gone h = sym (ap (take count) (drop_of_length-le (take l xs) {i = start} (rw length-take h)) ∙ take-nil count)
-
-  same_front : take l xs ≡ take end xs
-  same_front = by_test (ltb (length xs) l)
-      (λ t. let h : length xs < l = ltb-true _ _ t in
-      take_all l xs (omega arith) ∙ sym (ap (λ (k : ℕ). take k xs) (min-eq_right {n = length xs} {m = l} (omega arith)) ∙ take_all (length xs) xs (omega arith)))
-      (λ f. sym (ap (λ (k : ℕ). take k xs) (min-eq_left {n = l} {m = length xs} (ltb-false _ _ f))))
-
   module _ (n : ℕ) (is : n ≡ min count (end - start)) (lt : start < end) where
     pub cut_held : take n (drop start xs) ≡ take count (drop start (take l xs))
     cut_held = by_test (ltb (end - start) count)
@@ -62,7 +54,7 @@ module _ {A : Type 0} (xs : List A) (l start count : ℕ) where
         ∙ sym (cut_all end start count xs (omega arith)) ∙ front)
       where
         front : take count (drop start (take end xs)) ≡ take count (drop start (take l xs))
-        front = ap (λ (t : List A). take count (drop start t)) (sym same_front)
+        front = ap (λ (t : List A). take count (drop start t)) (take_min l xs)
 
 -- ---- a node
 
@@ -177,7 +169,7 @@ module _ (m : Memory) where
     junction_at_law lt h =
         let long : p < length (take many m.junctions) = rw length-take (le-min lt h) in
         elem_at (map (junction_with values) (take many m.junctions)) p (junction_with values []) (rw length-map long)
-        ∙ ap some (get_d_map_in (junction_with values) (take many m.junctions) p [] (junction_with values []) long ∙ ap (junction_with values) (get_or-take many m.junctions p [] lt))
+        ∙ ap some (get_or-map (junction_with values) (take many m.junctions) p [] (junction_with values []) long ∙ ap (junction_with values) (get_or-take many m.junctions p [] lt))
 
     pub junction_no_place : many ≤ p → Err NoSuchPlace ≡ shown_junction m p
     unfolding shown_junction

@@ -7,6 +7,7 @@ use mathlib.Core.List.{List, [], ◌∷◌, map}
 use lib.Dec.{eqb}
 use lib.ListN.{length, take, drop, length-map}
 use lib.Seq.{length-take-le}
+use Rattle.std.proofs.lemmas.List.{take-map, drop-map}
 use Rattle.cells.specs.NodeWords.{area_of, first_area, link_start, link_count}
 use Rattle.cells.proofs.Lookups.LookupLaws.{area_held}
 use Rattle.cells.specs.Lists.{every}
@@ -14,7 +15,6 @@ use Rattle.cells.specs.Memory.{Memory}
 use Rattle.cells.specs.Cell.{Link, Node, Ref, numbers, first_of}
 use Rattle.cells.specs.CellOf.{link_of, ref_of, node_with, nodes_of, refs_of, cell_of}
 use Rattle.cells.specs.LookupCall.{numbers_in}
-use Rattle.cells.proofs.Sequences.Tests.{map_take, map_drop}
 use Rattle.cells.proofs.Lookups.LookupLaws.{numbers_held}
 use Rattle.walks.specs.Sound.{link_named, ref_named, differing, node_sound, sound}
 use Rattle.walks.specs.SoundParts.{all_numbers, word_named, word_sound, words_sound, none_or}
@@ -71,7 +71,7 @@ module _ (m : Memory) where
 
     links_same : (count start : ℕ) → every (link_named N) (take count (drop start pool)) ≡ every (word_named ks own) (take count (drop start (take l m.links)))
     links_same count start =
-        ap (every (link_named N)) (ap (take count) (map_drop link_of start (take l m.links)) ∙ map_take link_of count (drop start (take l m.links)))
+        ap (every (link_named N)) (ap (take count) (drop-map link_of start (take l m.links)) ∙ take-map link_of count (drop start (take l m.links)))
         ∙ every_mapped (link_named N) link_of (word_named ks own) link_same (take count (drop start (take l m.links)))
 
     node_same : (w : List ℕ) → node_sound N (node_with pool w) ≡ word_sound ks own (take l m.links) w

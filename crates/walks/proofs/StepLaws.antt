@@ -12,6 +12,7 @@ use lib.Dec.{ltb}
 use borrow.Author.Tests.{le-ltb, ltb-true, ltb-false}
 use Rattle.std.specs.Prelude.{Some, None}
 use Rattle.std.specs.declared.option.Option as std
+use Rattle.std.proofs.lemmas.List.{get_or-map}
 use Rattle.std.proofs.lemmas.Option.{slice_get-get_or, slice_get_past}
 use Rattle.cells.proofs.Sequences.Tests.{by_test}
 use Rattle.cells.specs.Memory.{Memory, over_limit}
@@ -58,9 +59,7 @@ module _ {A : Type 0} where
   elem_take_past (suc n) (x ∷ xs) (suc i) h = elem_take_past n xs i (omega arith)
 
 pub get_d_map_in : {A B : Type 0} (f : A → B) (l : List A) (i : ℕ) (d : A) (e : B) → i < length l → get_or (map f l) i e ≡ f (get_or l i d)
-get_d_map_in f [] i d e lt = absurd (omega arith)
-get_d_map_in f (x ∷ xs) zero d e lt = refl
-get_d_map_in f (x ∷ xs) (suc i) d e lt = get_d_map_in f xs i d e (omega arith)
+get_d_map_in f l i d e lt = get_or-map f l i d e lt
 
 -- the link that these words are, if there are any
 abbrev pub linked : std.Option (List ℕ) → Option Link
@@ -92,7 +91,7 @@ module _ (m : Memory) where
     pub node_in : (p : ℕ) → p < n → node_at (nodes_of m) p ≡ node_with pool (get_or m.nodes p [])
     unfolding nodes_of
     node_in p lt =
-        get_d_map_in (node_with pool) (take n m.nodes) p [] no_node (omega (arith, length-take-le n m.nodes fits))
+        get_or-map (node_with pool) (take n m.nodes) p [] no_node (omega (arith, length-take-le n m.nodes fits))
         ∙ ap (node_with pool) (get_or-take n m.nodes p [] lt)
 
     links_in : (p : ℕ) → p < n → (node_at (nodes_of m) p).links ≡ take (count p) (drop (start p) pool)
@@ -117,7 +116,7 @@ module _ (m : Memory) where
             elem_take (count p) (drop (start p) pool) b h,
             elem_drop,
             elem_at pool (start p + b) (link_of []) (rw long lq),
-            get_d_map_in link_of (take l m.links) (start p + b) [] (link_of []) (rw (length-take-le l m.links held) lq),
+            get_or-map link_of (take l m.links) (start p + b) [] (link_of []) (rw (length-take-le l m.links held) lq),
             get_or-take l m.links (start p + b) [] lq,
           )
 

@@ -98,6 +98,7 @@ impl Yard<'_> {
     }
 
     // Stores the places that a walk visits.
+    #[tactic(auto, using(cells::proofs::Forms::Limits::within))]
     fn store(&self, start: usize, choices: &[u8], visited: &mut [u32]) -> Walked
         requires start_in { start < self.now.ynd.node_count }
         requires room { length (route_in (lent self.now.ynd self.now.nodes.now self.now.links.now)

@@ -1,30 +1,16 @@
 -- What a call that adds an entry leaves, by its answer, and the room that an accepted one has.
-use Prim.Native.Nat.{ℕ, ◌+◌, ◌<◌, ◌≤◌}
-use mathlib.Core.Path.{◌≡◌, refl, ap, sym, ◌∙◌}
+use Prim.Native.Nat.{ℕ, ◌+◌, ◌<◌}
+use mathlib.Core.Path.{◌≡◌, refl}
 use mathlib.Core.Bool.{Bool}
-use mathlib.Core.List.{List}
 use lib.Dec.{eqb, ltb, leb}
-use lib.ListN.{length}
-use borrow.Author.Tests.{le-leb, leb-false, ltb-false, eqb-true}
-use Rattle.records.specs.Put.{put, put_in}
-use Rattle.cells.specs.Memory.{Memory, Left, unless}
+use borrow.Author.Tests.{leb-false, ltb-false, eqb-true}
+use Rattle.cells.specs.Memory.{Memory, unless}
 use Rattle.cells.specs.Add.{done, room_for, room_for_junction, JunctionRoom}
 use Rattle.cells.proofs.Sequences.Tests.{by_test}
 use Rattle.std.specs.Prelude.{Ok, Err}
-use Rattle.numbers.specs.declared.refusal.Refusal.{Refusal}
 use Rattle.numbers.specs.declared.refusal.Lent.{Lent}
 use Rattle.numbers.proofs.Refusing.{not_refused}
 use Rattle.numbers.specs.Refusals.{Answer}
-
-module _ (a b : Answer) (m : Memory) (next : Left) (same : a ≡ b) where
-  pub refused_left : (cause : Refusal) → a ≡ Err cause → record { answer = a; memory = m } ≡ unless b m next
-  refused_left cause t = (λ i. record { answer = t i; memory = m }) ∙ sym (ap (λ (x : Answer). unless x m next) (sym same ∙ t))
-
-  pub done_left : a ≡ (Ok tt) → next ≡ unless b m next
-  done_left t = sym (ap (λ (x : Answer). unless x m next) (sym same ∙ t))
-
-pub not_done : {P : Type 0} {cause : Refusal} → ◌≡◌ {A = Answer} (Err cause) (Ok tt) → P
-not_done e = not_refused e
 
 -- an accepted call leaves what it makes, a refused one what was there
 module _ (a : Answer) (m next : Memory) where
@@ -33,36 +19,25 @@ module _ (a : Answer) (m next : Memory) where
     where
       go : (a : Answer) → (unless a m (done next)).answer ≡ (Ok tt) → (a ≡ (Ok tt)) × ((unless a m (done next)).memory ≡ next)
       go (Ok tt) e = (refl, refl)
-      go (Err cause) e = not_done e
-
-  pub refused_memory : (cause : Refusal) → (unless a m (done next)).answer ≡ Err cause → (unless a m (done next)).memory ≡ m
-  refused_memory cause e = go a e
-    where
-      go : (a : Answer) → (unless a m (done next)).answer ≡ Err cause → (unless a m (done next)).memory ≡ m
-      go (Ok tt) e = not_done (sym e)
-      go (Err r) e = refl
+      go (Err cause) e = not_refused e
 
 pub room_inside : (over : Bool) (limit n len : ℕ) (list : Lent) → room_for over limit n len list ≡ (Ok tt) → (n < limit) × (n < len)
 unfolding room_for
 room_inside over limit n len list e =
-    by_test over (λ t. not_done (rw t at e)) (λ o.
-    by_test (leb limit n) (λ t. not_done (rw (o, t) at e)) (λ f₀.
-    by_test (leb len n) (λ t. not_done (rw (o, f₀, t) at e)) (λ f₁.
+    by_test over (λ t. not_refused (rw t at e)) (λ o.
+    by_test (leb limit n) (λ t. not_refused (rw (o, t) at e)) (λ f₀.
+    by_test (leb len n) (λ t. not_refused (rw (o, f₀, t) at e)) (λ f₁.
     (leb-false limit n f₀, leb-false len n f₁))))
 
 pub junction_room : (over : Bool) (n h size v junctions heights : ℕ) → room_for_junction over n h size v junctions heights ≡ (Ok tt)
     → JunctionRoom n h size v junctions heights
 unfolding room_for_junction
 junction_room over n h size v junctions heights e =
-    by_test over (λ t. not_done (rw t at e)) (λ o.
-    by_test (leb 4096 n) (λ t. not_done (rw (o, t) at e)) (λ f₀.
-    by_test (ltb 4294967295 (h + v)) (λ t. not_done (rw (o, f₀, t) at e)) (λ f₁.
+    by_test over (λ t. not_refused (rw t at e)) (λ o.
+    by_test (leb 4096 n) (λ t. not_refused (rw (o, t) at e)) (λ f₀.
+    by_test (ltb 4294967295 (h + v)) (λ t. not_refused (rw (o, f₀, t) at e)) (λ f₁.
     by_test (eqb v size) (λ q.
-    by_test (leb junctions n) (λ t. not_done (rw (o, f₀, f₁, q, t) at e)) (λ f₂.
-    by_test (ltb heights (h + v)) (λ t. not_done (rw (o, f₀, f₁, q, f₂, t) at e)) (λ f₃.
+    by_test (leb junctions n) (λ t. not_refused (rw (o, f₀, f₁, q, t) at e)) (λ f₂.
+    by_test (ltb heights (h + v)) (λ t. not_refused (rw (o, f₀, f₁, q, f₂, t) at e)) (λ f₃.
     record { few = leb-false _ _ f₀; values_few = ltb-false _ _ f₁; sized = eqb-true v size q; junctions_fit = leb-false _ _ f₂; heights_fit = ltb-false _ _ f₃ })))
-    (λ f. not_done (rw (o, f₀, f₁, f) at e)))))
-
-pub put_fits : (l : List ℕ) (at : ℕ) (x : List ℕ) → at + length x ≤ length l → put_in l at x ≡ put l at x
-unfolding put_in
-put_fits l at x h = rw (le-leb _ _ h)
+    (λ f. not_refused (rw (o, f₀, f₁, f) at e)))))

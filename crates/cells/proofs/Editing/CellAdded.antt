@@ -1,4 +1,5 @@
 -- A call that adds an entry adds it to the cell that the memory holds.
+use Rattle.cells.proofs.Forms.Entries.{low8, high8}
 use Prim.Native.Nat.{ℕ, zero, suc, ◌+◌, ◌*◌, ◌/◌, ◌%◌, ◌≤◌, ◌<◌}
 use native.Mathlib.Omega.{arith}
 use native.Mathlib.Numerals.{add-one}
@@ -23,8 +24,8 @@ use Rattle.cells.specs.Edit.{start_at}
 use Rattle.cells.specs.Add.{with_counts, more_nodes, more_links, more_refs, more_junctions, room_for, room_for_junction, add_node, add_ref, add_junction}
 use Rattle.cells.specs.AddLink.{held_at, at_in, inserted, nodes_after, room_for_link, add_link}
 use Rattle.cells.specs.EditedCell.{node_from, ref_from, junction_from, with_nodes, with_refs, with_junctions, link_to, Apart, Inside}
-use Rattle.cells.proofs.Sequences.Tests.{map_append}
-use Rattle.cells.proofs.Editing.EditLaws.{low_byte, high_byte}
+use Rattle.cells.proofs.Sequences.Tests.{same_map}
+use Rattle.std.proofs.lemmas.List.{map-append}
 use Rattle.cells.proofs.Editing.AddLaws.{done_memory, room_inside, junction_room}
 use Rattle.cells.proofs.Editing.Inserted.{accepted}
 use Rattle.cells.proofs.Editing.LinkAdded.{link_added}
@@ -33,7 +34,7 @@ use Rattle.numbers.specs.declared.refusal.Lent.TheVariants as lent
 
 -- one entry more behind n
 more_held : {A B : Type 0} (f : A → B) (n : ℕ) (l : List A) (x : A) → n < length l → map f (take (n + 1) (set l n x)) ≡ map f (take n l) ++ (f x ∷ [])
-more_held f n l x h = rw (add-one, take-suc-set l n x h) (map_append f (take n l) (x ∷ []))
+more_held f n l x h = rw (add-one, take-suc-set l n x h) (map-append f (take n l) (x ∷ []))
 
 -- ---- a node
 
@@ -95,12 +96,8 @@ link_call m p x apart e =
 
 -- ---- a junction
 
-each_same : {A B : Type 0} (f g : A → B) (l : List A) (d : A) → ((q : ℕ) → q < length l → f (get_or l q d) ≡ g (get_or l q d)) → map f l ≡ map g l
-each_same f g [] d h = refl
-each_same {A} {B} f g (x ∷ xs) d h = λ i. h 0 (omega arith) i ∷ each_same f g xs d (λ q lt. h (suc q) (omega arith)) i
-
 -- a range that ends inside is the same with more behind
-part_kept : (s c : ℕ) (P X : List ℕ) → (0 < c → s + c ≤ length P) → take c (drop s (P ++ X)) ≡ take c (drop s P)
+pub part_kept : {A : Type 0} (s c : ℕ) (P X : List A) → (0 < c → s + c ≤ length P) → take c (drop s (P ++ X)) ≡ take c (drop s P)
 part_kept s zero P X h = refl
 part_kept s (suc c) P X h =
     let k = h (omega arith) in
@@ -115,8 +112,8 @@ pub junction_words_law : (hs : List ℕ) (j : PathJunction) (s : ℕ) → j.widt
     → junction_with hs (junction_words (start_at j s)) ≡ junction_from (take (j.width * j.height) (drop s hs)) j
 unfolding junction_words start_at
 junction_words_law hs j s hw hh =
-    let a = low_byte j.width j.height hw in
-    let b = high_byte j.width j.height hw hh in
+    let a = low8 j.width j.height hw in
+    let b = high8 j.width j.height hw hh in
     λ i. record {
       x = to_bits binary32 j.position.x;
       y = to_bits binary32 j.position.y;
@@ -148,7 +145,7 @@ module _ (m : Memory) (j : PathJunction) (values : List ℕ) (wide : j.width < 2
 
   others : h ≤ length m.heights → n ≤ length m.junctions → Inside n h m.junctions
       → map (junction_with (pool ++ values)) (take n m.junctions) ≡ map (junction_with pool) (take n m.junctions)
-  others fits all inside = each_same (junction_with (pool ++ values)) (junction_with pool) (take n m.junctions) [] (λ q lt.
+  others fits all inside = same_map (junction_with (pool ++ values)) (junction_with pool) (take n m.junctions) [] (λ q lt.
       let less : q < n = omega (arith, length-take-le n m.junctions all) in
       let w = get_or-take n m.junctions q [] less in
       rw w (ap (with_values (get_or m.junctions q []))

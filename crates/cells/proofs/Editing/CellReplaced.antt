@@ -1,5 +1,6 @@
 -- The cell's own words, shorter lists, all links of a node and a heightmap, stored in memory, are stored in the cell
 -- that the memory holds.
+use Rattle.cells.proofs.Forms.Entries.{low8, high8}
 use Prim.Native.Nat.{ℕ, ◌*◌, ◌≤◌, ◌<◌}
 use native.Mathlib.Omega.{arith}
 use mathlib.Core.Path.{◌≡◌, refl, ap, sym, ◌∙◌}
@@ -22,8 +23,8 @@ use Rattle.cells.specs.PutLinks.{links_after, links_start, links_call, links_sto
 use Rattle.cells.specs.PutHeightmap.{values_held, values_after, map_start, map_call, map_stored, mapped, put_heightmap}
 use Rattle.cells.specs.StoredCell.{vft_put, vehicles_put, peds_put, unknowns_put, node_linked, links_put, no_junction}
 use Rattle.cells.specs.StoredCell.{junction_at, junction_mapped, heightmap_put, Beside}
-use Rattle.cells.proofs.Sequences.Tests.{map_take}
-use Rattle.cells.proofs.Editing.EditLaws.{held_bound, low_byte, high_byte}
+use Rattle.std.proofs.lemmas.List.{take-map}
+use Rattle.cells.proofs.Editing.EditLaws.{held_bound}
 use Rattle.cells.proofs.Editing.AddLaws.{done_memory}
 use Rattle.cells.proofs.Editing.Inserted.{held_few}
 use Rattle.cells.proofs.Editing.LinkAdded.{node_ranged, with_links}
@@ -55,7 +56,7 @@ module _ (m : Memory) where
 -- ---- shorter lists
 
 shorter : {A B : Type 0} (f : A → B) (k n : ℕ) (xs : List A) → k ≤ n → map f (take k xs) ≡ take k (map f (take n xs))
-shorter f k n xs h = sym (map_take f k (take n xs) ∙ ap (map f) (take-take k n xs h))
+shorter f k n xs h = sym (take-map f k (take n xs) ∙ ap (map f) (take-take k n xs h))
 
 module _ (m : Memory) (k : ℕ) where
   pub nodes_truncated : (truncate_nodes m k).answer ≡ (Ok tt) → cell_of (truncate_nodes m k).memory
@@ -138,7 +139,7 @@ links_put_law m p new beside e =
 map_count : (width height s : ℕ) (w : List ℕ) → width < 256 → height < 256 → value_count (mapped width height s w)
     ≡ width * height
 unfolding mapped
-map_count width height s w hw hh = λ i. low_byte width height hw i * high_byte width height hw hh i
+map_count width height s w hw hh = λ i. low8 width height hw i * high8 width height hw hh i
 
 map_start_law : (width height s : ℕ) (w : List ℕ) → value_start (mapped width height s w) ≡ s
 unfolding mapped
@@ -152,8 +153,8 @@ junction_mapped_law width height s w vs hw hh = λ i. record {
   y = get_or w 1 0;
   low = get_or w 2 0;
   high = get_or w 3 0;
-  width = low_byte width height hw i;
-  height = high_byte width height hw hh i;
+  width = low8 width height hw i;
+  height = high8 width height hw hh i;
   values = vs;
 }
 

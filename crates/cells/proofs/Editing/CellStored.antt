@@ -1,13 +1,15 @@
 -- A call that stores an entry replaces it in the cell that the memory holds.
-use Prim.Native.Nat.{ℕ, zero, suc, ◌*◌, ◌%◌, ◌≤◌, ◌<◌}
+use Rattle.numbers.proofs.Refusing.{not_refused}
+use Rattle.std.proofs.lemmas.List.{get_or-map, map-set}
+use Prim.Native.Nat.{ℕ, ◌*◌, ◌%◌, ◌≤◌, ◌<◌}
 use native.Mathlib.Omega.{arith}
-use mathlib.Core.Path.{◌≡◌, refl, ap, sym, ◌∙◌}
-use mathlib.Core.Bool.{Bool, true, false, not, ◌&&◌}
-use mathlib.Core.List.{List, [], ◌∷◌, map}
+use mathlib.Core.Path.{◌≡◌, ap, sym, ◌∙◌}
+use mathlib.Core.Bool.{Bool, not, ◌&&◌}
+use mathlib.Core.List.{List, [], map}
 use lib.Dec.{eqb, ltb, leb}
 use lib.ListN.{length, get_or, set, take, drop}
 use lib.Seq.{take-set-lt, length-take-le, get_or-take}
-use borrow.Author.Tests.{ltb-false, leb-false, eqb-true}
+use borrow.Author.Tests.{ltb-false, leb-false, eqb-true, not-false}
 use Rattle.numbers.specs.Positions.{quantised, dequantised}
 use Rattle.numbers.specs.declared.math.Vec3.{Vec3}
 use Rattle.records.specs.declared.junction_ref.NodeJunctionRef.{NodeJunctionRef}
@@ -23,9 +25,7 @@ use Rattle.cells.specs.Memory.{Memory, memory, over_limit}
 use Rattle.cells.specs.Edit.{entry_at, node_entry, ref_entry, change_at, range_kept, put_node, set_position, put_ref, value_range, start_at, sized_entry, put_junction}
 use Rattle.cells.specs.EditedCell.{node_from, node_moved, ref_from, junction_from, with_nodes, with_refs, with_junctions}
 use Rattle.cells.proofs.Sequences.Tests.{by_test}
-use Rattle.cells.proofs.Sequences.Filled.{mapped_at}
 use Rattle.cells.proofs.Editing.EditLaws.{lent_false}
-use Rattle.cells.proofs.Editing.AddLaws.{not_done}
 use Rattle.cells.proofs.Forms.Entries.{node_again, byte0, byte1, byte2, word}
 use Rattle.cells.proofs.Editing.CellAdded.{junction_words_law}
 use Rattle.std.specs.Prelude.{Ok}
@@ -34,16 +34,11 @@ use Rattle.numbers.specs.declared.refusal.Lent.TheVariants as lent
 
 -- ---- an entry stored
 
-map_set : {A B : Type 0} (f : A → B) (l : List A) (p : ℕ) (x : A) → map f (set l p x) ≡ set (map f l) p (f x)
-map_set f [] p x = refl
-map_set f (y ∷ ys) zero x = refl
-map_set {A} {B} f (y ∷ ys) (suc p) x = ap (λ (t : List B). f y ∷ t) (map_set f ys p x)
-
 pub set_held : {A B : Type 0} (f : A → B) (n : ℕ) (l : List A) (p : ℕ) (x : A) → p < n → map f (take n (set l p x)) ≡ set (map f (take n l)) p (f x)
-set_held f n l p x h = ap (map f) (take-set-lt n l p x h) ∙ map_set f (take n l) p x
+set_held f n l p x h = ap (map f) (take-set-lt n l p x h) ∙ map-set f (take n l) p x
 
 pub held_at_law : {A B : Type 0} (f : A → B) (n : ℕ) (l : List A) (p : ℕ) (d : A) (e : B) → p < n → n ≤ length l → get_or (map f (take n l)) p e ≡ f (get_or l p d)
-held_at_law f n l p d e h fits = mapped_at f (take n l) p d e (omega (arith, length-take-le n l fits)) ∙ ap f (get_or-take n l p d h)
+held_at_law f n l p d e h fits = get_or-map f (take n l) p d e (omega (arith, length-take-le n l fits)) ∙ ap f (get_or-take n l p d h)
 
 -- what an accepted call has stored
 entry_done : {A : Type 0} (over : Bool) (n : ℕ) (list : Lent) (p : ℕ) (f : A → A) (d : A) (l : List A)
@@ -51,9 +46,9 @@ entry_done : {A : Type 0} (over : Bool) (n : ℕ) (list : Lent) (p : ℕ) (f : A
     → (p < n) × (n ≤ length l) × ((change_at (entry_at over n (length l) list p) f d l).list ≡ set l p (f (get_or l p d)))
 unfolding entry_at
 entry_done over n list p f d l e =
-    by_test (leb n p) (λ t. not_done (rw t at e)) (λ f₀.
-    by_test over (λ t. not_done (rw (f₀, t) at e)) (λ o.
-    by_test (ltb (length l) n) (λ t. not_done (rw (f₀, o, t) at e)) (λ f₁.
+    by_test (leb n p) (λ t. not_refused (rw t at e)) (λ f₀.
+    by_test over (λ t. not_refused (rw (f₀, t) at e)) (λ o.
+    by_test (ltb (length l) n) (λ t. not_refused (rw (f₀, o, t) at e)) (λ f₁.
     (leb-false n p f₀, ltb-false (length l) n f₁, rw (f₀, o, f₁)))))
 
 sized_done : (over : Bool) (n p values held : ℕ) (f : List ℕ → List ℕ) (l : List (List ℕ))
@@ -62,17 +57,13 @@ sized_done : (over : Bool) (n p values held : ℕ) (f : List ℕ → List ℕ) (
     × ((change_at (sized_entry over n (length l) p values held) f [] l).list ≡ set l p (f (get_or l p [])))
 unfolding sized_entry
 sized_done over n p values held f l e =
-    by_test (leb n p) (λ t. not_done (rw t at e)) (λ f₀.
-    by_test over (λ t. not_done (rw (f₀, t) at e)) (λ o.
-    by_test (ltb p (length l) && not (eqb values held)) (λ t. not_done (rw (f₀, o, t) at e)) (λ g.
-    by_test (ltb (length l) n) (λ t. not_done (rw (f₀, o, g, t) at e)) (λ f₁.
+    by_test (leb n p) (λ t. not_refused (rw t at e)) (λ f₀.
+    by_test over (λ t. not_refused (rw (f₀, t) at e)) (λ o.
+    by_test (ltb p (length l) && not (eqb values held)) (λ t. not_refused (rw (f₀, o, t) at e)) (λ g.
+    by_test (ltb (length l) n) (λ t. not_refused (rw (f₀, o, g, t) at e)) (λ f₁.
     let lent : p < length l = omega (arith, leb-false n p f₀, ltb-false (length l) n f₁) in
-    let same = not_not (eqb values held) (lent_false p (length l) (not (eqb values held)) lent g) in
+    let same = not-false (eqb values held) (lent_false p (length l) (not (eqb values held)) lent g) in
     (leb-false n p f₀, eqb-true values held same, ltb-false (length l) n f₁, rw (f₀, o, g, f₁))))))
-  where
-    not_not : (b : Bool) → not b ≡ false → b ≡ true
-    not_not true q = refl
-    not_not false q = sym q
 
 -- ---- nodes
 

@@ -1,4 +1,5 @@
 -- An entry put in at a place of the first l.
+use Rattle.numbers.proofs.Refusing.{not_refused}
 use Prim.Native.Nat.{ℕ, ◌+◌, ◌-◌, ◌≤◌, ◌<◌}
 use native.Mathlib.Omega.{arith}
 use native.Mathlib.Numerals.{add-one}
@@ -6,9 +7,10 @@ use mathlib.Core.Path.{◌≡◌, ap, sym, ◌∙◌}
 use mathlib.Core.Bool.{Bool}
 use mathlib.Core.List.{List, [], ◌∷◌, ◌++◌, append_assoc}
 use lib.Dec.{eqb, ltb, leb}
-use lib.ListN.{length, get_or, set, take, drop, length-append, length-drop}
+use lib.ListN.{length, get_or, set, take, drop}
 use lib.Seq.{paste, take-take, set_at, take-suc, length-take-le}
 use borrow.Author.Rules.{rules}
+use Rattle.std.proofs.lemmas.List.Edits.{length-insert}
 use Rattle.std.proofs.lemmas.Slice.{between_is}
 use borrow.Author.Tests.{ltb-false, leb-false, eqb-false}
 use Rattle.cells.specs.NodeWords.{link_start}
@@ -16,7 +18,6 @@ use Rattle.cells.specs.Edit.{link_range}
 use Rattle.cells.specs.AddLink.{inserted, held_at, behind, room_for_link, LinkRoom}
 use Rattle.cells.proofs.Sequences.Tests.{by_test}
 use Rattle.cells.proofs.Editing.EditLaws.{held_bound}
-use Rattle.cells.proofs.Editing.AddLaws.{not_done}
 use Rattle.std.specs.Prelude.{Ok}
 
 module _ {A : Type 0} (at l : ℕ) (x : A) (xs : List A) (d : A) (inside : at ≤ l) (fits : l < length xs) where
@@ -24,11 +25,10 @@ module _ {A : Type 0} (at l : ℕ) (x : A) (xs : List A) (d : A) (inside : at �
   abbrev pub front : List A
   front = take at (take l xs) ++ (x ∷ drop at (take l xs))
 
-  short : length (take at (take l xs)) ≡ at
-  short = length-take-le at (take l xs) (omega (arith, length-take-le l xs (omega arith)))
-
   pub front_long : length front ≡ l + 1
-  front_long = length-append (take at (take l xs)) (x ∷ drop at (take l xs)) ∙ omega (arith, short, length-drop at (take l xs), length-take-le l xs (omega arith))
+  front_long =
+      let n = length-take-le l xs (omega arith) in
+      length-insert (take l xs) at x (omega (arith, n)) ∙ ap (λ (k : ℕ). k + 1) n
 
 -- the entries from `at` to l, copied one place up, and the new one stored over the first of them
 pub insert_moved : {A : Type 0} (at l : ℕ) (x : A) (xs : List A) (d : A) → at ≤ l → l < length xs
@@ -57,12 +57,12 @@ behind_bound s e l h = by_test (eqb e 0) (λ t. rw t (omega arith, omega arith))
 pub accepted : (over : Bool) (n l p e a b : ℕ) → room_for_link over n l p e a b ≡ (Ok tt) → LinkRoom n l p e a b
 unfolding room_for_link
 accepted over n l p e a b d =
-    by_test (leb n p) (λ t. not_done (rw t at d)) (λ f₀.
-    by_test over (λ t. not_done (rw (f₀, t) at d)) (λ o.
-    by_test (leb 4294967295 l) (λ t. not_done (rw (f₀, o, t) at d)) (λ f₁.
-    by_test (leb 255 e) (λ t. not_done (rw (f₀, o, f₁, t) at d)) (λ f₂.
-    by_test (ltb a n) (λ t. not_done (rw (f₀, o, f₁, f₂, t) at d)) (λ f₃.
-    by_test (leb b l) (λ t. not_done (rw (f₀, o, f₁, f₂, f₃, t) at d)) (λ f₄.
+    by_test (leb n p) (λ t. not_refused (rw t at d)) (λ f₀.
+    by_test over (λ t. not_refused (rw (f₀, t) at d)) (λ o.
+    by_test (leb 4294967295 l) (λ t. not_refused (rw (f₀, o, t) at d)) (λ f₁.
+    by_test (leb 255 e) (λ t. not_refused (rw (f₀, o, f₁, t) at d)) (λ f₂.
+    by_test (ltb a n) (λ t. not_refused (rw (f₀, o, f₁, f₂, t) at d)) (λ f₃.
+    by_test (leb b l) (λ t. not_refused (rw (f₀, o, f₁, f₂, f₃, t) at d)) (λ f₄.
     record { place = leb-false _ _ f₀; few = leb-false _ _ f₁; one_more = leb-false _ _ f₂; nodes_fit = ltb-false _ _ f₃; links_fit = leb-false _ _ f₄ }))))))
 
 pub held_few : (nodes : List (List ℕ)) (p l : ℕ) → held_at nodes p l ≤ l - link_start (get_or nodes p [])

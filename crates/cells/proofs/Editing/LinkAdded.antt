@@ -1,4 +1,5 @@
 -- Adding a link in memory adds it to the cell that the memory holds.
+use Rattle.std.proofs.lemmas.List.{get_or-map, take_min, take-map, drop-map, map-append}
 use Prim.Native.Nat.{ℕ, zero, suc, ◌+◌, ◌-◌, ◌*◌, ◌/◌, ◌%◌, ◌≤◌, ◌<◌, min}
 use native.Mathlib.Omega.{arith}
 use native.Mathlib.Numerals.{add-one}
@@ -7,7 +8,7 @@ use mathlib.Core.Logic.{◌⊎◌, inl, inr, ⊎_elim}
 use mathlib.Core.List.{List, [], ◌∷◌, ◌++◌, map}
 use lib.Dec.{eqb, ltb, leb}
 use lib.ListN.{length, get_or, take, drop, length-append, length-drop, length-map, length-set, get_or-append}
-use lib.Seq.{take_at, get_or-take, length-take-le, get_or-set_same, get_or-set_other, ext_get_or, take_all, get_or-drop}
+use lib.Seq.{take_at, get_or-take, length-take-le, get_or-set_same, get_or-set_other, ext_get_or, take-append-le, take-take, get_or-drop}
 use borrow.Author.Tests.{ne_eqb, ltb-true, ltb-false, leb-true, leb-false, eqb-true, eqb-false}
 use Rattle.cells.specs.NodeWords.{area_of, number_of, link_start, link_count}
 use Rattle.cells.specs.Cell.{Link, Node, no_node, node_at}
@@ -17,9 +18,8 @@ use Rattle.cells.specs.Words.{to_node}
 use Rattle.cells.specs.Edit.{held_in}
 use Rattle.cells.specs.AddLink.{held_at, behind, at_in, inserted, ranged, shifted, nodes_after}
 use Rattle.cells.specs.EditedCell.{with_link, add_to, Apart}
-use Rattle.cells.proofs.Sequences.Tests.{by_test, map_take, map_drop, map_append}
+use Rattle.cells.proofs.Sequences.Tests.{by_test}
 use Rattle.cells.proofs.Editing.EditLaws.{held_bound}
-use Rattle.cells.proofs.Sequences.Filled.{mapped_at}
 use Rattle.cells.proofs.Editing.Inserted.{front, front_long, held_few, behind_bound}
 
 -- how many of c links from s are among l
@@ -37,10 +37,9 @@ module _ {A : Type 0} where
   ins at y P = take at P ++ (y ∷ drop at P)
 
   part_front : (c at : ℕ) (y : A) (P : List A) → c ≤ at → at ≤ length P → take c (ins at y P) ≡ take c P
-  part_front zero at y P h k = refl
-  part_front (suc c) zero y P h k = absurd (omega arith)
-  part_front (suc c) (suc at) y [] h k = absurd (omega arith)
-  part_front (suc c) (suc at) y (x ∷ xs) h k = ap (λ (t : List A). x ∷ t) (part_front c at y xs (omega arith) (omega arith))
+  part_front c at y P h k =
+      let n = length-take-le at P k in
+      take-append-le c (take at P) (y ∷ drop at P) (omega (arith, n)) ∙ take-take c at P h
 
   -- a range before it
   part_before : (s c at : ℕ) (y : A) (P : List A) → s + c ≤ at → at ≤ length P → take c (drop s (ins at y P)) ≡ take c (drop s P)
@@ -74,13 +73,7 @@ module _ {A : Type 0} where
   -- the elements of a range that are there
   part_held : (s c : ℕ) (P : List A) → take (held s c (length P)) (drop s P) ≡ take c (drop s P)
   unfolding held_in
-  part_held s c P = by_test (ltb (length P - s) c)
-      (λ t. let lt : length P - s < c = ltb-true (length P - s) c t in
-      let e : min c (length P - s) ≡ length P - s = omega arith in
-      rw e (take_all (length P - s) (drop s P) (rw length-drop (omega arith)) ∙ sym (take_all c (drop s P) (rw length-drop (omega arith)))))
-      (λ f. let le : c ≤ length P - s = ltb-false (length P - s) c f in
-      let e : min c (length P - s) ≡ c = omega arith in
-      rw e refl)
+  part_held s c P = ap (λ (n : ℕ). take (min c n) (drop s P)) (sym (length-drop s P)) ∙ take_min c (drop s P)
 
 -- ---- a node with another range
 
@@ -195,8 +188,8 @@ module _ (n l p : ℕ) (nodes links : List (List ℕ)) (x : List ℕ) (place : p
   unfolding inserted
   pool_new =
       ap (map link_of) (take_at (front at l x links [] at_few.0 links-fit) (drop (l + 1) links) (l + 1) (front_long at l x links [] at_few.0 links-fit))
-      ∙ map_append link_of (take at (take l links)) (x ∷ drop at (take l links))
-      ∙ sym (λ i. map_take link_of at (take l links) i ++ (link_of x ∷ map_drop link_of at (take l links) i))
+      ∙ map-append link_of (take at (take l links)) (x ∷ drop at (take l links))
+      ∙ sym (λ i. take-map link_of at (take l links) i ++ (link_of x ∷ drop-map link_of at (take l links) i))
 
   -- where another node's range lies
   lies : (q : ℕ) → q < n → (q ≡ p → ⊥) → 0 < link_count (get_or nodes q [])
@@ -208,30 +201,27 @@ module _ (n l p : ℕ) (nodes links : List (List ℕ)) (x : List ℕ) (place : p
       rw f (⊎_elim (λ h. inl (omega arith)) (λ h. inr (h, omega (arith, apart.inside q lt ne some))) (apart.apart q lt ne some (omega arith))))
 
   -- the words afterwards
+  moved_long : length (map (shifted at l) (take n nodes)) ≡ n
+  moved_long = length-map (take n nodes) (shifted at l) ∙ length-take-le n nodes nodes-fit
+
   word_own : get_or (nodes_after n l p nodes) p [] ≡ ranged (at - held_at nodes p l) (held_at nodes p l + 1) own
   unfolding nodes_after
   word_own = get_or-set_same (map (shifted at l) (take n nodes) ++ drop n nodes) p (ranged (at - held_at nodes p l) (held_at nodes p l + 1) own) []
       (omega (arith, length-append (map (shifted at l) (take n nodes)) (drop n nodes), moved_long))
-    where
-      moved_long : length (map (shifted at l) (take n nodes)) ≡ n
-      moved_long = length-map (take n nodes) (shifted at l) ∙ length-take-le n nodes nodes-fit
 
   word_other : (q : ℕ) → q < n → (q ≡ p → ⊥) → get_or (nodes_after n l p nodes) q [] ≡ shifted at l (get_or nodes q [])
   unfolding nodes_after
   word_other q lt ne =
       get_or-set_other (map (shifted at l) (take n nodes) ++ drop n nodes) p q (ranged (at - held_at nodes p l) (held_at nodes p l + 1) own) [] ne
       ∙ get_or-append (map (shifted at l) (take n nodes)) (drop n nodes) [] q (omega (arith, moved_long))
-      ∙ mapped_at (shifted at l) (take n nodes) q [] [] (omega (arith, length-take-le n nodes nodes-fit))
+      ∙ get_or-map (shifted at l) (take n nodes) q [] [] (omega (arith, length-take-le n nodes nodes-fit))
       ∙ ap (shifted at l) (get_or-take n nodes q [] lt)
-    where
-      moved_long : length (map (shifted at l) (take n nodes)) ≡ n
-      moved_long = length-map (take n nodes) (shifted at l) ∙ length-take-le n nodes nodes-fit
 
   after_long : length (nodes_after n l p nodes) ≡ length nodes
   unfolding nodes_after
   after_long = length-set (map (shifted at l) (take n nodes) ++ drop n nodes) p (ranged (at - held_at nodes p l) (held_at nodes p l + 1) own)
       ∙ length-append (map (shifted at l) (take n nodes)) (drop n nodes)
-      ∙ omega (arith, length-map (take n nodes) (shifted at l), length-take-le n nodes nodes-fit, length-drop n nodes)
+      ∙ omega (arith, moved_long, length-drop n nodes)
 
   -- the nodes before and afterwards
   abbrev before : List Node
@@ -241,11 +231,11 @@ module _ (n l p : ℕ) (nodes links : List (List ℕ)) (x : List ℕ) (place : p
   after = nodes_over n (nodes_after n l p nodes) (l + 1) (inserted at l x links)
 
   before_at : (q : ℕ) → q < n → get_or before q no_node ≡ node_with pool (get_or nodes q [])
-  before_at q lt = mapped_at (node_with pool) (take n nodes) q [] no_node (omega (arith, length-take-le n nodes nodes-fit)) ∙ ap (node_with pool) (get_or-take n nodes q [] lt)
+  before_at q lt = get_or-map (node_with pool) (take n nodes) q [] no_node (omega (arith, length-take-le n nodes nodes-fit)) ∙ ap (node_with pool) (get_or-take n nodes q [] lt)
 
   after_at : (q : ℕ) → q < n → get_or after q no_node ≡ node_with (ins at (link_of x) pool) (get_or (nodes_after n l p nodes) q [])
   after_at q lt =
-      mapped_at (node_with (map link_of (take (l + 1) (inserted at l x links)))) (take n (nodes_after n l p nodes)) q [] no_node (omega (arith, length-take-le n (nodes_after n l p nodes) (omega (arith, after_long))))
+      get_or-map (node_with (map link_of (take (l + 1) (inserted at l x links)))) (take n (nodes_after n l p nodes)) q [] no_node (omega (arith, length-take-le n (nodes_after n l p nodes) (omega (arith, after_long))))
       ∙ (λ i. node_with (pool_new i) (get_or-take n (nodes_after n l p nodes) q [] lt i))
 
   node_own : get_or after p no_node ≡ with_link (link_of x) (node_at before p)

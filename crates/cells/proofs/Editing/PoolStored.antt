@@ -1,5 +1,6 @@
 -- A link or a heightmap value stored: it changes in its own node or junction, and in no other whose range it does not lie in.
-use Prim.Native.Nat.{ℕ, zero, suc, ◌+◌, ◌≤◌, ◌<◌}
+use Rattle.numbers.proofs.Refusing.{not_refused}
+use Prim.Native.Nat.{ℕ, zero, suc, ◌+◌, ◌-◌, ◌≤◌, ◌<◌}
 use native.Mathlib.Omega.{arith}
 use mathlib.Core.Path.{◌≡◌, refl, ap, sym, ◌∙◌}
 use mathlib.Core.Logic.{◌⊎◌, ⊎_elim}
@@ -7,7 +8,7 @@ use mathlib.Core.Bool.{Bool, ◌&&◌}
 use mathlib.Core.List.{List, [], ◌∷◌, map}
 use lib.Dec.{ltb, leb}
 use lib.ListN.{length, get_or, set, take, drop}
-use lib.Seq.{take-set-le, take-set-lt, length-take-le, get_or-take}
+use lib.Seq.{take-set-le, take-set-lt, drop-set-lt, drop-set-add, length-take-le, get_or-take}
 use borrow.Author.Tests.{ltb-false, leb-false}
 use Rattle.cells.specs.declared.range.Range.{Range}
 use Rattle.cells.specs.declared.link.PathLink.{PathLink}
@@ -18,9 +19,8 @@ use Rattle.cells.specs.CellOf.{link_of, node_with, junction_with, nodes_of, junc
 use Rattle.cells.specs.Memory.{Memory, memory, over_limit}
 use Rattle.cells.specs.Edit.{range_entry, held_in, link_range, value_range, link_entry, height_entry, change_at, put_link, put_height}
 use Rattle.cells.specs.EditedCell.{with_nodes, with_junctions, link_changed, height_changed, Alone}
-use Rattle.cells.proofs.Sequences.Tests.{by_test}
+use Rattle.cells.proofs.Sequences.Tests.{by_test, same_map}
 use Rattle.cells.proofs.Editing.EditLaws.{lent_false, held_bound}
-use Rattle.cells.proofs.Editing.AddLaws.{not_done}
 use Rattle.cells.proofs.Editing.LinkAdded.{with_links}
 use Rattle.cells.proofs.Editing.CellAdded.{with_values}
 use Rattle.cells.proofs.Editing.CellStored.{set_held, held_at_law}
@@ -30,38 +30,28 @@ use Rattle.numbers.specs.declared.refusal.Lent.TheVariants as lent
 
 module _ {A : Type 0} where
   part_before : (s c i : ℕ) (y : A) (P : List A) → s + c ≤ i → take c (drop s (set P i y)) ≡ take c (drop s P)
-  part_before zero c i y P h = take-set-le c P i y (omega arith)
-  part_before (suc s) c i y [] h = refl
-  part_before (suc s) c zero y (x ∷ xs) h = absurd (omega arith)
-  part_before (suc s) c (suc i) y (x ∷ xs) h = part_before s c i y xs (omega arith)
-
-  rest_behind : (s i : ℕ) (y : A) (P : List A) → i < s → drop s (set P i y) ≡ drop s P
-  rest_behind zero i y P h = absurd (omega arith)
-  rest_behind (suc s) i y [] h = refl
-  rest_behind (suc s) zero y (x ∷ xs) h = refl
-  rest_behind (suc s) (suc i) y (x ∷ xs) h = rest_behind s i y xs (omega arith)
+  part_before s c i y P h =
+      let e : s + (i - s) ≡ i = omega arith in
+      ap (λ (j : ℕ). take c (drop s (set P j y))) (sym e)
+      ∙ ap (take c) (drop-set-add s P (i - s) y)
+      ∙ take-set-le c (drop s P) (i - s) y (omega arith)
 
   -- a range that the place i does not lie in
   part_apart : (s c i : ℕ) (y : A) (P : List A) → (s + c ≤ i) ⊎ (i < s) → take c (drop s (set P i y)) ≡ take c (drop s P)
-  part_apart s c i y P h = ⊎_elim (part_before s c i y P) (λ lt. ap (take c) (rest_behind s i y P lt)) h
+  part_apart s c i y P h = ⊎_elim (part_before s c i y P) (λ lt. ap (take c) (drop-set-lt s P i y lt)) h
 
   -- the range in which it is entry k
   part_own : (s c k i : ℕ) (y : A) (P : List A) → s + k ≡ i → k < c → take c (drop s (set P i y)) ≡ set (take c (drop s P)) k y
-  part_own zero c k i y P e h = let q : i ≡ k = omega arith in rw q (take-set-lt c P k y h)
-  part_own (suc s) (suc c) k i y [] e h = refl
-  part_own (suc s) zero k i y [] e h = refl
-  part_own (suc s) c k zero y (x ∷ xs) e h = absurd (omega arith)
-  part_own (suc s) c k (suc i) y (x ∷ xs) e h = part_own s c k i y xs (omega arith) h
+  part_own s c k i y P e h =
+      ap (λ (j : ℕ). take c (drop s (set P j y))) (sym e)
+      ∙ ap (take c) (drop-set-add s P k y)
+      ∙ take-set-lt c (drop s P) k y h
 
 -- all but one stay
 pub change_one : {A B : Type 0} (f g : A → B) (l : List A) (p : ℕ) (d : A) (z : B) → p < length l
     → ((q : ℕ) → q < length l → (q ≡ p → ⊥) → g (get_or l q d) ≡ f (get_or l q d)) → g (get_or l p d) ≡ z → map g l ≡ set (map f l) p z
 change_one f g [] p d z h other own = absurd (omega arith)
-change_one {A} {B} f g (x ∷ xs) zero d z h other own = λ i. own i ∷ each xs (λ q lt. other (suc q) (omega arith) (λ e. absurd (omega (arith, e)))) i
-  where
-    each : (l : List A) → ((q : ℕ) → q < length l → g (get_or l q d) ≡ f (get_or l q d)) → map g l ≡ map f l
-    each [] h = refl
-    each (y ∷ ys) h = λ i. h 0 (omega arith) i ∷ each ys (λ q lt. h (suc q) (omega arith)) i
+change_one {A} {B} f g (x ∷ xs) zero d z h other own = λ i. own i ∷ same_map g f xs d (λ q lt. other (suc q) (omega arith) (λ e. absurd (omega (arith, e)))) i
 change_one f g (x ∷ xs) (suc p) d z h other own =
     λ i. other 0 (omega arith) (λ e. absurd (omega (arith, e))) i ∷ change_one f g xs p d z (omega arith) (λ q lt ne. other (suc q) (omega arith) (λ e. ne (omega (arith, e)))) own i
 
@@ -88,11 +78,11 @@ range_done : {A : Type 0} (over : Bool) (n len : ℕ) (list : Lent) (l : ℕ) (v
     × ((change_at (range_entry over n len list l (length xs) values p r k) f d xs).list ≡ set xs (r.start + k) (f (get_or xs (r.start + k) d)))
 unfolding range_entry
 range_done over n len list l values p k r f d xs e =
-    by_test (leb n p) (λ t. not_done (rw t at e)) (λ f₀.
-    by_test (ltb p len && leb (held_in r l) k) (λ t. not_done (rw (f₀, t) at e)) (λ f₁.
-    by_test over (λ t. not_done (rw (f₀, f₁, t) at e)) (λ o.
-    by_test (ltb len n) (λ t. not_done (rw (f₀, f₁, o, t) at e)) (λ f₂.
-    by_test (ltb (length xs) l) (λ t. not_done (rw (f₀, f₁, o, f₂, t) at e)) (λ f₃.
+    by_test (leb n p) (λ t. not_refused (rw t at e)) (λ f₀.
+    by_test (ltb p len && leb (held_in r l) k) (λ t. not_refused (rw (f₀, t) at e)) (λ f₁.
+    by_test over (λ t. not_refused (rw (f₀, f₁, t) at e)) (λ o.
+    by_test (ltb len n) (λ t. not_refused (rw (f₀, f₁, o, t) at e)) (λ f₂.
+    by_test (ltb (length xs) l) (λ t. not_refused (rw (f₀, f₁, o, f₂, t) at e)) (λ f₃.
     let lent : p < len = omega (arith, leb-false n p f₀, ltb-false len n f₂) in
     let h = leb-false (held_in r l) k (lent_false p len (leb (held_in r l) k) lent f₁) in
     let b = held_bound r l in

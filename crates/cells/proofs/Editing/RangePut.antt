@@ -1,20 +1,24 @@
 -- A part of a pool put in place of another: what was put is there, ranges that lie apart from it stay.
+use Rattle.cells.proofs.Editing.CellAdded.{part_kept}
 use Prim.Native.Nat.{ℕ, zero, suc, ◌+◌, ◌-◌, ◌≤◌, ◌<◌}
 use native.Mathlib.Omega.{arith}
+use native.Mathlib.Nat.{pos_of_ne-zero}
+use Rattle.std.proofs.lemmas.Slice.{between_is, drop-append-drop}
 use mathlib.Core.Path.{◌≡◌, refl, ap, sym, ◌∙◌}
 use mathlib.Core.Logic.{⊎_elim}
 use mathlib.Core.List.{List, [], ◌∷◌, ◌++◌, map, append_assoc}
 use lib.Dec.{eqb, leb}
-use lib.ListN.{length, get_or, set, take, drop, length-append, length-drop, length-map, take-append-drop}
-use lib.Seq.{take-nil, take-take, take-append_seam, take-append-le, take-append-add, drop-append-le, drop-append-add}
-use lib.Seq.{drop_at, drop-drop, length-take-le, get_or-take, set-set}
+use lib.ListN.{length, get_or, set, take, drop, length-append, length-map, take-append-drop}
+use lib.Seq.{take-take, take-append_seam, take-append-add}
+use lib.Seq.{drop_at, length-take-le, get_or-take, set-set}
 use borrow.Author.Tests.{leb-true, leb-false, eqb-true, eqb-false}
 use Rattle.records.specs.Put.{put}
 use Rattle.records.proofs.Puts.{put_nil}
 use Rattle.cells.specs.Edit.{held_in}
 use Rattle.cells.specs.Replace.{place_for, pool_after}
 use Rattle.cells.specs.StoredCell.{Beside}
-use Rattle.cells.proofs.Sequences.Tests.{by_test, map_take, map_drop, map_append}
+use Rattle.cells.proofs.Sequences.Tests.{by_test}
+use Rattle.std.proofs.lemmas.List.{take-map, drop-map, map-append}
 use Rattle.cells.proofs.Editing.EditLaws.{held_bound}
 use Rattle.cells.proofs.Editing.CellStored.{set_held}
 use Rattle.cells.proofs.Editing.PoolStored.{change_one}
@@ -34,10 +38,6 @@ module _ {A : Type 0} where
       ∙ ap (take (length X)) (drop_at (take at P) (X ++ rest) at (length-take-le at P h))
       ∙ take-append_seam X rest
 
-  part_front : (s c : ℕ) (F Y : List A) → s + c ≤ length F → take c (drop s (F ++ Y)) ≡ take c (drop s F)
-  part_front s c F Y h = ap (take c) (drop-append-le s F Y (omega arith))
-      ∙ take-append-le c (drop s F) Y (omega (arith, length-drop s F))
-
   -- a range before it
   put_before : (s c : ℕ) (P : List A) (at : ℕ) (X : List A) → at ≤ length P → s + c ≤ at
       → take c (drop s (put P at X)) ≡ take c (drop s P)
@@ -46,29 +46,15 @@ module _ {A : Type 0} where
       let rest = drop (at + length X) P in
       let inside : s + c ≤ length (take at P) = omega (arith, length-take-le at P h) in
       ap (λ (t : List A). take c (drop s t)) (append_assoc (take at P) X rest)
-      ∙ part_front s c (take at P) (X ++ rest) inside
+      ∙ part_kept s c (take at P) (X ++ rest) (λ _. inside)
       ∙ sym (ap (λ (t : List A). take c (drop s t)) (sym (take-append-drop at P))
-      ∙ part_front s c (take at P) (drop at P) inside)
+      ∙ part_kept s c (take at P) (drop at P) (λ _. inside))
 
   -- what lies behind it
   put_behind : (s : ℕ) (P : List A) (at : ℕ) (X : List A) → at ≤ length P → at + length X ≤ s → drop s (put P at X)
       ≡ drop s P
   unfolding put
-  put_behind s P at X h behind =
-      let k = at + length X in
-      let e : s ≡ length (take at P ++ X) + (s - k) = omega (arith, front_long P at X h) in
-      let e' : k + (s - k) ≡ s = omega arith in
-      ap (λ (j : ℕ). drop j ((take at P ++ X) ++ drop k P)) e
-      ∙ drop-append-add (take at P ++ X) (drop k P) (s - k)
-      ∙ drop-drop (s - k) k P
-      ∙ ap (λ (j : ℕ). drop j P) e'
-
-  drop_take : (k l : ℕ) (xs : List A) → drop k (take l xs) ≡ take (l - k) (drop k xs)
-  drop_take zero l xs = let e : l ≡ l - 0 = omega arith in ap (λ (j : ℕ). take j xs) e
-  drop_take (suc k) zero xs = let e : 0 ≡ 0 - suc k = omega arith in ap (λ (j : ℕ). take j (drop (suc k) xs)) e
-  drop_take (suc k) (suc l) [] = sym (take-nil (suc l - suc k))
-  drop_take (suc k) (suc l) (x ∷ xs) = let e : l - k ≡ suc l - suc k = omega arith in drop_take k l xs
-      ∙ ap (λ (j : ℕ). take j (drop k xs)) e
+  put_behind s P at X h behind = drop-append-drop (at + length X) P (take at P ++ X) s behind (front_long P at X h)
 
   -- of a list's first l entries: put into the list is put into them, and they are so many more as it ends behind them
   pub pool_put : (l after at : ℕ) (xs X : List A) → at ≤ l → l ≤ length xs → at + length X ≤ after
@@ -81,14 +67,14 @@ module _ {A : Type 0} where
       let e : after ≡ length front + (l - k) = omega (arith, front_long xs at X (omega arith), same) in
       ap (λ (j : ℕ). take j (front ++ drop k xs)) e
       ∙ take-append-add front (drop k xs) (l - k)
-      ∙ sym (λ i. (take-take at l xs h i ++ X) ++ drop_take k l xs i)
+      ∙ (λ i. (sym (take-take at l xs h) i ++ X) ++ between_is xs k l i)
 
   -- the same by where new entries go
   pub pool_replaced : (s e c l : ℕ) (xs X : List A) → e ≤ l - s → l ≤ length xs → length X ≡ c
       → take (pool_after e c l) (put xs (place_for s e c l) X) ≡ put (take l xs) (place_for s e c l) X
   pool_replaced s e c l xs X h fits many =
       let p = placing s e c l h in
-      pool_put l (pool_after e c l) (place_for s e c l) xs X p.starts fits (omega (arith, p.ends, many))
+      pool_put l (pool_after e c l) (place_for s e c l) xs X p.0 fits (omega (arith, p.1, many))
       (by_test (leb c e)
       (λ t. let q = same_pool e c l (leb-true c e t) in omega (arith, q))
       (λ f. let lt = leb-false c e f in
@@ -98,9 +84,9 @@ pub map_put : {A B : Type 0} (f : A → B) (xs : List A) (at : ℕ) (X : List A)
     ≡ put (map f xs) at (map f X)
 unfolding put
 map_put f xs at X =
-    map_append f (take at xs ++ X) (drop (at + length X) xs)
-    ∙ (λ i. map_append f (take at xs) X i ++ sym (map_drop f (at + length X) xs) i)
-    ∙ (λ i. (sym (map_take f at xs) i ++ map f X) ++ drop (at + sym (length-map X f) i) (map f xs))
+    map-append f (take at xs ++ X) (drop (at + length X) xs)
+    ∙ (λ i. map-append f (take at xs) X i ++ sym (drop-map f (at + length X) xs) i)
+    ∙ (λ i. (sym (take-map f at xs) i ++ map f X) ++ drop (at + sym (length-map X f) i) (map f xs))
 
 -- n owners, each with its part of the pool P, of l entries; the owner at p gets X
 module _ {B C : Type 0} (start count : List ℕ → ℕ) (make : List ℕ → List B → C) (n l p c : ℕ) (owners : List (List ℕ))
@@ -124,7 +110,7 @@ module _ {B C : Type 0} (start count : List ℕ → ℕ) (make : List ℕ → Li
     arith,
     long,
     (placing (start own) held c l
-        (held_bound (record { start = start own; count = count own }) l).0).starts,
+        (held_bound (record { start = start own; count = count own }) l).0).0,
   )
 
   abbrev part : List B → ℕ → List B
@@ -150,10 +136,10 @@ module _ {B C : Type 0} (start count : List ℕ → ℕ) (make : List ℕ → Li
   other q lt ne =
       by_test (eqb (count (get_or owners q [])) 0)
       (λ z. nothing (count (get_or owners q [])) _ _ (eqb-true _ 0 z))
-      (λ nz. let some : 0 < count (get_or owners q []) = positive _ (eqb-false _ 0 nz) in
+      (λ nz. let some : 0 < count (get_or owners q []) = pos_of_ne-zero (eqb-false _ 0 nz) in
       by_test (eqb c 0)
       (λ z. ap (λ (Q : List B). part Q q) (empty X at (many ∙ eqb-true c 0 z)))
-      (λ nc. let more : 0 < c = positive c (eqb-false c 0 nc) in
+      (λ nc. let more : 0 < c = pos_of_ne-zero (eqb-false c 0 nc) in
       by_test (leb c held)
       (λ t. let le = leb-true c held t in
       let is = in_place (start own) held c l more le in
@@ -161,10 +147,6 @@ module _ {B C : Type 0} (start count : List ℕ → ℕ) (make : List ℕ → Li
       (beside.apart q lt ne some (omega arith)))
       (λ f. let is = behind_all (start own) held c l (leb-false c held f) in
       before q (omega (arith, is, beside.inside q lt ne some)))))
-    where
-      positive : (k : ℕ) → (k ≡ 0 → ⊥) → 0 < k
-      positive zero h = absurd (h refl)
-      positive (suc k) h = omega arith
 
   -- the owner at p has X, and no other owner's entries are others
   pub replaced : (x : List ℕ) (z : C) → start x ≡ at → count x ≡ c → make x X ≡ z

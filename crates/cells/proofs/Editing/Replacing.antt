@@ -69,19 +69,15 @@ unfolding pool_after
 more_pool e c l lt = rw (lt-leb c e lt) refl
 
 -- they start inside what there was, and end inside what there is
-pub record Placing (s e c l : ℕ) : Type 0 where
-  pub starts : place_for s e c l ≤ l
-  pub ends : place_for s e c l + c ≤ pool_after e c l
-
-pub placing : (s e c l : ℕ) → e ≤ l - s → Placing s e c l
-placing s e zero l h = record { starts = omega (arith, cleared s e l); ends = omega (arith, cleared s e l) }
+pub placing : (s e c l : ℕ) → e ≤ l - s → (place_for s e c l ≤ l) × (place_for s e c l + c ≤ pool_after e c l)
+placing s e zero l h = (omega (arith, cleared s e l), omega (arith, cleared s e l))
 placing s e (suc c) l h = by_test (leb (suc c) e)
     (λ t. let le = leb-true (suc c) e t in
     let at = in_place s e (suc c) l (omega arith) le in
-    record { starts = omega (arith, at); ends = omega (arith, at, same_pool e (suc c) l le) })
+    (omega (arith, at), omega (arith, at, same_pool e (suc c) l le)))
     (λ f. let lt = leb-false (suc c) e f in
     let at = behind_all s e (suc c) l lt in
-    record { starts = omega (arith, at); ends = omega (arith, at, more_pool e (suc c) l lt) })
+    (omega (arith, at), omega (arith, at, more_pool e (suc c) l lt)))
 
 pub pool_grows : (e c l : ℕ) → l ≤ pool_after e c l
 pool_grows e c l = by_test (leb c e)

@@ -112,10 +112,6 @@ link_fits w = record { area_id = omega arith; node_id = omega arith; flags0 = om
 pub link_again : (w : List ℕ) → to_link (link_words (to_link w)) ≡ to_link w
 link_again w = link_back (to_link w) (link_fits w)
 
-pub link_length_law : (l : PathLink) → length (link_words l) ≡ 4
-unfolding link_words
-link_length_law l = refl
-
 -- ---- junctions
 
 pub junction_back : (j : PathJunction) → JunctionFits j → to_junction (junction_words j) ≡ j
@@ -144,10 +140,6 @@ junction_fits w = record {
 pub junction_again : (w : List ℕ) → to_junction (junction_words (to_junction w)) ≡ to_junction w
 junction_again w = junction_back (to_junction w) (junction_fits w)
 
-pub junction_length : (j : PathJunction) → length (junction_words j) ≡ 6
-unfolding junction_words
-junction_length j = refl
-
 -- ---- refs
 
 pub ref_back : (r : NodeJunctionRef) → RefFits r → to_ref (ref_words r) ≡ r
@@ -160,7 +152,3 @@ ref_fits_law w = record { area_id = omega arith; node_id = omega arith; junction
 
 pub ref_again : (w : List ℕ) → to_ref (ref_words (to_ref w)) ≡ to_ref w
 ref_again w = ref_back (to_ref w) (ref_fits_law w)
-
-pub ref_length : (r : NodeJunctionRef) → length (ref_words r) ≡ 4
-unfolding ref_words
-ref_length r = refl

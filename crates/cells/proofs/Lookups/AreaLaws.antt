@@ -3,7 +3,8 @@
 use Prim.Native.Nat.{ℕ, zero, suc, ◌<◌}
 use native.Mathlib.Omega.{arith}
 use mathlib.Core.Path.{◌≡◌, refl, ap, sym, ◌∙◌}
-use mathlib.Core.Bool.{Bool, true, false, ◌||◌}
+use mathlib.Core.Bool.{true, false}
+use Rattle.std.proofs.Math.Bool.{or-false}
 use mathlib.Core.List.{List, [], ◌∷◌}
 use lib.Dec.{eqb}
 use lib.ListN.{length, get_or, take}
@@ -55,11 +56,7 @@ ref_own own x = by_test (belongs own x) (λ t. rw t (eq-eqb own own refl)) (λ f
 module _ (own : ℕ) (bare : is_island_area own ≡ false) where
   pub belongs_mainland : (x : ℕ) → belongs own x ≡ eqb x own
   unfolding belongs
-  belongs_mainland x = rw bare (go (eqb x own))
-    where
-      go : (b : Bool) → b || false ≡ b
-      go true = refl
-      go false = refl
+  belongs_mainland x = rw bare (or-false (eqb x own))
 
   pub ref_mainland : (x a : ℕ) → ref_for own x a ≡ eqb x a
   unfolding ref_for

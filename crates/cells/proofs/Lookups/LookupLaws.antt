@@ -6,7 +6,7 @@ use mathlib.Core.Bool.{Bool, true, false}
 use mathlib.Core.List.{List, [], ◌∷◌, map}
 use mathlib.Core.Option.{Option, none, some}
 use lib.Dec.{ltb}
-use lib.ListN.{length, get_or, get_elem?, take, length-map, get_or-map}
+use lib.ListN.{length, get_or, get_elem?, take, length-map, get_or-map, length-take}
 use lib.Seq.{take_all, length-take-le, get_or-take}
 use borrow.Author.Tests.{eq-eqb, ne_eqb, lt-ltb, le-ltb, ltb-false}
 use Rattle.cells.specs.NodeWords.{number_of, first_area}
@@ -141,15 +141,10 @@ past_none [] j h = refl
 past_none (x ∷ xs) zero h = absurd (omega arith)
 past_none (x ∷ xs) (suc j) h = past_none xs j (omega arith)
 
-take_few : {A : Type 0} (n : ℕ) (l : List A) → length (take n l) ≤ n
-take_few zero l = omega arith
-take_few (suc n) [] = omega arith
-take_few (suc n) (x ∷ xs) = let h = take_few n xs in omega arith
-
 junctions_few : (m : Memory) → length (junctions_of m) ≤ m.ynd.junction_count
 unfolding junctions_of
 junctions_few m =
-    omega (arith, length-map (take m.ynd.junction_count m.junctions) (junction_with (take m.ynd.heightmap_count m.heights)), take_few m.ynd.junction_count m.junctions)
+    omega (arith, length-map (take m.ynd.junction_count m.junctions) (junction_with (take m.ynd.heightmap_count m.heights)), length-take m.ynd.junction_count m.junctions)
 
 -- the junction at the place that `junction_of` gives is the cell's
 pub junction_held : (m : Memory) (a k : ℕ) → over_limit m.ynd ≡ false → m.ynd.node_count ≤ length m.nodes → m.ynd.ref_count ≤ length m.refs

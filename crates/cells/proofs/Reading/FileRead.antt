@@ -29,7 +29,7 @@ use Rattle.records.specs.declared.root.Root.{Root}
 use Rattle.records.specs.declared.section.Part.{Part}
 use Rattle.cells.specs.declared.count.Counts.{Counts}
 use Rattle.records.specs.declared.node.Node as raw-node
-use Rattle.cells.proofs.Sequences.Tests.{map_take, map_drop, map_append}
+use Rattle.std.proofs.lemmas.List.{take-map, drop-map, map-append}
 use Rattle.cells.proofs.Reading.ReadLaws.{length_up_to, length_join_to, own_part, length_links, length_values, Holds, holds}
 use Rattle.std.specs.Prelude.{Result, Ok, Err, Option, Some, None}
 use Rattle.numbers.specs.Refusals.{Answer}
@@ -47,7 +47,7 @@ up_to_same f g (suc n) e = λ k. up_to_same f g n (λ i h. e i (omega arith)) k 
 pub map_up_to : {A B : Type 0} (h : A → B) (f : ℕ → A) (n : ℕ) → map h (up_to f n) ≡ up_to (λ i. h (f i)) n
 unfolding up_to
 map_up_to h f zero = refl
-map_up_to {B = B} h f (suc n) = map_append h (up_to f n) (f n ∷ []) ∙ ap (λ (l : List B). l ++ (h (f n) ∷ [])) (map_up_to h f n)
+map_up_to {B = B} h f (suc n) = map-append h (up_to f n) (f n ∷ []) ∙ ap (λ (l : List B). l ++ (h (f n) ∷ [])) (map_up_to h f n)
 
 -- ---- the words of each record
 
@@ -134,7 +134,7 @@ node_one n l count i h =
     ∙ (λ k. record {
       area = r.area_id;
       number = r.node_id;
-      links = (ap (take c) (map_drop link_of from all) ∙ map_take link_of c (drop from all) ∙ ap (map link_of) (own (links_in n l) (links_at n) (length_links n l) count i h) ∙ links_one n l i) k;
+      links = (ap (take c) (drop-map link_of from all) ∙ take-map link_of c (drop from all) ∙ ap (map link_of) (own (links_in n l) (links_at n) (length_links n l) count i h) ∙ links_one n l i) k;
       body = file_body r;
     })
 
@@ -223,97 +223,72 @@ module _ (root : Root) (n l j h r : List ℕ) (m : Memory) where
     words = root.unknowns;
   }
 
-arrays_cell : (root : Root) (n l j h r : List ℕ) (m : Memory) → (read_arrays root n l j h r m).answer ≡ (Ok tt) → cell_of (read_arrays root n l j h r m).memory ≡ cell_from root n l j h r
-unfolding read_arrays
-arrays_cell root n l j h r m e = go (arrays_check n l j h r) refl e
-  where
-    short : Counts → Answer
-    short k = room_check k (length m.nodes) (length m.links) (length m.junctions) (length m.heights) (length m.refs)
+-- what holds of the five arrays of an accepted reading, within the limits of 6, and of the memory filled with them
+module _ (s g : List ℕ) (m : Memory) (P : (n l j h r : List ℕ) → Memory → Type 0)
+    (each : (n l j h r : List ℕ) → Holds n j r (counts_of n j r) → P n l j h r (filled (root_read s) (counts_of n j r) n l j h r m)) where
+  abbrev root : Root
+  root = root_read s
 
-    fill : Counts → Left
-    fill k = record { answer = (Ok tt); memory = filled root k n l j h r m }
-
-    inner : (k : Counts) (c : Answer) → k ≡ counts_of n j r → (unless c m (fill k)).answer ≡ (Ok tt) → cell_of (unless c m (fill k)).memory ≡ cell_from root n l j h r
-    inner k (Err a) q t = not_refused t
-    inner k (Ok tt) q t = ap (λ (x : Counts). cell_of (filled root x n l j h r m)) q ∙ filled_cell root n l j h r m
-
-    go : (c : Result Counts Refusal) → arrays_check n l j h r ≡ c → (if_held c m (λ k. unless (short k) m (fill k))).answer ≡ (Ok tt) → cell_of (if_held c m (λ k. unless (short k) m (fill k))).memory ≡ cell_from root n l j h r
-    go (Err a) d t = not_refused t
-    go (Ok k) d t = inner k (short k) (holds n l j h r k d).counts t
-
--- the first cell: what an accepted reading of two sections leaves in the memory lent to it
-pub read_cell : (s g : List ℕ) (m : Memory) → (read_of s g m).answer ≡ (Ok tt) → cell_of (read_of s g m).memory ≡ file_cell s g
-unfolding read_of arrays_found file_cell cell_by array_at
-read_cell s g m e = sizes (sizes_check (length s) (length g)) e
-  where
-    root : Root
-    root = root_read s
-
-    reading : Part → Part → Part → Part → Part → Left
-    reading n l j h r = read_arrays root (bytes_of n s g) (bytes_of l s g) (bytes_of j s g) (bytes_of h s g) (bytes_of r s g) m
-
-    by : Option Part → Option Part → Option Part → Option Part → Option Part → Left
-    by a b c d f =
-        if_found (opened array.Nodes a λ n. opened array.Links b λ l. opened array.Junctions c λ j. opened array.Heightmap d λ h. opened array.Refs f λ r. Ok (record { nodes = n; links = l; junctions = j; heights = h; refs = r })) m reading
-
-    arrays : (a b c d f : Option Part) → (by a b c d f).answer ≡ (Ok tt) → cell_of (by a b c d f).memory ≡ cell_from root (part_bytes a s g) (part_bytes b s g) (part_bytes c s g) (part_bytes d s g) (part_bytes f s g)
-    arrays None b c d f t = not_refused t
-    arrays (Some n) None c d f t = not_refused t
-    arrays (Some n) (Some l) None d f t = not_refused t
-    arrays (Some n) (Some l) (Some j) None f t = not_refused t
-    arrays (Some n) (Some l) (Some j) (Some h) None t = not_refused t
-    arrays (Some n) (Some l) (Some j) (Some h) (Some r) t = arrays_cell root (bytes_of n s g) (bytes_of l s g) (bytes_of j s g) (bytes_of h s g) (bytes_of r s g) m t
-
-    sizes : (c : Answer) → (unless c m (if_found (arrays_found (root_read s) (length s) (length g)) m reading)).answer ≡ (Ok tt)
-        → cell_of (unless c m (if_found (arrays_found (root_read s) (length s) (length g)) m reading)).memory ≡ file_cell s g
-    sizes (Err a) t = not_refused t
-    sizes (Ok tt) t =
-        arrays (located root.nodes root.node_count 40 (length s) (length g)) (located root.links root.link_count 8 (length s) (length g))
-        (located root.junctions root.junction_count 12 (length s) (length g)) (located root.heightmap root.heightmap_count 1 (length s) (length g))
-        (located root.refs root.ref_count 8 (length s) (length g)) t
-
--- what holds of whatever five arrays, within the limits of 6, fill the memory with holds after an accepted reading
-module _ (P : Memory → Type 0) (s g : List ℕ) (m : Memory) (each : (n l j h r : List ℕ) → Holds n j r (counts_of n j r) → P (filled (root_read s) (counts_of n j r) n l j h r m)) where
-  arrays_all : (n l j h r : List ℕ) → (read_arrays (root_read s) n l j h r m).answer ≡ (Ok tt) → P (read_arrays (root_read s) n l j h r m).memory
+  arrays_each : (n l j h r : List ℕ) → (read_arrays root n l j h r m).answer ≡ (Ok tt) → P n l j h r (read_arrays root n l j h r m).memory
   unfolding read_arrays
-  arrays_all n l j h r e = go (arrays_check n l j h r) refl e
+  arrays_each n l j h r e = go (arrays_check n l j h r) refl e
     where
       short : Counts → Answer
       short k = room_check k (length m.nodes) (length m.links) (length m.junctions) (length m.heights) (length m.refs)
 
       fill : Counts → Left
-      fill k = record { answer = (Ok tt); memory = filled (root_read s) k n l j h r m }
+      fill k = record { answer = (Ok tt); memory = filled root k n l j h r m }
 
-      inner : (k : Counts) (c : Answer) → Holds n j r k → (unless c m (fill k)).answer ≡ (Ok tt) → P (unless c m (fill k)).memory
+      inner : (k : Counts) (c : Answer) → Holds n j r k → (unless c m (fill k)).answer ≡ (Ok tt) → P n l j h r (unless c m (fill k)).memory
       inner k (Err a) q t = not_refused t
-      inner k (Ok tt) q t = subst (λ (x : Counts). P (filled (root_read s) x n l j h r m)) (sym q.counts) (each n l j h r (record { few_nodes = q.few_nodes; few_junctions = q.few_junctions; counts = refl }))
+      inner k (Ok tt) q t = subst (λ (x : Counts). P n l j h r (filled root x n l j h r m)) (sym q.counts) (each n l j h r (record { few_nodes = q.few_nodes; few_junctions = q.few_junctions; counts = refl }))
 
-      go : (c : Result Counts Refusal) → arrays_check n l j h r ≡ c → (if_held c m (λ k. unless (short k) m (fill k))).answer ≡ (Ok tt) → P (if_held c m (λ k. unless (short k) m (fill k))).memory
+      go : (c : Result Counts Refusal) → arrays_check n l j h r ≡ c → (if_held c m (λ k. unless (short k) m (fill k))).answer ≡ (Ok tt) → P n l j h r (if_held c m (λ k. unless (short k) m (fill k))).memory
       go (Err a) d t = not_refused t
       go (Ok k) d t = inner k (short k) (holds n l j h r k d) t
 
-  pub read_all : (read_of s g m).answer ≡ (Ok tt) → P (read_of s g m).memory
+  abbrev found : ℕ → ℕ → ℕ → Option Part
+  found pointer count size = located pointer count size (length s) (length g)
+
+  abbrev PartsHold : (a b c d f : Option Part) → Memory → Type 0
+  PartsHold a b c d f = P (part_bytes a s g) (part_bytes b s g) (part_bytes c s g) (part_bytes d s g) (part_bytes f s g)
+
+  read_each : (read_of s g m).answer ≡ (Ok tt)
+      → PartsHold (found root.nodes root.node_count 40) (found root.links root.link_count 8) (found root.junctions root.junction_count 12)
+      (found root.heightmap root.heightmap_count 1) (found root.refs root.ref_count 8) (read_of s g m).memory
   unfolding read_of arrays_found
-  read_all e = sizes (sizes_check (length s) (length g)) e
+  read_each e = sizes (sizes_check (length s) (length g)) e
     where
       reading : Part → Part → Part → Part → Part → Left
-      reading n l j h r = read_arrays (root_read s) (bytes_of n s g) (bytes_of l s g) (bytes_of j s g) (bytes_of h s g) (bytes_of r s g) m
+      reading n l j h r = read_arrays root (bytes_of n s g) (bytes_of l s g) (bytes_of j s g) (bytes_of h s g) (bytes_of r s g) m
 
       by : Option Part → Option Part → Option Part → Option Part → Option Part → Left
       by a b c d f =
           if_found (opened array.Nodes a λ n. opened array.Links b λ l. opened array.Junctions c λ j. opened array.Heightmap d λ h. opened array.Refs f λ r. Ok (record { nodes = n; links = l; junctions = j; heights = h; refs = r })) m reading
 
-      arrays : (a b c d f : Option Part) → (by a b c d f).answer ≡ (Ok tt) → P (by a b c d f).memory
+      arrays : (a b c d f : Option Part) → (by a b c d f).answer ≡ (Ok tt) → PartsHold a b c d f (by a b c d f).memory
       arrays None b c d f t = not_refused t
       arrays (Some n) None c d f t = not_refused t
       arrays (Some n) (Some l) None d f t = not_refused t
       arrays (Some n) (Some l) (Some j) None f t = not_refused t
       arrays (Some n) (Some l) (Some j) (Some h) None t = not_refused t
-      arrays (Some n) (Some l) (Some j) (Some h) (Some r) t = arrays_all (bytes_of n s g) (bytes_of l s g) (bytes_of j s g) (bytes_of h s g) (bytes_of r s g) t
+      arrays (Some n) (Some l) (Some j) (Some h) (Some r) t = arrays_each (bytes_of n s g) (bytes_of l s g) (bytes_of j s g) (bytes_of h s g) (bytes_of r s g) t
 
-      sizes : (c : Answer) → (unless c m (if_found (arrays_found (root_read s) (length s) (length g)) m reading)).answer ≡ (Ok tt) → P (unless c m (if_found (arrays_found (root_read s) (length s) (length g)) m reading)).memory
+      sizes : (c : Answer) → (unless c m (if_found (arrays_found (root_read s) (length s) (length g)) m reading)).answer ≡ (Ok tt)
+          → PartsHold (found root.nodes root.node_count 40) (found root.links root.link_count 8) (found root.junctions root.junction_count 12)
+          (found root.heightmap root.heightmap_count 1) (found root.refs root.ref_count 8) (unless c m (if_found (arrays_found (root_read s) (length s) (length g)) m reading)).memory
       sizes (Err a) t = not_refused t
       sizes (Ok tt) t =
-          arrays (located (root_read s).nodes (root_read s).node_count 40 (length s) (length g)) (located (root_read s).links (root_read s).link_count 8 (length s) (length g))
-          (located (root_read s).junctions (root_read s).junction_count 12 (length s) (length g)) (located (root_read s).heightmap (root_read s).heightmap_count 1 (length s) (length g))
-          (located (root_read s).refs (root_read s).ref_count 8 (length s) (length g)) t
+          arrays (found root.nodes root.node_count 40) (found root.links root.link_count 8) (found root.junctions root.junction_count 12)
+          (found root.heightmap root.heightmap_count 1) (found root.refs root.ref_count 8) t
+
+-- the first cell: what an accepted reading of two sections leaves in the memory lent to it
+pub read_cell : (s g : List ℕ) (m : Memory) → (read_of s g m).answer ≡ (Ok tt) → cell_of (read_of s g m).memory ≡ file_cell s g
+unfolding file_cell cell_by array_at
+read_cell s g m e =
+    read_each s g m (λ n l j h r x. cell_of x ≡ cell_from (root_read s) n l j h r) (λ n l j h r q. filled_cell (root_read s) n l j h r m) e
+
+-- what holds of whatever five arrays, within the limits of 6, fill the memory with holds after an accepted reading
+module _ (P : Memory → Type 0) (s g : List ℕ) (m : Memory) (each : (n l j h r : List ℕ) → Holds n j r (counts_of n j r) → P (filled (root_read s) (counts_of n j r) n l j h r m)) where
+  pub read_all : (read_of s g m).answer ≡ (Ok tt) → P (read_of s g m).memory
+  read_all e = read_each s g m (λ n l j h r x. P x) each e

@@ -1,8 +1,7 @@
 -- When no lent list is shorter than the cell's count of its entries.
 -- Assumes nothing.
-use Prim.Native.Nat.{ℕ, ◌≤◌}
+use Prim.Native.Nat.{◌≤◌}
 use mathlib.Core.Path.{◌≡◌}
-use native.Mathlib.Omega.{arith}
 use lib.Dec.{ltb}
 use lib.ListN.{length}
 use borrow.Author.Tests.{ltb-false}
@@ -32,4 +31,4 @@ whole m h =
     record { nodes_fit = ltb-false _ _ f₀; links_fit = ltb-false _ _ f₁; junctions_fit = ltb-false _ _ f₂; heights_fit = ltb-false _ _ f₃; refs_fit = ltb-false _ _ f₄ })))))
   where
     lacks : {P : Type 0} {l : Lent} → ◌≡◌ {A = Answer} (Err (TooShort l)) (Ok tt) → P
-    lacks e = let z : ◌≡◌ {A = ℕ} 0 1 = cc in absurd (omega arith)
+    lacks e = cc

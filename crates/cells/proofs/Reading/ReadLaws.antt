@@ -2,14 +2,13 @@
 use Prim.Native.Nat.{ℕ, zero, suc, ◌+◌, ◌-◌, ◌*◌, ◌≤◌, ◌<◌}
 use mathlib.Core.Path.{◌≡◌, refl, sym, ap, ◌∙◌}
 use mathlib.Core.Bool.{Bool, true, false, cond}
-use mathlib.Core.List.{List, [], ◌∷◌, ◌++◌, append_assoc, append-nil}
+use mathlib.Core.List.{List, [], ◌∷◌, ◌++◌, append_assoc}
 use native.Mathlib.Numerals.{add-one}
 use native.Mathlib.Nat.{suc-mul, mul-le-mul}
 use native.Mathlib.Omega.{arith}
 use lib.ListN.{length, get_or, set, take, drop, length-append, length-take, length-drop}
 use lib.Seq.{length-take-le, drop-cons, set_at, append_snoc, take_at, drop_at, drop-append-add, drop-drop}
 use Rattle.cells.specs.Lists.{up_to, join_to, sum_to}
-use Rattle.std.proofs.lemmas.List.{drop_all}
 pub use Rattle.cells.specs.RangedParts.{length_up_to, length_links, length_values}
 use borrow.Author.Tests.{ltb-false}
 use lib.Dec.{ltb, leb}
@@ -95,15 +94,11 @@ add_entries {A = A} m x l₀ l h c e is-l =
     ∙ ap (λ (y : List A). m ++ x ++ y) (ap (λ (k : ℕ). drop (k + c) (m ++ drop h l₀)) (sym e) ∙ drop-append-add m (drop h l₀) c ∙ drop-drop c h l₀))
 
 -- a turn of a loop that fills the places from 0 on
-pub fill_turn : {A : Type 0} (f : ℕ → A) (l₀ l : List A) (i : ℕ) (w z : A) → i < length l₀ → l ≡ up_to f i ++ drop i l₀ → w ≡ f i → set l i w ≡ up_to f (i + 1) ++ drop (i + 1) l₀
-fill_turn {A = A} f l₀ l i w z h is-l e =
-    ap (set l i) e
-    ∙ add_one_entry (up_to f i) l₀ l i (f i) z (length_up_to f i) h is-l
+pub fill_turn : {A : Type 0} (f : ℕ → A) (l₀ : List A) (i : ℕ) (w : A) → i < length l₀ → w ≡ f i → set (up_to f i ++ drop i l₀) i w ≡ up_to f (i + 1) ++ drop (i + 1) l₀
+fill_turn {A = A} f l₀ i w h e =
+    ap (set (up_to f i ++ drop i l₀) i) e
+    ∙ add_one_entry (up_to f i) l₀ _ i (f i) w (length_up_to f i) h refl
     ∙ ap (λ (y : List A). y ++ drop (i + 1) l₀) (sym (up_to_next f i))
-
--- the same, with the element that stands there for the one past the end
-pub fill_turn_here : {A : Type 0} (f : ℕ → A) (l₀ l : List A) (i : ℕ) (w : A) → i < length l₀ → l ≡ up_to f i ++ drop i l₀ → w ≡ f i → set l i w ≡ up_to f (i + 1) ++ drop (i + 1) l₀
-fill_turn_here f l₀ l i w h is-l e = fill_turn f l₀ l i w w h is-l e
 
 -- ---- a part of a list stored over, and a whole one
 
@@ -118,24 +113,21 @@ part_stored {A = A} f ps new held s c from count es ec h en =
     ∙ ap (λ (x : List A). take held ps ++ (f from count ++ x)) (drop-drop count held ps)
     ∙ sym (append_assoc (take held ps) (f from count) (drop (held + count) ps))
 
-pub all_stored : {A : Type 0} (x l l₀ : List A) (i : ℕ) → length l₀ ≤ i → l ≡ x ++ drop i l₀ → l ≡ x
-all_stored {A = A} x l l₀ i h e = e ∙ ap (λ (y : List A). x ++ y) (drop_all i l₀ h) ∙ append-nil x
-
 -- a turn of a loop that adds several entries: x after those of the places before
-pub join_turn : {A : Type 0} (f : ℕ → List A) (g : ℕ → ℕ) → ((i : ℕ) → length (f i) ≡ g i) → (l₀ l : List A) (i held r : ℕ)
-    → held ≡ sum_to g i → l ≡ join_to f i ++ drop held l₀ → r ≡ held + g i → take held l ++ f i ++ drop (held + g i) l ≡ join_to f (i + 1) ++ drop r l₀
-join_turn f g len l₀ l i held r is_held_lem is-l is-r =
-    add_entries (join_to f i) (f i) l₀ l held (g i) (length_join_to f g len i ∙ sym is_held_lem) is-l
-    ∙ (λ q. sym (join_to_next f i) q ++ drop (sym is-r q) l₀)
+pub join_turn : {A : Type 0} (f : ℕ → List A) (g : ℕ → ℕ) → ((i : ℕ) → length (f i) ≡ g i) → (l₀ : List A) (i held : ℕ) → held ≡ sum_to g i
+    → take held (join_to f i ++ drop held l₀) ++ f i ++ drop (held + g i) (join_to f i ++ drop held l₀) ≡ join_to f (i + 1) ++ drop (held + g i) l₀
+join_turn {A = A} f g len l₀ i held is-held =
+    add_entries (join_to f i) (f i) l₀ _ held (g i) (length_join_to f g len i ∙ sym is-held) refl
+    ∙ ap (λ (y : List A). y ++ drop (held + g i) l₀) (sym (join_to_next f i))
 
 -- ---- what an accepted answer tells
 
 if_told : {A : Type 0} (b : Bool) (cause : Refusal) (next : Result A Refusal) (x : A) → refuse_if b cause next ≡ Ok x → (b ≡ false) × (next ≡ Ok x)
-if_told true cause next x e = let z : ◌≡◌ {A = ℕ} 0 1 = cc in absurd (omega arith)
+if_told true cause next x e = cc
 if_told false cause next x e = (refl, e)
 
 after_told : {A : Type 0} (a : Answer) (next : Result A Refusal) (x : A) → unless a next ≡ Ok x → next ≡ Ok x
-after_told (Err r) next x e = let z : ◌≡◌ {A = ℕ} 0 1 = cc in absurd (omega arith)
+after_told (Err r) next x e = cc
 after_told (Ok tt) next x e = e
 
 pub record Holds (n j r : List ℕ) (k : Counts) : Type 0 where

@@ -6,7 +6,7 @@ use mathlib.Core.Path.{◌≡◌, refl, ap, sym, ◌∙◌}
 use mathlib.Core.Bool.{Bool}
 use mathlib.Core.List.{List, [], ◌∷◌, map}
 use lib.ListN.{length, get_or, take, drop, length-map}
-use lib.Seq.{take_at, length-take-le}
+use lib.Seq.{take_at, length-take-le, get_or-drop}
 use lib.ListN.{get_or-append}
 use Rattle.cells.specs.Order.{keep, parted, Old, new_place, new_places}
 use Rattle.cells.specs.NodeWords.{area_of, number_of, is_ped, numbered, number_from, reordered, first_area, old_of, relinked}
@@ -14,11 +14,13 @@ use Rattle.cells.specs.Renumber.{over, vehicles, peds, renumber_lists, recounted
 use Rattle.cells.specs.RenumberParts.{Room}
 use lib.Dec.{ltb}
 use borrow.Author.Tests.{ltb-false}
-use Rattle.cells.proofs.Sequences.Tests.{by_test, map_take, map_drop, map_append, map_keep}
+use Rattle.cells.proofs.Sequences.Tests.{by_test, map_keep}
+use Rattle.std.proofs.lemmas.List.{take-map, drop-map, map-append}
 use Rattle.cells.proofs.Forms.Limits.{within}
 use Rattle.cells.proofs.Reading.Fits.{whole}
 use Rattle.cells.proofs.Renumbering.Parted.{places_length, places_at}
 use Rattle.cells.proofs.Renumbering.Parted as any
+pub use Rattle.cells.proofs.Renumbering.Reordered.{number_length}
 use Rattle.cells.specs.Cell.{Link, Node, is_ped_node, is_vehicle_node, first_of, old_nodes, relink, reref, renode, number_nodes, renumber_cell, ped_flags}
 use Rattle.cells.specs.Memory.{Memory, over_limit, short}
 use Rattle.cells.specs.CellOf.{link_of, ref_of, body_of, node_with, nodes_of, junctions_of, refs_of, cell_of}
@@ -30,11 +32,6 @@ use Rattle.numbers.proofs.Refusing.{not_refused}
 
 pub parted_length : (ns : List (List ℕ)) → length (parted is_ped ns) ≡ length ns
 parted_length ns = any.parted_length is_ped ns
-
-pub number_length : (k : ℕ) (ws : List (List ℕ)) → length (number_from k ws) ≡ length ws
-unfolding number_from
-number_length k [] = refl
-number_length k (w ∷ ws) = ap suc (number_length (suc k) ws)
 
 -- what an accepted call has room for
 pub accepted : (m : Memory) (scratch places : ℕ) → answer_of (over_limit m.ynd) m.ynd.node_count (short m) scratch places ≡ (Ok tt) → Room m scratch places
@@ -70,16 +67,11 @@ unfolding numbered area_of number_of body_of to_node
 node_new o ls k w lt = λ i. record {
   area = (let e : (get_or w 0 0 % 65536 + k * 65536) % 65536 ≡ get_or w 0 0 % 65536 = omega arith in e) i;
   number = (let e : (get_or w 0 0 % 65536 + k * 65536) / 65536 % 65536 ≡ k = omega arith in e) i;
-  links = ((λ j. take (later w 5 j / 65536 % 256) (drop (later w 6 j) (map (relink o) ls)))
-      ∙ ap (take (get_or w 6 0 / 65536 % 256)) (map_drop (relink o) (get_or w 7 0) ls) ∙ map_take (relink o) (get_or w 6 0 / 65536 % 256) (drop (get_or w 7 0) ls)) i;
+  links = ((λ j. take (get_or-drop 1 w 5 0 j / 65536 % 256) (drop (get_or-drop 1 w 6 0 j) (map (relink o) ls)))
+      ∙ ap (take (get_or w 6 0 / 65536 % 256)) (drop-map (relink o) (get_or w 7 0) ls) ∙ take-map (relink o) (get_or w 6 0 / 65536 % 256) (drop (get_or w 7 0) ls)) i;
   body = same_body (get_or w 0 0 % 65536 + k * 65536) w i;
 }
   where
-    -- the later words stay
-    later : (v : List ℕ) (j : ℕ) → get_or (drop 1 v) j 0 ≡ get_or v (suc j) 0
-    later [] j = refl
-    later (y ∷ ys) j = refl
-
     same_body : (x : ℕ) (v : List ℕ) → body_of (x ∷ drop 1 v) ≡ body_of v
     same_body x [] = refl
     same_body x (y ∷ ys) = refl
@@ -90,14 +82,9 @@ unfolding number_from number_nodes
 nodes_new o ls k [] h = refl
 nodes_new o ls k (w ∷ ws) h = λ i. node_new o ls k w (omega arith) i ∷ nodes_new o ls (suc k) ws (omega arith) i
 
--- the words say as much as the nodes
-ped_same : (ls : List Link) (w : List ℕ) → is_ped_node (node_with ls w) ≡ is_ped w
-unfolding is_ped body_of to_node
-ped_same ls w = refl
-
 parted_new : (ls : List Link) (ws : List (List ℕ)) → parted is_ped_node (map (node_with ls) ws) ≡ map (node_with ls) (parted is_ped ws)
 unfolding parted is_ped body_of to_node
-parted_new ls ws = rw (map_append, map_keep, map_keep)
+parted_new ls ws = rw (map-append, map_keep, map_keep)
 
 pub old_same : (ls : List Link) (n : ℕ) (nodes : List (List ℕ)) → old_of n nodes ≡ old_nodes (map (node_with ls) (take n nodes))
 unfolding old_of first_area is_ped body_of to_node
@@ -182,14 +169,14 @@ done_call m ps s e = go (answer_for m ps s) refl e
   where
     go : (a : Answer) → answer_for m ps s ≡ a → (left_by a m ps).answer ≡ (Ok tt) → cell_of (left_by a m ps).memory ≡ renumber_cell (cell_of m)
     go (Ok tt) d t = renumber_memory_law m ps (accepted m s (length ps) d)
-    go (Err x) d t = let z : ◌≡◌ {A = ℕ} 0 1 = cc in absurd (omega arith)
+    go (Err x) d t = cc
 
 pub refused_call : (m : Memory) (ps : List ℕ) (s : ℕ) (x : Refusal) → (renumber m s ps).answer ≡ Err x → (renumber m s ps).memory ≡ m
 unfolding renumber
 refused_call m ps s x e = go (answer_for m ps s) e
   where
     go : (a : Answer) → (left_by a m ps).answer ≡ Err x → (left_by a m ps).memory ≡ m
-    go (Ok tt) t = let z : ◌≡◌ {A = ℕ} 0 1 = cc in absurd (omega arith)
+    go (Ok tt) t = cc
     go (Err y) t = refl
 
 -- an accepted renumbering is of at most 65,536 nodes
@@ -201,7 +188,7 @@ done_few m ps s e = go (answer_for m ps s) refl e
     go (Ok tt) d t =
         let r = accepted m s (length ps) d in
         omega (arith, length-map (take m.ynd.node_count m.nodes) (node_with (map link_of (take m.ynd.link_count m.links))), length-take-le m.ynd.node_count m.nodes r.nodes_fit, r.few)
-    go (Err x) d t = let z : ◌≡◌ {A = ℕ} 0 1 = cc in absurd (omega arith)
+    go (Err x) d t = cc
 
 -- ---- the lent list of new places
 
@@ -218,7 +205,7 @@ places_tell m ps s e p lt = go (answer_for m ps s) refl e
     flags = map is_ped (take n m.nodes)
 
     go : (a : Answer) → answer_for m ps s ≡ a → (left_by a m ps).answer ≡ (Ok tt) → get_or (left_by a m ps).places p 0 ≡ new_place (ped_flags (cell_of m).nodes) p
-    go (Err x) d t = let z : ◌≡◌ {A = ℕ} 0 1 = cc in absurd (omega arith)
+    go (Err x) d t = cc
     go (Ok tt) d t =
         let same : flags ≡ ped_flags (nodes_of m) = ap (λ (o : Old). o.peds) (old_same (map link_of (take m.ynd.link_count m.links)) n m.nodes) in
         let long : length (ped_flags (nodes_of m)) ≡ length (nodes_of m) = length-map (nodes_of m) is_ped_node in

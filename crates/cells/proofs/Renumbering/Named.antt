@@ -1,12 +1,13 @@
 -- The scratch as a map from numbers to places. It is never cleared: an entry counts if the node there has the number.
 -- Assumes nothing.
+use Rattle.std.proofs.lemmas.List.{map-append}
 use Prim.Native.Nat.{ℕ, zero, suc, ◌+◌, ◌<◌}
 use native.Mathlib.Omega.{arith}
 use native.Mathlib.Numerals.{add-one}
 use mathlib.Core.Path.{◌≡◌, refl, ap, sym, ◌∙◌}
 use mathlib.Core.Bool.{Bool, true, false}
 use mathlib.Core.List.{List, [], ◌∷◌, ◌++◌, map}
-use mathlib.Core.Option.{Option, none, some}
+use mathlib.Core.Option.{Option, none, some, some-injective}
 use lib.Dec.{eqb}
 use lib.ListN.{length, get_or, set, take, length-map}
 use lib.Seq.{take-suc, length-take-le, get_or-set_same, get_or-set_other}
@@ -15,12 +16,6 @@ use Rattle.cells.specs.Order.{last_with, or_else}
 use Rattle.cells.specs.NodeWords.{number_of}
 use Rattle.cells.specs.RenumberParts.{Indexed}
 use Rattle.cells.proofs.Sequences.Tests.{by_test}
-
-some_none : {P : Type 0} {i : ℕ} → ◌≡◌ {A = Option ℕ} none (some i) → P
-some_none e = let z : ◌≡◌ {A = ℕ} 0 1 = cc in absurd (omega arith)
-
-some_some : {i j : ℕ} → ◌≡◌ {A = Option ℕ} (some i) (some j) → i ≡ j
-some_some e = cc
 
 abbrev pub pick : Bool → ℕ → Option ℕ → Option ℕ
 pick true n o = some n
@@ -43,35 +38,31 @@ last_snoc (n ∷ ns) x k = rw (last_snoc ns x k) (go (eqb x k) (last_with ns k) 
 indexed_next : (ns : List ℕ) (x : ℕ) (s : List ℕ) → x < length s → Indexed ns s → Indexed (ns ++ (x ∷ [])) (set s x (length ns))
 indexed_next ns x s lt ix = record {
   at = λ k p e. by_test (eqb x k)
-      (λ t. rw (← eqb-true x k t) (get_or-set_same s x (length ns) 0 lt) ∙ some_some (rw (last_snoc ns x k, t) at e))
+      (λ t. rw (← eqb-true x k t) (get_or-set_same s x (length ns) 0 lt) ∙ some-injective _ _ (rw (last_snoc ns x k, t) at e))
       (λ f. get_or-set_other s x k (length ns) 0 (λ d. eqb-false x k f (sym d)) ∙ ix.at k p (rw (last_snoc ns x k, f) at e));
 }
 
-pub map_snoc : {A B : Type 0} (f : A → B) (l : List A) (x : A) → map f (l ++ (x ∷ [])) ≡ map f l ++ (f x ∷ [])
-map_snoc f [] x = refl
-map_snoc {B = B} f (y ∷ ys) x = ap {B = List B} (λ t. f y ∷ t) (map_snoc f ys x)
-
 pub index_starts : (s : List ℕ) → Indexed [] s
 unfolding last_with
-index_starts s = record { at = λ k p e. some_none e }
+index_starts s = record { at = λ k p e. cc }
 
 pub index_turn : (nodes : List (List ℕ)) (i k : ℕ) (s : List ℕ) → i < length nodes → k ≡ number_of (get_or nodes i []) → k < length s
     → Indexed (map number_of (take i nodes)) s → Indexed (map number_of (take (i + 1) nodes)) (set s k i)
 index_turn nodes i k s lt e hk ix =
     let long : length (map number_of (take i nodes)) ≡ i = length-map (take i nodes) number_of ∙ length-take-le i nodes (omega arith) in
-    rw (add-one, take-suc nodes i [] lt, map_snoc, ← e) (rw long at (indexed_next (map number_of (take i nodes)) k s hk ix))
+    rw (add-one, take-suc nodes i [] lt, map-append, ← e) (rw long at (indexed_next (map number_of (take i nodes)) k s hk ix))
 
 -- the last node that has a number has it
 pub last_inside : (ns : List ℕ) (k p : ℕ) → last_with ns k ≡ some p → (p < length ns) × (get_or ns p 0 ≡ k)
 unfolding last_with
-last_inside [] k p e = some_none e
+last_inside [] k p e = cc
 last_inside (n ∷ ns) k p e = go (λ q d. last_inside ns k q d) (last_with ns k) refl e
   where
     go : ((q : ℕ) → last_with ns k ≡ some q → (q < length ns) × (get_or ns q 0 ≡ k)) → (o : Option ℕ) → last_with ns k ≡ o → or_else o (eqb n k) ≡ some p → (p < length (n ∷ ns)) × (get_or (n ∷ ns) p 0 ≡ k)
-    go ih (some q) d h = let r = ih q d in rw (← some_some h) (omega (arith, r.0), r.1)
+    go ih (some q) d h = let r = ih q d in rw (← some-injective _ _ h) (omega (arith, r.0), r.1)
     go ih none d h = by_test (eqb n k)
-        (λ t. rw (← some_some (rw t at h)) (omega arith, eqb-true n k t))
-        (λ f. some_none (rw f at h))
+        (λ t. rw (← some-injective _ _ (rw t at h)) (omega arith, eqb-true n k t))
+        (λ f. let d = rw f at h in cc)
 
 -- a number that a node has is some last node's
 last_some : (ns : List ℕ) (k i : ℕ) → i < length ns → get_or ns i 0 ≡ k → (p : ℕ) × (last_with ns k ≡ some p)

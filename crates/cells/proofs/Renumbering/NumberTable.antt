@@ -1,4 +1,5 @@
 -- A table with the new number of each number.
+use Rattle.std.proofs.lemmas.List.{map-append}
 use Prim.Native.Nat.{ℕ, ◌+◌, ◌≤◌, ◌<◌}
 use native.Mathlib.Omega.{arith}
 use native.Mathlib.Numerals.{add-one}
@@ -9,30 +10,25 @@ use mathlib.Core.List.{List, [], ◌∷◌, ◌++◌, map}
 use mathlib.Core.Option.{Option, none, some}
 use lib.Dec.{eqb}
 use lib.ListN.{length, get_or, set, take, drop, length-map, get_or-append}
-use lib.Seq.{take_all, take-suc, length-take-le, get_or-set_same, get_or-set_other, ext_get_or}
+use lib.Seq.{take_all, take-suc, length-take-le, get_or-set_same, get_or-set_other, ext_get_or, take-length}
 use borrow.Author.Tests.{eqb-true, eqb-false, le-ltb}
 use Rattle.cells.specs.Order.{Old, last_with, place_or, new_place, new_number, new_places, listed}
 use Rattle.cells.specs.NodeWords.{number_of, is_ped, old_of}
 use Rattle.cells.specs.NewNumbers.{new_numbers, numbers_left, numbers_call, numbers_causes}
 use Rattle.cells.proofs.Sequences.Tests.{by_test}
 use Rattle.cells.proofs.Sequences.Ranks.{listed_length, listed_at}
-use Rattle.cells.proofs.Renumbering.Named.{pick, last_snoc, map_snoc, last_inside}
+use Rattle.cells.proofs.Renumbering.Named.{pick, last_snoc, last_inside}
 use Rattle.cells.proofs.Renumbering.Placed.{new_at}
 use Rattle.std.specs.Prelude.{Ok}
 
 -- the first n nodes, as a list of their own
 pub old_front : (n : ℕ) (nodes : List (List ℕ)) → old_of (length (take n nodes)) (take n nodes) ≡ old_of n nodes
 unfolding old_of
-old_front n nodes = rw (take_all (length (take n nodes)) (take n nodes) (omega arith))
+old_front n nodes = rw (take-length (take n nodes))
 
 -- the new number by the first i nodes, of all of which these are the ped flags
 abbrev pub so_far : List Bool → List (List ℕ) → ℕ → ℕ → ℕ
 so_far peds nodes i k = place_or peds (last_with (map number_of (take i nodes)) k) k
-
-pub table_starts : (peds : List Bool) (nodes : List (List ℕ)) (t : List ℕ) → ((k : ℕ) → k < 65536 → get_or t k 0 ≡ k)
-    → (k : ℕ) → k < 65536 → get_or t k 0 ≡ so_far peds nodes 0 k
-unfolding last_with
-table_starts peds nodes t h = h
 
 -- one node more
 pub table_turn : (peds : List Bool) (nodes : List (List ℕ)) (i x q : ℕ) (t : List ℕ) → i < length nodes
@@ -43,7 +39,7 @@ table_turn peds nodes i x q t lt e hx is h k hk =
     let ns = map number_of (take i nodes) in
     let long : length ns ≡ i = length-map (take i nodes) number_of ∙ length-take-le i nodes (omega arith) in
     let next : map number_of (take (i + 1) nodes) ≡ ns ++ (x ∷ []) =
-    rw (add-one, take-suc nodes i [] lt, map_snoc, ← e) in
+    rw (add-one, take-suc nodes i [] lt, map-append, ← e) in
     let last : last_with (map number_of (take (i + 1) nodes)) k ≡ pick (eqb x k) i (last_with ns k) =
     ap (λ (l : List ℕ). last_with l k) next ∙ last_snoc ns x k
     ∙ ap (λ (n : ℕ). pick (eqb x k) n (last_with ns k)) long in

@@ -2,15 +2,16 @@
 -- Assumes nothing.
 use Prim.Native.Nat.{ℕ, zero, suc, ◌+◌, ◌<◌}
 use native.Mathlib.Omega.{arith}
-use native.Mathlib.Nat.{suc-add, add-suc, add-zero}
-use mathlib.Core.Path.{◌≡◌, sym, ◌∙◌}
-use mathlib.Core.List.{List, [], ◌∷◌, map}
-use lib.ListN.{length, get_or, length-map}
+use native.Mathlib.Nat.{suc-add, add-suc, add-zero, zero-add}
+use mathlib.Core.Path.{◌≡◌, refl, sym, ap, ◌∙◌}
+use mathlib.Core.List.{List, [], ◌∷◌, ◌++◌, map}
+use lib.ListN.{length, get_or, set, take, drop, length-map}
 use Rattle.cells.specs.Order.{parted, new_place, new_places}
 use Rattle.cells.specs.NodeWords.{is_ped, numbered, number_from}
 use Rattle.cells.specs.Moves.{Places}
 use Rattle.cells.proofs.Renumbering.Parted.{places_length, places_at}
 use Rattle.cells.proofs.Renumbering.Placed.{new_at, new_apart}
+use Rattle.cells.proofs.Sequences.Filled.{fill_turn, fill_ahead}
 use Rattle.cells.proofs.Sequences.Moved.{Leads}
 
 -- the new places are places, and lead to the new order
@@ -39,3 +40,17 @@ unfolding number_from
 number_at k [] i lt = absurd (omega arith)
 number_at k (w ∷ ws) zero lt = rw add-zero
 number_at k (w ∷ ws) (suc i) lt = number_at (suc k) ws i (omega arith) ∙ rw (suc-add, add-suc)
+
+pub number_length : (k : ℕ) (ws : List (List ℕ)) → length (number_from k ws) ≡ length ws
+unfolding number_from
+number_length k [] = refl
+number_length k (w ∷ ws) = ap suc (number_length (suc k) ws)
+
+-- one number more, in a loop that stores them from the front
+pub number_turn : (ws : List (List ℕ)) (i : ℕ) (w : List ℕ) → i < length ws → w ≡ numbered i (get_or (take i (number_from 0 ws) ++ drop i ws) i [])
+    → set (take i (number_from 0 ws) ++ drop i ws) i w ≡ take (i + 1) (number_from 0 ws) ++ drop (i + 1) ws
+number_turn ws i w h e =
+    let D = number_from 0 ws in
+    let long : length D ≡ length ws = number_length 0 ws in
+    let is : get_or D i [] ≡ w = number_at 0 ws i h ∙ rw zero-add (ap (numbered i) (sym (fill_ahead ws D i [] h (omega arith)))) ∙ sym e in
+    fill_turn ws D i [] w h (omega arith) is

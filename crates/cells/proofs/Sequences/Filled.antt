@@ -1,12 +1,13 @@
 -- A loop that stores a list's elements over those of a slice, from the front.
 -- Assumes nothing.
-use Prim.Native.Nat.{ℕ, zero, suc, ◌+◌, ◌≤◌, ◌<◌}
+use Prim.Native.Nat.{ℕ, suc, ◌+◌, ◌≤◌, ◌<◌}
 use native.Mathlib.Omega.{arith}
 use native.Mathlib.Numerals.{add-one}
 use mathlib.Core.Path.{◌≡◌, refl, ap, sym, ◌∙◌}
-use mathlib.Core.List.{List, [], ◌∷◌, ◌++◌, map, append-nil}
-use lib.ListN.{length, get_or, set, take, drop}
-use Rattle.std.proofs.lemmas.List.{drop_all}
+use mathlib.Core.List.{List, [], ◌++◌, map, append-nil}
+use lib.ListN.{length, get_or, set, take, drop, length-append, length-map, length-drop}
+use Rattle.std.proofs.lemmas.List.{drop_all, get_or_default}
+use Rattle.std.proofs.lemmas.List.Edits.{map_over_more}
 use lib.Seq.{drop-cons, set_at, append_snoc, take-suc, length-take-le, take_all, get_or_at}
 
 module _ {A : Type 0} (l D : List A) (i : ℕ) where
@@ -20,14 +21,14 @@ module _ {A : Type 0} (l D : List A) (i : ℕ) where
   pub fill_ahead : (d : A) → i < length l → i ≤ length D → get_or (take i D ++ drop i l) i d ≡ get_or l i d
   fill_ahead d hl hD = rw (drop-cons l i d hl) (get_or_at (take i D) (get_or l i d) (drop (suc i) l) d i (length-take-le i D hD))
 
-  pub fill_end : length D ≡ i → take i D ++ drop i l ≡ D ++ drop i l
-  fill_end e = ap (λ (x : List A). x ++ drop i l) (take_all i D (omega arith))
+-- an element that f is applied to, in a loop that does so from the front
+pub mapped_turn : (f : List ℕ → List ℕ) (l : List (List ℕ)) (i : ℕ) (w : List ℕ) → i < length l
+    → w ≡ f (get_or (map f (take i l) ++ drop i l) i []) → set (map f (take i l) ++ drop i l) i w ≡ map f (take (i + 1) l) ++ drop (i + 1) l
+mapped_turn f l i w h e =
+    let now = map f (take i l) ++ drop i l in
+    let long : i < length now = omega (arith, length-append (map f (take i l)) (drop i l), length-map (take i l) f, length-take-le i l (omega arith), length-drop i l) in
+    ap (set now i) e ∙ map_over_more f l now i (get_or now i []) h refl (get_or_default now i [] _ long)
 
 -- all stored
 pub fill_all : {A : Type 0} (l D : List A) (i : ℕ) → length D ≡ length l → i ≡ length l → take i D ++ drop i l ≡ D
 fill_all l D i e h = rw (take_all i D (omega arith), drop_all i l (omega arith), append-nil)
-
-pub mapped_at : {A B : Type 0} (f : A → B) (l : List A) (i : ℕ) (d : A) (e : B) → i < length l → get_or (map f l) i e ≡ f (get_or l i d)
-mapped_at f [] i d e lt = absurd (omega arith)
-mapped_at f (x ∷ xs) zero d e lt = refl
-mapped_at f (x ∷ xs) (suc i) d e lt = mapped_at f xs i d e (omega arith)

@@ -1,6 +1,7 @@
 -- Lists joined one after the other, and records that carry where their own part of such a list starts.
 use Prim.Native.Nat.{ℕ, zero, suc, ◌+◌, ◌*◌, ◌<◌}
 use native.Mathlib.Omega.{arith}
+use native.Mathlib.Nat.{mul-suc}
 use mathlib.Core.Path.{◌≡◌, refl, ap, ◌∙◌}
 use mathlib.Core.List.{List, [], ◌∷◌, ◌++◌, append_assoc}
 use lib.ListN.{length, get_or, take, drop, length-append}
@@ -10,15 +11,7 @@ use Rattle.cells.specs.Blocks.{laid}
 
 -- ---- records of one width
 
-step : (w i : ℕ) → w * suc i ≡ w + w * i
-step w i = omega arith
-
 module _ {A C : Type 0} (g : A → List C) (w : ℕ) (wide : (x : A) → length (g x) ≡ w) where
-  pub joined_length : (xs : List A) → length (joined g xs) ≡ w * length xs
-  unfolding joined
-  joined_length [] = omega arith
-  joined_length (x ∷ xs) = length-append (g x) (joined g xs) ∙ omega (arith, wide x, joined_length xs)
-
   pub joined_at : (xs : List A) (i : ℕ) (z : A) → i < length xs → take w (drop (w * i) (joined g xs)) ≡ g (get_or xs i z)
   unfolding joined
   joined_at [] i z h = absurd (omega arith)
@@ -26,7 +19,7 @@ module _ {A C : Type 0} (g : A → List C) (w : ℕ) (wide : (x : A) → length 
       let e : w * 0 ≡ 0 = omega arith in
       ap (λ (k : ℕ). take w (drop k (g x ++ joined g xs))) e ∙ take_at (g x) (joined g xs) w (wide x)
   joined_at (x ∷ xs) (suc i) z h =
-      let e : w * suc i ≡ length (g x) + w * i = omega (arith, wide x, step w i) in
+      let e : w * suc i ≡ length (g x) + w * i = omega (arith, wide x, mul-suc w i) in
       ap (λ (k : ℕ). take w (drop k (g x ++ joined g xs))) e ∙ ap (take w) (drop-append-add (g x) (joined g xs) (w * i)) ∙ joined_at xs i z (omega arith)
 
 module _ {A B C : Type 0} (f : A → List B) (g : ℕ → A → List C) (w : ℕ) (wide : (k : ℕ) (x : A) → length (g k x) ≡ w) where
@@ -45,7 +38,7 @@ module _ {A B C : Type 0} (f : A → List B) (g : ℕ → A → List C) (w : ℕ
       let rest = laid f g (k + length (f x)) xs in
       ap (λ (j : ℕ). take w (drop j (g k x ++ rest))) e ∙ take_at (g k x) rest w (wide k x) ∙ ap (λ (j : ℕ). g j x) n
   laid_at k (x ∷ xs) (suc i) z h =
-      let e : w * suc i ≡ length (g k x) + w * i = omega (arith, wide k x, step w i) in
+      let e : w * suc i ≡ length (g k x) + w * i = omega (arith, wide k x, mul-suc w i) in
       let rest = laid f g (k + length (f x)) xs in
       let n : k + length (f x) + length (joined f (take i xs)) ≡ k + length (f x ++ joined f (take i xs)) = omega (arith, length-append (f x) (joined f (take i xs))) in
       ap (λ (j : ℕ). take w (drop j (g k x ++ rest))) e ∙ ap (take w) (drop-append-add (g k x) rest (w * i)) ∙ laid_at (k + length (f x)) xs i z (omega arith)

@@ -3,7 +3,8 @@
 use Prim.Native.Nat.{ℕ, zero, suc, ◌+◌, ◌≤◌, ◌<◌}
 use mathlib.Core.Path.{◌≡◌, refl, sym, ap, ◌∙◌}
 use mathlib.Core.Bool.{Bool, true, false, cond}
-use mathlib.Core.List.{List, [], ◌∷◌, ◌++◌, append-nil}
+use mathlib.Core.List.{List, [], ◌++◌, append-nil}
+use native.Mathlib.Nat.{ne_of_lt}
 use native.Mathlib.Numerals.{lt_of_le_of_ne}
 use native.Mathlib.Omega.{arith}
 use lib.Dec.{eqb}
@@ -11,6 +12,7 @@ use lib.ListN.{length, get_or, set, take, drop, length-set, take-append-drop}
 use lib.Seq.{get_or-set_same, get_or-set_other, get_or-take, drop-set-lt, ext_get_or, length-take-le}
 use borrow.Author.Tests.{eqb-true, eqb-false, eq-eqb, ne_eqb}
 use Rattle.std.specs.List.{swap}
+use Rattle.std.proofs.lemmas.List.Edits.{swap_is}
 use Rattle.std.proofs.lemmas.List.{drop_all}
 use Rattle.cells.specs.Moves.{Places, swapped}
 
@@ -25,10 +27,6 @@ same a b = by_test (eqb a b) refl
     by_test : (t : Bool) → eqb a b ≡ t → Same a b
     by_test true e = yes (eqb-true a b e)
     by_test false e = no (eqb-false a b e)
-
--- a number up to n that is not n is below n
-smaller : (t n : ℕ) → t < n + 1 → (t ≡ n → ⊥) → t < n
-smaller t n h e = lt_of_le_of_ne (omega arith) e
 
 -- where the element stands, after the exchange, that k has before it, and the other way round
 exch : ℕ → ℕ → ℕ → ℕ
@@ -87,18 +85,8 @@ pub record Moving (n i : ℕ) (nodes₀ : List (List ℕ)) (to₀ : List ℕ) (n
   pub follows : (f : List (List ℕ)) → Leads n f to₀ nodes₀ → Leads n f to nodes
   pub rest : drop n nodes ≡ drop n nodes₀
 
-pub starts : (n : ℕ) (nodes : List (List ℕ)) (to : List ℕ) → Places n to → Moving n 0 nodes to nodes to
-starts n nodes to p = record { places = p; settled = λ j h. omega arith; follows = λ f e. e; rest = refl }
-
 module _ (n i t : ℕ) (nodes₀ : List (List ℕ)) (to₀ : List ℕ) (nodes : List (List ℕ)) (to : List ℕ)
     (hi : i < n) (hn : n ≤ length nodes) (ht : n ≤ length to) (is-t : t ≡ get_or to i 0) (m : Moving n i nodes₀ to₀ nodes to) where
-  pub next : t ≡ i → Moving n (i + 1) nodes₀ to₀ nodes to
-  next e = record { places = m.places; settled = λ j h. go j h (same j i); follows = m.follows; rest = m.rest }
-    where
-      go : (j : ℕ) → j < i + 1 → Same j i → get_or to j 0 ≡ j
-      go j h (yes d) = ap (λ (x : ℕ). get_or to x 0) d ∙ sym is-t ∙ e ∙ sym d
-      go j h (no d) = m.settled j (smaller j i h d)
-
   pub below_t : t < n
   below_t = omega (arith, m.places.within i hi)
 
@@ -106,7 +94,7 @@ module _ (n i t : ℕ) (nodes₀ : List (List ℕ)) (to₀ : List ℕ) (nodes : 
     moved_to : (k : ℕ) → get_or (swapped 0 to i t) k 0 ≡ get_or to (exch i t k) 0
     moved_to k = swapped_at i t apart 0 to k (omega arith) (omega (arith, below_t))
 
-    pub exchange : Moving n i nodes₀ to₀ (swapped [] nodes i t) (swapped 0 to i t)
+    exchange : Moving n i nodes₀ to₀ (swapped [] nodes i t) (swapped 0 to i t)
     exchange = record {
       places = record {
         within = λ k h. rw (moved_to k) (m.places.within (exch i t k) (exch_below i t apart n k hi below_t h));
@@ -115,17 +103,19 @@ module _ (n i t : ℕ) (nodes₀ : List (List ℕ)) (to₀ : List ℕ) (nodes : 
             ∙ ap (exch i t) (m.places.apart (exch i t a) (exch i t b) (exch_below i t apart n a hi below_t ha) (exch_below i t apart n b hi below_t hb) (sym (moved_to a) ∙ e ∙ moved_to b))
             ∙ exch_exch i t apart b;
       };
-      settled = λ j h. rw (moved_to j, exch_other i t j (λ e. lt_irrefl_at j i h e) (λ e. not_t j h e)) (m.settled j h);
+      settled = λ j h. rw (moved_to j, exch_other i t j (ne_of_lt h) (λ e. not_t j h e)) (m.settled j h);
       follows = λ f e k h.
           ap (λ (x : ℕ). get_or f x []) (moved_to k) ∙ m.follows f e (exch i t k) (exch_below i t apart n k hi below_t h) ∙ sym (swapped_at i t apart [] nodes k (omega arith) (omega (arith, below_t)));
       rest = drop-set-lt n (set nodes i (get_or nodes t [])) t (get_or nodes i []) below_t ∙ drop-set-lt n nodes i (get_or nodes t []) hi ∙ m.rest;
     }
       where
-        lt_irrefl_at : (j i : ℕ) → j < i → j ≡ i → ⊥
-        lt_irrefl_at j i h e = omega arith
-
         not_t : (j : ℕ) → j < i → j ≡ t → ⊥
-        not_t j h e = lt_irrefl_at j i h (m.places.apart j i (omega arith) hi (m.settled j h ∙ e ∙ is-t))
+        not_t j h e = ne_of_lt h (m.places.apart j i (omega arith) hi (m.settled j h ∙ e ∙ is-t))
+
+    -- as std's `swap` leaves them
+    pub exchanged : {nodes' : List (List ℕ)} {to' : List ℕ} → nodes' ≡ swap nodes i t → to' ≡ swap to i t → Moving n i nodes₀ to₀ nodes' to'
+    exchanged e f =
+        rw (e ∙ sym (swap_is nodes i t [] (omega arith) (omega (arith, below_t))), f ∙ sym (swap_is to i t 0 (omega arith) (omega (arith, below_t)))) exchange
 
 -- ---- how many of the first n places do not hold their own number
 
@@ -167,7 +157,7 @@ loose_less s s' (suc n) t f h a b = go (same t n) (λ k. loose_less s s' n t (λ
         let b' : get_or s' n 0 ≡ n = ap (λ (y : ℕ). get_or s' y 0) (sym e) ∙ b ∙ e in
         rw (eq-eqb (get_or s' n 0) n b', ne_eqb (get_or s n 0) n a') (omega (arith, loose_mono s s' n (λ j h. f j (omega arith))))
     go (no e) less =
-        omega (arith, less (smaller t n (omega arith) e), one_mono (get_or s n 0) (get_or s' n 0) n (f n (omega arith)))
+        omega (arith, less (lt_of_le_of_ne (omega arith) e), one_mono (get_or s n 0) (get_or s' n 0) n (f n (omega arith)))
 
 -- an exchange settles the place t
 pub exchange_less : (n i t : ℕ) (to : List ℕ) → i < n → n ≤ length to → t ≡ get_or to i 0 → (i ≡ t → ⊥) → Places n to → loose (swapped 0 to i t) n < loose to n
@@ -190,19 +180,6 @@ arrived n nodes₀ to₀ nodes to hn m f long e =
     let lt : k < n = omega arith in
     get_or-take n nodes k [] lt ∙ sym (m.follows f e k lt) ∙ ap (λ (x : ℕ). get_or f x []) (m.settled k lt)) in
     sym (take-append-drop n nodes) ∙ ap (λ (x : List (List ℕ)). x ++ drop n nodes) front ∙ ap (λ (x : List (List ℕ)). f ++ x) m.rest
-
-pub carried : {n i : ℕ} {nodes₀ : List (List ℕ)} {to₀ : List ℕ} {nodes nodes' : List (List ℕ)} {to to' : List ℕ} → nodes' ≡ nodes → to' ≡ to → Moving n i nodes₀ to₀ nodes to → Moving n i nodes₀ to₀ nodes' to'
-carried p q m = rw (p, q) m
-
--- std's `swap`
-pub swap_is : {A : Type 0} (d : A) (l : List A) (i j : ℕ) → i < length l → j < length l → swap l i j ≡ swapped d l i j
-swap_is d [] i j hi hj = absurd (omega arith)
-swap_is d (x ∷ xs) i j hi hj = rw (get_or-default (x ∷ xs) i x d hi, get_or-default (x ∷ xs) j x d hj)
-  where
-    get_or-default : {A : Type 0} (l : List A) (i : ℕ) (a b : A) → i < length l → get_or l i a ≡ get_or l i b
-    get_or-default [] i a b h = absurd (omega arith)
-    get_or-default (x ∷ xs) zero a b h = refl
-    get_or-default (x ∷ xs) (suc i) a b h = get_or-default xs i a b (omega arith)
 
 -- the same where all move
 pub all_arrived : (nodes₀ : List (List ℕ)) (to₀ : List ℕ) (nodes : List (List ℕ)) (to : List ℕ) (n i : ℕ) → i ≡ n → n ≡ length nodes → n ≡ length nodes₀

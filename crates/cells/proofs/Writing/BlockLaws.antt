@@ -5,11 +5,13 @@ use mathlib.Core.Path.{◌≡◌, refl}
 use mathlib.Core.List.{List, [], ◌∷◌}
 use lib.ListN.{length, length-append}
 use Rattle.records.specs.Put.{joined}
-use Rattle.cells.specs.Words.{to_node, to_link, to_junction, to_ref}
-use Rattle.cells.specs.Entries.{links_in, values_in, stored_start, file_node, file_link, file_junction}
-use Rattle.cells.specs.Blocks.{link_record, ref_record, junction_record, node_record, links_records, refs_block, junctions_block, links_block, nodes_block}
-use Rattle.records.proofs.RecordBack.{node_length, link_length_law, junction_length, ref_length}
-use Rattle.cells.proofs.Sequences.Joined.{joined_length, laid_length}
+use Rattle.cells.specs.Words.{to_node, to_junction, to_ref}
+use Rattle.cells.specs.Entries.{links_in, values_in, stored_start, file_node, file_junction}
+use Rattle.cells.specs.Blocks.{ref_record, junction_record, node_record, links_records, refs_block, junctions_block, links_block, nodes_block}
+use Rattle.records.proofs.RecordBack.{node_length, junction_length, ref_length}
+use Rattle.records.proofs.Puts.{joined_length}
+use Rattle.cells.proofs.Writing.Ranges.{links_size}
+use Rattle.cells.proofs.Sequences.Joined.{laid_length}
 
 pub record_length : (links : List (List ℕ)) (before : ℕ) (n : List ℕ) → length (node_record links before n) ≡ 40
 record_length links before n =
@@ -26,7 +28,7 @@ links_length links (n ∷ ns) =
     omega (
       arith,
       length-append (links_records links n) (links_block links ns),
-      joined_length link_record 8 (λ e. link_length_law (file_link (to_link e))) (links_in links n),
+      links_size links n,
       links_length links ns,
       length-append (links_in links n) (joined (links_in links) ns),
     )

@@ -1,8 +1,9 @@
 -- One turn of a check, and what an accepted check says of each entry.
+use Rattle.std.proofs.lemmas.Bool.{or_parts}
 use Prim.Native.Nat.{ℕ, zero, suc, ◌+◌, ◌≤◌, ◌<◌}
 use native.Mathlib.Omega.{arith}
 use mathlib.Core.Path.{◌≡◌, refl, sym, ap, ◌∙◌}
-use mathlib.Core.Bool.{Bool, true, false, ◌||◌}
+use mathlib.Core.Bool.{Bool, true, false}
 use mathlib.Core.List.{List, [], ◌∷◌}
 use lib.Dec.{ltb}
 use lib.ListN.{length, get_or, drop, drop_of_length-le}
@@ -16,7 +17,7 @@ use Rattle.numbers.specs.declared.refusal.Refusal.{Refusal}
 use Rattle.numbers.specs.declared.refusal.Refusal.TheVariants.{TooManyLinks, LinksStartTooHigh, ValuesStartTooHigh}
 
 unless_accepted : (b : Bool) (cause : Refusal) (next : Result ℕ Refusal) → accepted (unless b (Err cause) next) ≡ true → (b ≡ false) × (accepted next ≡ true)
-unless_accepted true cause next e = let z : ◌≡◌ {A = ℕ} 0 1 = cc in absurd (omega arith)
+unless_accepted true cause next e = cc
 unless_accepted false cause next e = (refl, e)
 
 module _ (count : List ℕ → ℕ) (ns : List (List ℕ)) (place before i : ℕ) where
@@ -57,29 +58,28 @@ module _ (count : List ℕ → ℕ) (ns : List (List ℕ)) (place before i : ℕ
 
     -- what was accepted from here on: this node is no cause, and the rest is accepted
     pub nodes_inside : accepted (check_nodes count place before (drop i ns)) ≡ true
-        → (count (get_or ns i []) ≤ 31) × (stored_start before (count (get_or ns i [])) ≤ 65535) × (accepted (check_nodes count (place + 1) (before + count (get_or ns i [])) (drop (i + 1) ns)) ≡ true)
+        → (accepted (check_nodes count place before (drop i ns)) ≡ accepted (check_nodes count (place + 1) (before + count (get_or ns i [])) (drop (i + 1) ns)))
+        × (count (get_or ns i []) ≤ 31) × (stored_start before (count (get_or ns i [])) ≤ 65535)
     nodes_inside e =
         let rest = check_nodes count (place + 1) (before + count (get_or ns i [])) (drop (i + 1) ns) in
         let a = unless_accepted (ltb 31 (count (get_or ns i []))) (TooManyLinks place) (unless (start_over before (count (get_or ns i []))) (Err (LinksStartTooHigh place)) rest) (ap accepted (sym nodes_open) ∙ e) in
         let b = unless_accepted (start_over before (count (get_or ns i []))) (LinksStartTooHigh place) rest a.1 in
-        (ltb-false _ _ a.0, ltb-false _ _ b.0, b.1)
+        (e ∙ sym b.1, ltb-false _ _ a.0, ltb-false _ _ b.0)
 
     pub junctions_inside : accepted (check_junctions count place before (drop i ns)) ≡ true
-        → (before ≤ 65535) × (accepted (check_junctions count (place + 1) (before + count (get_or ns i [])) (drop (i + 1) ns)) ≡ true)
+        → (accepted (check_junctions count place before (drop i ns)) ≡ accepted (check_junctions count (place + 1) (before + count (get_or ns i [])) (drop (i + 1) ns)))
+        × (before ≤ 65535)
     junctions_inside e =
         let rest = check_junctions count (place + 1) (before + count (get_or ns i [])) (drop (i + 1) ns) in
         let b = unless_accepted (ltb 65535 before) (ValuesStartTooHigh place) rest (ap accepted (sym junctions_open) ∙ e) in
-        (ltb-false _ _ b.0, b.1)
+        (e ∙ sym b.1, ltb-false _ _ b.0)
 
 -- ---- 12: heightmaps that are cut
-
-none_of : (a b : Bool) → a || b ≡ false → (a ≡ false) × (b ≡ false)
-none_of true b e = let z : ◌≡◌ {A = ℕ} 0 1 = cc in absurd (omega arith)
-none_of false b e = (refl, e)
 
 -- none is cut: each junction has all its values
 pub maps_at : (pool : ℕ) (js : List (List ℕ)) (i : ℕ) → maps_cut pool js ≡ false → i < length js → value_count (get_or js i []) ≤ values_within pool (get_or js i [])
 unfolding maps_cut
 maps_at pool [] i e lt = absurd (omega arith)
-maps_at pool (j ∷ js) zero e lt = ltb-false (values_within pool j) (value_count j) (none_of (ltb (values_within pool j) (value_count j)) (maps_cut pool js) e).0
-maps_at pool (j ∷ js) (suc i) e lt = maps_at pool js i (none_of (ltb (values_within pool j) (value_count j)) (maps_cut pool js) e).1 (omega arith)
+maps_at pool (j ∷ js) zero e lt =
+    ltb-false (values_within pool j) (value_count j) (or_parts (ltb (values_within pool j) (value_count j)) (maps_cut pool js) e).0
+maps_at pool (j ∷ js) (suc i) e lt = maps_at pool js i (or_parts (ltb (values_within pool j) (value_count j)) (maps_cut pool js) e).1 (omega arith)

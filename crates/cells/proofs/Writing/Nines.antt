@@ -87,7 +87,7 @@ module _ {B : Type 0} (links : List ℕ → List B) where
   told : (place before : ℕ) (nodes : List (List ℕ)) (p : ℕ)
       → check_nodes (λ n. length (links n)) place before nodes ≡ Err (LinksStartTooHigh p) → Found place before nodes p
   unfolding check_nodes
-  told place before [] p e = let z : ◌≡◌ {A = ℕ} 0 1 = cc in absurd (omega arith)
+  told place before [] p e = cc
   told place before (n ∷ ns) p e =
       by_test (ltb 31 (length (links n)))
       (λ t. eight (rw t at e))
@@ -148,7 +148,7 @@ module _ {B : Type 0} (links : List ℕ → List B) where
 ten : (count : List ℕ → ℕ) (place before : ℕ) (js : List (List ℕ)) (cause : Refusal)
     → check_junctions count place before js ≡ Err cause → number_of cause ≡ 10
 unfolding check_junctions
-ten count place before [] cause e = let z : ◌≡◌ {A = ℕ} 0 1 = cc in absurd (omega arith)
+ten count place before [] cause e = cc
 ten count place before (j ∷ js) cause e =
     by_test (ltb 65535 before)
     (λ t. let q : ◌≡◌ {A = Result ℕ Refusal} (Err (ValuesStartTooHigh place)) (Err cause) = rw t at e in let same : ValuesStartTooHigh place ≡ cause = cc in sym (ap number_of same))
@@ -172,7 +172,7 @@ seven m cause =
     go false false true d f e = named e
     go false false false true f e = named e
     go false false false false true e = named e
-    go false false false false false e = let z : ◌≡◌ {A = ℕ} 0 1 = cc in absurd (omega arith)
+    go false false false false false e = cc
 
 -- the cell's own links of a node
 abbrev own : Memory → List ℕ → List (List ℕ)
@@ -208,7 +208,7 @@ module _ (m : Memory) (s : List ℕ) (p : ℕ) where
       go false false (Ok l) (Ok v) true d f ea eb ed q = other (λ z. omega arith) q
       go false false (Ok l) (Ok v) false (Err x) f ea eb ed q = other (λ z. omega (arith, seven m x ed)) q
       go false false (Ok l) (Ok v) false (Ok tt) true ea eb ed q = other (λ z. omega arith) q
-      go false false (Ok l) (Ok v) false (Ok tt) false ea eb ed q = let z : ◌≡◌ {A = ℕ} 0 1 = cc in absurd (omega arith)
+      go false false (Ok l) (Ok v) false (Ok tt) false ea eb ed q = cc
 
   -- such a cell, within the limits and with whole heightmaps, is refused so, and the section stays
   pub nine_refused : over_limit (held m).ynd ≡ false → maps_cut (held m).ynd.heightmap_count (held m).junctions ≡ false

@@ -12,7 +12,7 @@ use Rattle.cells.specs.NodeWords.{link_start, link_count, value_start, value_cou
 use Rattle.cells.specs.Entries.{links_in, values_in, file_link}
 use Rattle.cells.specs.WriteChecks.{links_within, values_within}
 use Rattle.cells.specs.Blocks.{link_record, links_records}
-use Rattle.cells.proofs.Sequences.Joined.{joined_length}
+use Rattle.records.proofs.Puts.{joined_length}
 
 module _ {A : Type 0} where
   -- the first entries, as many as there are of a count
@@ -27,8 +27,8 @@ pub link_count_law : (links : List (List ℕ)) (n : List ℕ) → length (links_
 unfolding links_in links_within
 link_count_law links n = length-take (link_count n) (drop (link_start n) links) ∙ ap (min (link_count n)) (length-drop (link_start n) links)
 
-pub links_size : (links : List (List ℕ)) (n : List ℕ) → length (links_records links n) ≡ 8 * links_within (length links) n
-links_size links n = joined_length link_record 8 (λ e. link_length_law (file_link (to_link e))) (links_in links n) ∙ ap (◌*◌ 8) (link_count_law links n)
+pub links_size : (links : List (List ℕ)) (n : List ℕ) → length (links_records links n) ≡ 8 * length (links_in links n)
+links_size links n = joined_length link_record 8 (λ e. link_length_law (file_link (to_link e))) (links_in links n)
 
 -- ---- a junction's values
 

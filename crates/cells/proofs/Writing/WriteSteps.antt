@@ -1,14 +1,16 @@
 -- The call's answer, by the tests that lead to it.
-use Prim.Native.Nat.{ℕ, ◌+◌, ◌*◌, ◌≤◌, ◌<◌}
+use Prim.Native.Nat.{ℕ, ◌+◌, ◌*◌, ◌≤◌}
 use native.Mathlib.Omega.{arith}
 use mathlib.Core.Path.{◌≡◌, refl, sym, ap, ◌∙◌}
 use mathlib.Core.Bool.{Bool, true, false}
 use mathlib.Core.List.{List, [], ◌∷◌, ◌++◌, map}
 use lib.Dec.{ltb}
 use lib.ListN.{length, drop}
-use borrow.Author.Tests.{lt-ltb, le-ltb, ltb-false}
-use Rattle.records.specs.Layout.{sizes, places_of, header_size, lay}
-use Rattle.records.proofs.Laid.{lay_total, section_length}
+use borrow.Author.Tests.{le-ltb, le-leb, ltb-false}
+use Rattle.records.specs.Layout.{sizes, places_of, header_size, header_bytes, lay, section_bytes}
+use Rattle.records.specs.Put.{put, stored_to}
+use Rattle.records.proofs.Puts.{put_start, then}
+use Rattle.records.proofs.Laid.{lay_total, header_length, section_length}
 use Rattle.records.specs.declared.layout.Places.{Places}
 use Rattle.cells.specs.Entries.{links_in, values_in}
 use Rattle.cells.specs.WriteChecks.{links_within, values_within, maps_cut, accepted, check_nodes, check_junctions}
@@ -23,49 +25,24 @@ use Rattle.cells.proofs.Writing.BlockLaws.{nodes_length, links_length, junctions
 use Rattle.cells.proofs.Writing.Ranges.{link_count_law, value_count_law, value_small, node_counts, junction_counts}
 use Rattle.cells.proofs.Writing.WriteTotals.{nodes_total, junctions_total}
 use Rattle.std.specs.Prelude.{Result, Ok, Err}
-use Rattle.numbers.specs.Refusals.{Answer, refuse_if, and_then}
+use Rattle.numbers.specs.Refusals.{Answer, done, refuse_if, and_then}
 use Rattle.numbers.specs.declared.refusal.Refusal.{Refusal}
 use Rattle.numbers.specs.declared.refusal.Refusal.TheVariants.{TooManyRefs, WrongSize, AtLimit}
 
 -- ---- the checks 14, 12 and 8 to 11
 
+-- the counts by the list, and by its length
+pub nodes_say : (links : List (List ℕ)) (place before : ℕ) (ns : List (List ℕ))
+    → check_nodes (links_within (length links)) place before ns ≡ check_nodes (λ n. length (links_in links n)) place before ns
+nodes_say links place before ns = ap (λ (f : List ℕ → ℕ). check_nodes f place before ns) (sym (node_counts links))
+
+pub junctions_say : (heights : List ℕ) (place before : ℕ) (js : List (List ℕ))
+    → check_junctions (values_within (length heights)) place before js ≡ check_junctions (λ j. length (values_in heights j)) place before js
+junctions_say heights place before js = ap (λ (f : List ℕ → ℕ). check_junctions f place before js) (sym (junction_counts heights))
+
 module _ (h : Memory) where
-  nodes_say : (r : Result ℕ Refusal) → check_nodes (links_within (length h.links)) 0 0 h.nodes ≡ r → check_nodes (λ n. length (links_in h.links n)) 0 0 h.nodes ≡ r
-  nodes_say r e = ap (λ (f : List ℕ → ℕ). check_nodes f 0 0 h.nodes) (node_counts h.links) ∙ e
-
-  junctions_say : (r : Result ℕ Refusal) → check_junctions (values_within (length h.heights)) 0 0 h.junctions ≡ r → check_junctions (λ j. length (values_in h.heights j)) 0 0 h.junctions ≡ r
-  junctions_say r e = ap (λ (f : List ℕ → ℕ). check_junctions f 0 0 h.junctions) (junction_counts h.heights) ∙ e
-
   abbrev answer : Result Counts Refusal
   answer = write_counts h
-
-  pub over_refused : over_limit h.ynd ≡ true → Err AtLimit ≡ answer
-  unfolding write_counts
-  over_refused o = rw o
-
-  pub maps_refused : over_limit h.ynd ≡ false → maps_cut h.ynd.heightmap_count h.junctions ≡ true → Err WrongSize ≡ answer
-  unfolding write_counts
-  maps_refused o c = rw (o, c)
-
-  module _ (o : over_limit h.ynd ≡ false) (w : maps_cut h.ynd.heightmap_count h.junctions ≡ false) where
-    pub nodes_refused : (cause : Refusal) → check_nodes (links_within (length h.links)) 0 0 h.nodes ≡ Err cause → Err cause ≡ answer
-    unfolding write_counts
-    nodes_refused cause e = rw (o, w, nodes_say (Err cause) e)
-
-    module _ (l : ℕ) (e : check_nodes (links_within (length h.links)) 0 0 h.nodes ≡ Ok l) where
-      pub junctions_refused : (cause : Refusal) → check_junctions (values_within (length h.heights)) 0 0 h.junctions ≡ Err cause → Err cause ≡ answer
-      unfolding write_counts
-      junctions_refused cause f = rw (o, w, nodes_say (Ok l) e, junctions_say (Err cause) f)
-
-      module _ (v : ℕ) (f : check_junctions (values_within (length h.heights)) 0 0 h.junctions ≡ Ok v) where
-        pub refs_refused : 65535 < h.ynd.ref_count → Err TooManyRefs ≡ answer
-        unfolding write_counts
-        refs_refused g = rw (o, w, nodes_say (Ok l) e, junctions_say (Ok v) f, lt-ltb 65535 h.ynd.ref_count g)
-
-        pub counted_all : h.ynd.ref_count ≤ 65535
-            → Ok (record { nodes = length h.nodes; links = l; junctions = length h.junctions; heights = v; refs = length h.refs }) ≡ answer
-        unfolding write_counts
-        counted_all g = rw (o, w, nodes_say (Ok l) e, junctions_say (Ok v) f, le-ltb 65535 h.ynd.ref_count g)
 
   pub ready : Cut h → (k : Counts) → answer ≡ Ok k → Counted h k
   unfolding write_counts
@@ -73,27 +50,27 @@ module _ (h : Memory) where
       by_test (over_limit h.ynd)
       (λ t.
       let r : Err AtLimit ≡ Ok k = rw t at told in
-      let z : ◌≡◌ {A = ℕ} 0 1 = cc in absurd (omega arith))
+      cc)
       (λ o. by_test (maps_cut h.ynd.heightmap_count h.junctions)
       (λ t.
       let r : Err WrongSize ≡ Ok k = rw (o, t) at told in
-      let z : ◌≡◌ {A = ℕ} 0 1 = cc in absurd (omega arith))
+      cc)
       (λ w. go o w (check_nodes (links_within (length h.links)) 0 0 h.nodes) (check_junctions (values_within (length h.heights)) 0 0 h.junctions) refl refl))
     where
       go : over_limit h.ynd ≡ false → maps_cut h.ynd.heightmap_count h.junctions ≡ false → (a b : Result ℕ Refusal) → check_nodes (links_within (length h.links)) 0 0 h.nodes ≡ a → check_junctions (values_within (length h.heights)) 0 0 h.junctions ≡ b → Counted h k
       go o w (Err x) b ea eb =
-          let r : Err x ≡ Ok k = rw (o, w, nodes_say (Err x) ea) at told in
-          let z : ◌≡◌ {A = ℕ} 0 1 = cc in absurd (omega arith)
+          let r : Err x ≡ Ok k = rw (o, w, sym (nodes_say h.links 0 0 h.nodes) ∙ ea) at told in
+          cc
       go o w (Ok l) (Err x) ea eb =
-          let r : Err x ≡ Ok k = rw (o, w, nodes_say (Ok l) ea, junctions_say (Err x) eb) at told in
-          let z : ◌≡◌ {A = ℕ} 0 1 = cc in absurd (omega arith)
+          let r : Err x ≡ Ok k = rw (o, w, sym (nodes_say h.links 0 0 h.nodes) ∙ ea, sym (junctions_say h.heights 0 0 h.junctions) ∙ eb) at told in
+          cc
       go o w (Ok l) (Ok v) ea eb =
           by_test (ltb 65535 h.ynd.ref_count)
           (λ t.
-          let r : Err TooManyRefs ≡ Ok k = rw (o, w, nodes_say (Ok l) ea, junctions_say (Ok v) eb, t) at told in
-          let z : ◌≡◌ {A = ℕ} 0 1 = cc in absurd (omega arith))
+          let r : Err TooManyRefs ≡ Ok k = rw (o, w, sym (nodes_say h.links 0 0 h.nodes) ∙ ea, sym (junctions_say h.heights 0 0 h.junctions) ∙ eb, t) at told in
+          cc)
           (λ u.
-          let r : Ok (record { nodes = length h.nodes; links = l; junctions = length h.junctions; heights = v; refs = length h.refs }) ≡ Ok k = rw (o, w, nodes_say (Ok l) ea, junctions_say (Ok v) eb, u) at told in
+          let r : Ok (record { nodes = length h.nodes; links = l; junctions = length h.junctions; heights = v; refs = length h.refs }) ≡ Ok k = rw (o, w, sym (nodes_say h.links 0 0 h.nodes) ∙ ea, sym (junctions_say h.heights 0 0 h.junctions) ∙ eb, u) at told in
           let e : ◌≡◌ {A = Counts} (record { nodes = length h.nodes; links = l; junctions = length h.junctions; heights = v; refs = length h.refs }) k = cc in
           let p = nodes_total (links_in h.links) (links_within (length h.links)) (link_count_law h.links) 0 0 h.nodes l (omega arith) ea in
           let q = junctions_total (values_in h.heights) (values_within (length h.heights)) (value_count_law h.heights) (value_small (length h.heights)) 0 0 h.junctions v (omega arith) eb in
@@ -223,11 +200,23 @@ module _ (h : Memory) (lack : Answer) (s : List ℕ) where
     goes_on g = ap (λ (c : Answer). after c s (stored h s)) (sym g) ∙ ap if_counted (sym e) ∙ by_counts
 
 -- the header and the arrays behind it
-pub arrays_room : (h : Memory) → header_size + length (lay header_size (blocks h)) ≡ length (written h)
+pub arrays_room : (h : Memory) → length (written h) ≡ header_size + length (lay header_size (blocks h))
 unfolding written
-arrays_room h = lay_total header_size (blocks h) ∙ sym (section_length (root_for h (map length (blocks h))) (blocks h))
+arrays_room h = section_length (root_for h (map length (blocks h))) (blocks h) ∙ sym (lay_total header_size (blocks h))
 
 -- a section that has room
 pub stored_fits : (h : Memory) (s : List ℕ) → length (written h) ≤ length s → stored h s ≡ left (Ok (length (written h))) (written h ++ drop (length (written h)) s)
 unfolding stored
 stored_fits h s fits = rw (le-ltb (length s) (length (written h)) fits)
+
+-- what ends inside is stored
+pub stored_in : (end len : ℕ) → end ≤ len → stored_to end len ≡ done
+stored_in end len h = rw (le-leb end len h)
+
+-- the header put, and the arrays behind it
+pub section_put : (h : Memory) (s : List ℕ) → length (written h) ≤ length s
+    → put (put s 0 (header_bytes (root_for h (map length (blocks h))))) header_size (lay header_size (blocks h)) ≡ written h ++ drop (length (written h)) s
+unfolding written section_bytes
+section_put h s fits =
+    let r = root_for h (map length (blocks h)) in
+    then s _ _ 0 header_size (header_bytes r) (lay header_size (blocks h)) refl refl (omega (arith, header_length r)) (omega arith) ∙ put_start s (written h)

@@ -15,7 +15,7 @@ use Rattle.numbers.specs.declared.refusal.Refusal.{Refusal}
 use Rattle.numbers.specs.declared.refusal.Refusal.TheVariants.{TooManyLinks, LinksStartTooHigh, ValuesStartTooHigh}
 
 unless_sum : (b : Bool) (cause : Refusal) (next : Result ℕ Refusal) (n : ℕ) → unless b (Err cause) next ≡ Ok n → (b ≡ false) × (next ≡ Ok n)
-unless_sum true cause next n e = let z : ◌≡◌ {A = ℕ} 0 1 = cc in absurd (omega arith)
+unless_sum true cause next n e = cc
 unless_sum false cause next n e = (refl, e)
 
 module _ {B : Type 0} (f : List ℕ → List B) (count : List ℕ → ℕ) (same : (x : List ℕ) → length (f x) ≡ count x) where

@@ -20,7 +20,8 @@ use Rattle.cells.specs.Blocks.{written}
 use Rattle.cells.specs.Write.{WriteLeft, left, refuse, or_else, after, held, stored, write_held, write_call}
 use Rattle.cells.specs.WriteRead.{Both, if_read, if_written, write_read_of}
 use Rattle.cells.specs.BackCheck.{held_counts, lengths, back_check}
-use Rattle.cells.proofs.Sequences.Tests.{map_take, map_drop, and_left, and_right}
+use Rattle.cells.proofs.Sequences.Tests.{and_left, and_right}
+use Rattle.std.proofs.lemmas.List.{take-map, drop-map}
 use Rattle.cells.proofs.WritingBack.BackCheck.{tested_first}
 use Rattle.cells.proofs.Sequences.JoinedCounts.{count_map}
 use Rattle.cells.proofs.WritingBack.AsRead.{whole_map, AsRead}
@@ -38,8 +39,8 @@ links_same ls ns = count_map (λ (n : Node). n.links) (node_with (map link_of ls
   where
     as_many : (w : List ℕ) → length (take (link_count w) (drop (link_start w) (map link_of ls))) ≡ length (take (link_count w) (drop (link_start w) ls))
     as_many w =
-        ap (λ (x : List Link). length (take (link_count w) x)) (map_drop link_of (link_start w) ls)
-        ∙ ap {A = List Link} length (map_take link_of (link_count w) (drop (link_start w) ls))
+        ap (λ (x : List Link). length (take (link_count w) x)) (drop-map link_of (link_start w) ls)
+        ∙ ap {A = List Link} length (take-map link_of (link_count w) (drop (link_start w) ls))
         ∙ length-map (take (link_count w) (drop (link_start w) ls)) link_of
 
 values_same : (hs : List ℕ) (js : List (List ℕ)) → length (joined (λ j. j.values) (map (junction_with hs) js)) ≡ length (joined (values_in hs) js)
@@ -71,7 +72,7 @@ else_leaves true x s next h cause e = refl
 else_leaves false x s next h cause e = h cause e
 
 wrote_leaves : (n : ℕ) (t s : List ℕ) → Leaves s (left (Ok n) t)
-wrote_leaves n t s cause e = let z : ◌≡◌ {A = ℕ} 0 1 = cc in absurd (omega arith)
+wrote_leaves n t s cause e = cc
 
 stored_leaves : (h : Memory) (s : List ℕ) → Leaves s (stored h s)
 unfolding stored
@@ -100,9 +101,6 @@ refused_leaves m s = held_leaves (held m) (short m) s
 
 -- ---- all of reading back
 
-taken_few : {A : Type 0} (n : ℕ) (l : List A) → length (take n l) ≤ length l
-taken_few n l = omega (arith, length-take n l)
-
 module _ (m : Memory) (h : AsRead m) where
   abbrev ns : List (List ℕ)
   ns = take m.ynd.node_count m.nodes
@@ -128,11 +126,11 @@ module _ (m : Memory) (h : AsRead m) where
   unfolding held room_check
   room_enough =
       rw (
-        le-ltb (length m.nodes) (length ns) (taken_few m.ynd.node_count m.nodes),
+        le-ltb (length m.nodes) (length ns) (omega (arith, length-take m.ynd.node_count m.nodes)),
         le-ltb (length m.links) (length (joined (links_in ls) ns)) links_room,
-        le-ltb (length m.junctions) (length js) (taken_few m.ynd.junction_count m.junctions),
+        le-ltb (length m.junctions) (length js) (omega (arith, length-take m.ynd.junction_count m.junctions)),
         le-ltb (length m.heights) (length (joined (values_in hs) js)) values_room,
-        le-ltb (length m.refs) (length (take m.ynd.ref_count m.refs)) (taken_few m.ynd.ref_count m.refs),
+        le-ltb (length m.refs) (length (take m.ynd.ref_count m.refs)) (omega (arith, length-take m.ynd.ref_count m.refs)),
       )
       refl
 

@@ -1,17 +1,17 @@
 -- The answer that is found before anything is stored is the answer of writing and reading back.
-use Prim.Native.Nat.{ℕ, ◌≤◌, ◌<◌}
+use Prim.Native.Nat.{ℕ, ◌≤◌}
 use mathlib.Core.Path.{◌≡◌, refl, sym, ap, ◌∙◌, subst}
 use mathlib.Core.Bool.{Bool, true, false}
 use mathlib.Core.List.{List, [], ◌++◌}
 use lib.Dec.{ltb}
 use lib.ListN.{length, take, drop}
-use borrow.Author.Tests.{lt-ltb, le-ltb, ltb-false}
-use Rattle.cells.specs.Memory.{Memory, short, short_of}
+use borrow.Author.Tests.{ltb-false}
+use Rattle.cells.specs.Memory.{Memory, short}
 use Rattle.cells.specs.Read.{read_of}
 use Rattle.cells.specs.Blocks.{written}
 use Rattle.cells.specs.Write.{WriteLeft, left, refuse, or_else, held, stored, write_call}
 use Rattle.cells.specs.WriteRead.{Both, if_read, if_written, write_read_of}
-use Rattle.cells.specs.BackCheck.{held_counts, lengths, back_tests, back_check}
+use Rattle.cells.specs.BackCheck.{lengths, back_tests, back_check}
 use Rattle.cells.specs.BackAnswer.{back_answer}
 use Rattle.cells.specs.declared.count.Counts.{Counts}
 use Rattle.cells.specs.WriteCounts.{Counted}
@@ -25,30 +25,10 @@ use Rattle.numbers.specs.declared.refusal.Refusal.{Refusal}
 use Rattle.numbers.specs.declared.refusal.Refusal.TheVariants.{TooShort}
 use Rattle.numbers.specs.declared.refusal.Lent.TheVariants.{Section}
 
--- ---- the tests in their order
-
-module _ (h : Memory) (lent : Counts) (section : ℕ) where
-  pub counts_first : (cause : Refusal) → counts_of h ≡ Err cause → Err cause ≡ back_answer h lent section
-  unfolding back_answer
-  counts_first cause e = sym (rw e)
-
-  module _ (k : Counts) (e : counts_of h ≡ Ok k) where
-    pub lists_first : (cause : Refusal) → short_of h.ynd lent.nodes lent.links lent.junctions lent.heights lent.refs ≡ Err cause → Err cause ≡ back_answer h lent section
-    unfolding back_answer
-    lists_first cause t = sym (rw (e, t))
-
-    module _ (t : short_of h.ynd lent.nodes lent.links lent.junctions lent.heights lent.refs ≡ Ok tt) where
-      pub room_first : section < length (written h) → Err (TooShort Section) ≡ back_answer h lent section
-      unfolding back_answer
-      room_first u = sym (rw (e, t, lt-ltb section (length (written h)) u))
-
-      pub back_last : length (written h) ≤ section → Counted h k → (d : Answer) (all : ℕ) → all ≡ length (written h)
-          → d ≡ back_tests k lent → unless d (Ok all) ≡ back_answer h lent section
-      unfolding back_answer back_check
-      back_last u r d all same g =
-          let counts : k ≡ held_counts h = λ i. record { nodes = r.nodes_are i; links = r.links_are i; junctions = r.junctions_are i; heights = r.heights_are i; refs = r.refs_are i } in
-          (λ i. unless (g i) (Ok all)) ∙ (λ i. unless (back_tests (counts i) lent) (Ok (same i)))
-          ∙ sym (rw (e, t, le-ltb section (length (written h)) u))
+-- the test of what is written, by the counts
+pub back_told : (h : Memory) (lent k : Counts) → Counted h k → back_check h lent ≡ back_tests k lent
+unfolding back_check
+back_told h lent k r = λ i. back_tests (record { nodes = sym r.nodes_are i; links = sym r.links_are i; junctions = sym r.junctions_are i; heights = sym r.heights_are i; refs = sym r.refs_are i }) lent
 
 -- ---- and what the call leaves
 
@@ -116,8 +96,17 @@ module _ (m : Memory) (s : List ℕ) where
   unfolding back_answer held
   means = by_counts (counts_of (held m)) refl
 
-  pub refused_back : (cause : Refusal) → back_answer (held m) (lengths m) (length s) ≡ Err cause → write_read_of m s ≡ refused_by cause
-  refused_back cause e = subst Means e means
+  -- by the cell that is written, and the lists' lengths, as the call has them
+  module _ {h : Memory} {lent : Counts} {r : Result ℕ Refusal} (is-h : h ≡ held m) (is-lent : lent ≡ lengths m) (told : r ≡ back_answer h lent (length s)) where
+    as_told : back_answer (held m) (lengths m) (length s) ≡ r
+    as_told = (λ i. back_answer (sym is-h i) (sym is-lent i) (length s)) ∙ sym told
 
-  pub accepted_back : (k : ℕ) → back_answer (held m) (lengths m) (length s) ≡ Ok k → Accepted k
-  accepted_back k e = subst Means e means
+    pub refused_back : {cause : Refusal} → r ≡ Err cause → write_read_of m s ≡ refused_by cause
+    refused_back e = subst Means (as_told ∙ e) means
+
+    pub accepted_back : {k : ℕ} → r ≡ Ok k → Accepted k
+    accepted_back e = subst Means (as_told ∙ e) means
+
+  -- the section that the cell was stored in
+  pub now_written : {h : Memory} {t : List ℕ} {k : ℕ} → h ≡ held m → t ≡ (stored h s).section → Accepted k → t ≡ (write_call m s).section
+  now_written is-h e acc = e ∙ (λ i. (stored (is-h i) s).section) ∙ ap (λ (w : WriteLeft). w.section) acc.stores

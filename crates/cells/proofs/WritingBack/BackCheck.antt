@@ -32,7 +32,7 @@ use Rattle.cells.specs.declared.count.Counts.{Counts}
 use Rattle.cells.proofs.Writing.Starts.{start_most}
 use Rattle.cells.proofs.Sequences.Joined.{laid_at}
 use Rattle.cells.proofs.Writing.BlockLaws.{nodes_length, links_length, junctions_length, refs_length}
-use Rattle.cells.proofs.WritingBack.BlocksBack.{junctions_ok, stands_at, junction_in_law, start_of, node_record_law}
+use Rattle.cells.proofs.WritingBack.BlocksBack.{junctions_ok, stands_at, junction_in_law, start_of, node_record_law, high}
 use Rattle.cells.proofs.WritingBack.SectionBack.{long_enough, root_read_law, nodes_here, links_here, junctions_here, heights_here, refs_here}
 use Rattle.cells.proofs.WritingBack.WrittenBack.{Told, write_told}
 use Rattle.cells.proofs.WritingBack.WrittenFew.{written_few}
@@ -84,9 +84,6 @@ module _ (links nodes : List (List ℕ)) (ok : accepted (check_nodes (λ n. leng
   count_at : (i : ℕ) → i < length nodes → links_at block i ≡ length (links_in links (get_or nodes i []))
   unfolding file_node to_node
   count_at i lt = ap (λ r. r.link_count_flags / 8) (node_record_law links nodes ok i lt) ∙ high (length (links_in links (get_or nodes i []))) (get_or (get_or nodes i []) 6 0 / 256 % 256)
-    where
-      high : (c f : ℕ) → (c * 8 + f % 8) / 8 ≡ c
-      high c f = omega arith
 
   start_at : (i : ℕ) → i < length nodes → (node_at block (i * 40)).link_id ≡ start_of links nodes i
   unfolding file_node

@@ -1,9 +1,11 @@
 -- The five arrays as they are written, read: the nodes, junctions and refs that memory holds.
+use Rattle.cells.proofs.Forms.Entries.{ref_fits_law}
+use Rattle.std.proofs.lemmas.List.{map-id, take-map, drop-map}
 use Prim.Native.Nat.{ℕ, zero, suc, ◌+◌, ◌*◌, ◌/◌, ◌%◌, ◌≤◌, ◌<◌}
 use native.Mathlib.Omega.{arith}
-use native.Mathlib.Nat.{zero-add}
+use native.Mathlib.Nat.{zero-add, mod-eq_of_lt}
 use mathlib.Core.Path.{◌≡◌, refl, sym, ap, ◌∙◌}
-use mathlib.Core.Bool.{Bool, true, false}
+use mathlib.Core.Bool.{Bool, true}
 use mathlib.Core.List.{List, [], ◌∷◌, ◌++◌, map}
 use lib.Dec.{eqb, ltb}
 use lib.ListN.{length, get_or, take, drop, length-map, length-append, length-take, length-drop, get_or-map}
@@ -16,7 +18,7 @@ use Rattle.records.specs.Bytes.{byte_at}
 use Rattle.records.specs.Put.{joined}
 use Rattle.records.specs.Records.{node_at, link_at, junction_at, junction_bytes, ref_at}
 use Rattle.records.proofs.LittleEndian.{Stands, stands_taken}
-use Rattle.records.proofs.RecordBack.{NodeFits, node_back, LinkFits, link_back, link_length_law, JunctionFits, junction_back, junction_length, RefFits, ref_back, ref_length}
+use Rattle.records.proofs.RecordBack.{NodeFits, node_back, LinkFits, link_back, link_length_law, JunctionFits, junction_back, junction_length, ref_back, ref_length}
 use Rattle.cells.specs.Lists.{up_to, every}
 use Rattle.cells.specs.NodeWords.{area_of, number_of}
 use Rattle.cells.specs.Words.{to_node, to_link, to_junction, to_ref}
@@ -29,7 +31,7 @@ use Rattle.cells.proofs.WritingBack.KeptCells.{kept_step, kept_link, kept_body, 
 use Rattle.cells.specs.Entries.{links_in, values_in, stored_start, file_node, file_link, file_junction}
 use Rattle.cells.specs.WriteChecks.{accepted, start_over, check_nodes, check_junctions}
 use Rattle.cells.specs.Blocks.{link_record, ref_record, junction_record, node_record, refs_block, heights_block, junctions_block, links_block, nodes_block}
-use Rattle.cells.proofs.Sequences.Tests.{and_left, and_right, by_test, every_at, true_false, map_take, map_drop}
+use Rattle.cells.proofs.Sequences.Tests.{and_left, and_right, by_test, every_at, true_false}
 use Rattle.cells.proofs.Reading.FileRead.{up_to_same}
 use Rattle.cells.proofs.Writing.Starts.{start_some}
 use Rattle.cells.proofs.Sequences.Joined.{joined_at, laid_at, part_back, joined_joined}
@@ -54,16 +56,13 @@ kept_at {B = B} t f xs i z h lt =
 
 -- ---- what an accepted check says of each entry
 
-no_true : {P : Type 0} → false ≡ true → P
-no_true e = true_false (sym e)
-
 pub nodes_ok : {B : Type 0} (f : List ℕ → List B) (place before : ℕ) (ns : List (List ℕ)) (i : ℕ) → accepted (check_nodes (λ n. length (f n)) place before ns) ≡ true → i < length ns
     → (length (f (get_or ns i [])) ≤ 31) × (stored_start (before + length (joined f (take i ns))) (length (f (get_or ns i []))) ≤ 65535)
 unfolding check_nodes joined
 nodes_ok f place before [] i e lt = absurd (omega arith)
 nodes_ok f place before (n ∷ ns) i e lt =
-    by_test (ltb 31 (length (f n))) (λ t. no_true (rw t at e)) (λ u.
-    by_test (start_over before (length (f n))) (λ t. no_true (rw (u, t) at e)) (λ v. go i (λ j d q. nodes_ok f (place + 1) (before + length (f n)) ns j d q) lt (ltb-false _ _ u) (ltb-false _ _ v) (rw (u, v) at e)))
+    by_test (ltb 31 (length (f n))) (λ t. true_false (sym (rw t at e))) (λ u.
+    by_test (start_over before (length (f n))) (λ t. true_false (sym (rw (u, t) at e))) (λ v. go i (λ j d q. nodes_ok f (place + 1) (before + length (f n)) ns j d q) lt (ltb-false _ _ u) (ltb-false _ _ v) (rw (u, v) at e)))
   where
     go : (i : ℕ)
         → ((j : ℕ) → accepted (check_nodes (λ n. length (f n)) (place + 1) (before + length (f n)) ns) ≡ true → j < length ns
@@ -83,7 +82,7 @@ pub junctions_ok : {B : Type 0} (f : List ℕ → List B) (place before : ℕ) (
 unfolding check_junctions joined
 junctions_ok f place before [] i e lt = absurd (omega arith)
 junctions_ok f place before (n ∷ ns) i e lt =
-    by_test (ltb 65535 before) (λ t. no_true (rw t at e)) (λ v. go i (λ j d q. junctions_ok f (place + 1) (before + length (f n)) ns j d q) lt (ltb-false _ _ v) (rw v at e))
+    by_test (ltb 65535 before) (λ t. true_false (sym (rw t at e))) (λ v. go i (λ j d q. junctions_ok f (place + 1) (before + length (f n)) ns j d q) lt (ltb-false _ _ v) (rw v at e))
   where
     go : (i : ℕ)
         → ((j : ℕ) → accepted (check_junctions (λ n. length (f n)) (place + 1) (before + length (f n)) ns) ≡ true → j < length ns → before + length (f n) + length (joined f (take j ns)) ≤ 65535)
@@ -117,8 +116,9 @@ stands_at s b w i e h =
 
 -- ---- numbers
 
-whole : (n : ℕ) → n < 65536 → n % 65536 ≡ n
-whole n h = omega arith
+-- of a node's byte of count and flags: the count
+pub high : (c f : ℕ) → (c * 8 + f % 8) / 8 ≡ c
+high c f = omega arith
 
 -- a coordinate in whole steps is read as it was
 step_back : (k b : ℕ) → kept_step k b ≡ true → to_bits binary32 (unstep k (step_of k (of_bits binary32 b))) ≡ b
@@ -144,8 +144,8 @@ module _ (links nodes : List (List ℕ)) where
       ap file_link_of (link_back (file_link (to_link w)) (link_in w) (links_block links nodes) (q * 8) (stands_at (links_block links nodes) (link_record w) 8 q (link_length_law (file_link (to_link w)))
       (ap (λ (l : List ℕ). take 8 (drop (8 * q) l)) (joined_joined link_record (links_in links) nodes) ∙ joined_at link_record 8 (λ x. link_length_law (file_link (to_link x))) all q [] lt)))
       ∙ (λ k. record {
-        area = whole (get_or w 0 0) area k;
-        number = whole (get_or w 1 0) number k;
+        area = mod-eq_of_lt area k;
+        number = mod-eq_of_lt number k;
         body = record { flags0 = get_or w 2 0 % 256; flags1 = get_or w 2 0 / 256 % 256; flags2 = get_or w 3 0 % 256; len = get_or w 3 0 / 256 % 256 };
       })
 
@@ -245,7 +245,7 @@ module _ (links nodes : List (List ℕ)) (ok : accepted (check_nodes (λ n. leng
       let start = start_of links nodes i in
       let k : kept_node (node_with (map link_of links) w) ≡ true = kept_at kept_node (node_with (map link_of links)) nodes i [] t lt in
       let same : take (get_or w 6 0 / 65536 % 256) (drop (get_or w 7 0) (map link_of links)) ≡ map link_of (links_in links w) =
-      ap (take (get_or w 6 0 / 65536 % 256)) (map_drop link_of (get_or w 7 0) links) ∙ map_take link_of (get_or w 6 0 / 65536 % 256) (drop (get_or w 7 0) links) in
+      ap (take (get_or w 6 0 / 65536 % 256)) (drop-map link_of (get_or w 7 0) links) ∙ take-map link_of (get_or w 6 0 / 65536 % 256) (drop (get_or w 7 0) links) in
       let kl : every kept_link (map link_of (links_in links w)) ≡ true = ap (every kept_link) (sym same) ∙ and_right (kept_body (body_of w)) _ k in
       ap (file_node_of (links_block links nodes)) (node_record_law links nodes ok i lt)
       ∙ (λ j. record {
@@ -254,9 +254,6 @@ module _ (links nodes : List (List ℕ)) (ok : accepted (check_nodes (λ n. leng
         links = (ap (up_to (λ q. file_link_of (link_at (links_block links nodes) ((start + q) * 8)))) (high count (get_or w 6 0 / 256 % 256)) ∙ links_stored_law links nodes i lt kl ∙ sym same) j;
         body = body_back start count w (and_left _ _ k) j;
       })
-    where
-      high : (c f : ℕ) → (c * 8 + f % 8) / 8 ≡ c
-      high c f = omega arith
 
   pub nodes_back : file_nodes block (links_block links nodes) ≡ map (node_with (map link_of links)) nodes
   unfolding file_nodes
@@ -290,11 +287,7 @@ module _ (heights : List ℕ) (js : List (List ℕ)) (ok : accepted (check_junct
       (λ k h.
       let small : get_or own k 0 < 256 = ltb-true _ _ (every_at is_byte own k 0 v h) in
       ap (λ (x : ℕ). x % 256) (part_at (values_in heights) js i [] 0 lt k h) ∙ (let e : get_or own k 0 % 256 ≡ get_or own k 0 = omega arith in e))
-      ∙ up_to_all (λ x. x) own 0 ∙ map_same own
-    where
-      map_same : (l : List ℕ) → map (λ x. x) l ≡ l
-      map_same [] = refl
-      map_same (x ∷ xs) = ap {B = List ℕ} (λ r. x ∷ r) (map_same xs)
+      ∙ up_to_all (λ x. x) own 0 ∙ map-id own
 
   junction_entry_law : (i : ℕ) → i < length js → file_junction_of (heights_block heights js) (junction_at (junctions_block heights js) (i * 12)) ≡ junction_with heights (get_or js i [])
   unfolding file_junction to_junction values_in
@@ -335,10 +328,6 @@ module _ (heights : List ℕ) (js : List (List ℕ)) (ok : accepted (check_junct
 -- ---- refs
 
 module _ (refs : List (List ℕ)) (t : every kept_ref (map ref_of refs) ≡ true) where
-  ref_in_law : (w : List ℕ) → RefFits (to_ref w)
-  unfolding to_ref
-  ref_in_law w = record { area_id = omega arith; node_id = omega arith; junction_id = omega arith; unk0 = omega arith }
-
   ref_entry_law : (i : ℕ) → i < length refs → file_ref_of (ref_at (refs_block refs) (i * 8)) ≡ ref_of (get_or refs i [])
   unfolding to_ref
   ref_entry_law i lt =
@@ -347,12 +336,12 @@ module _ (refs : List (List ℕ)) (t : every kept_ref (map ref_of refs) ≡ true
       let k₁ = and_right (ltb (get_or w 0 0) 65536) _ k in
       let k₂ = and_right (ltb (get_or w 1 0) 65536) _ k₁ in
       let k₃ = and_right (ltb (get_or w 2 0) 65536) _ k₂ in
-      ap file_ref_of (ref_back (to_ref w) (ref_in_law w) (refs_block refs) (i * 8) (stands_at (refs_block refs) (ref_record w) 8 i (ref_length (to_ref w)) (joined_at ref_record 8 (λ x. ref_length (to_ref x)) refs i [] lt)))
+      ap file_ref_of (ref_back (to_ref w) (ref_fits_law w) (refs_block refs) (i * 8) (stands_at (refs_block refs) (ref_record w) 8 i (ref_length (to_ref w)) (joined_at ref_record 8 (λ x. ref_length (to_ref x)) refs i [] lt)))
       ∙ (λ j. record {
-        area = whole (get_or w 0 0) (ltb-true _ _ (and_left _ _ k)) j;
-        number = whole (get_or w 1 0) (ltb-true _ _ (and_left _ _ k₁)) j;
-        junction = whole (get_or w 2 0) (ltb-true _ _ (and_left _ _ k₂)) j;
-        unk0 = whole (get_or w 3 0) (ltb-true _ _ k₃) j;
+        area = mod-eq_of_lt (ltb-true (get_or w 0 0) 65536 (and_left _ _ k)) j;
+        number = mod-eq_of_lt (ltb-true (get_or w 1 0) 65536 (and_left _ _ k₁)) j;
+        junction = mod-eq_of_lt (ltb-true (get_or w 2 0) 65536 (and_left _ _ k₂)) j;
+        unk0 = mod-eq_of_lt (ltb-true (get_or w 3 0) 65536 k₃) j;
       })
 
   pub refs_back : file_refs (refs_block refs) ≡ map ref_of refs

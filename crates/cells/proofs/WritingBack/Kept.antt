@@ -3,7 +3,7 @@
 use Prim.Native.Nat.{ℕ, zero, suc, ◌+◌, ◌-◌, ◌*◌, ◌/◌, ◌%◌, ◌≤◌, ◌<◌}
 use native.Mathlib.Omega.{arith}
 use mathlib.Core.Path.{◌≡◌, refl, ap, ◌∙◌}
-use mathlib.Core.Bool.{Bool, true, false, ◌&&◌, cond}
+use mathlib.Core.Bool.{Bool, true, false, cond}
 use mathlib.Core.List.{List, [], ◌∷◌, map}
 use mathlib.Core.Option.{Option, none, some}
 use lib.Dec.{eqb, ltb}
@@ -13,6 +13,7 @@ use lib.Signed.{mag}
 use lib.Ieee.{Float, binary32, of_bits, to_bits}
 use lib.Ieee.Bits.{of_bits-to_bits}
 use borrow.Author.Tests.{eq-eqb, lt-ltb, ltb-true, ltb-false}
+use Rattle.std.proofs.lemmas.Bool.{and_from}
 use Rattle.numbers.specs.Steps.{step_of, unstep}
 use Rattle.numbers.proofs.StepLaws.{round_trip}
 use Rattle.records.specs.Bytes.{byte_at, le16, le32, signed16}
@@ -35,13 +36,10 @@ use Rattle.cells.proofs.Renumbering.NewCell.{every_number, new_at}
 use Rattle.cells.proofs.Reading.ReadLaws.{length_up_to}
 use Rattle.cells.proofs.Forms.Entries.{unstep_fits}
 
-pub both : (a b : Bool) → a ≡ true → b ≡ true → a && b ≡ true
-both a b e f = cc
-
 pub every_up_to : {A : Type 0} (t : A → Bool) (f : ℕ → A) → ((i : ℕ) → t (f i) ≡ true) → (n : ℕ) → every t (up_to f n) ≡ true
 unfolding every up_to
 every_up_to t f e zero = refl
-every_up_to t f e (suc n) = every_append t (up_to f n) (f n ∷ []) (every_up_to t f e n) (both (t (f n)) true (e n) refl)
+every_up_to t f e (suc n) = every_append t (up_to f n) (f n ∷ []) (every_up_to t f e n) (and_from (t (f n)) true (e n) refl)
 
 -- ---- what was read
 
@@ -58,30 +56,21 @@ step_kept k n h l = by_test (ltb n 32768)
     again : (z : ℤ) → mag z < 32768 → eqb (to_bits binary32 (unstep k (step_of k (of_bits binary32 (to_bits binary32 (unstep k z)))))) (to_bits binary32 (unstep k z)) ≡ true
     again z q = eq-eqb _ _ (ap (λ (x : Float). to_bits binary32 (unstep k (step_of k x))) (of_bits-to_bits binary32 (unstep k z) (unstep_fits k z)) ∙ ap (λ (x : ℤ). to_bits binary32 (unstep k x)) (round_trip k z h q))
 
-below : (a n : ℕ) → a < n → ltb a n ≡ true
-below a n h = lt-ltb a n h
-
 link_kept : (s : List ℕ) (at : ℕ) → kept_link (file_link_of (link_at s at)) ≡ true
 unfolding link_at
-link_kept s at = both (ltb (le16 s at) 65536) (ltb (le16 s (at + 2)) 65536) (below _ _ (le16_below s at)) (below _ _ (le16_below s (at + 2)))
+link_kept s at = and_from (ltb (le16 s at) 65536) (ltb (le16 s (at + 2)) 65536) (lt-ltb _ _ (le16_below s at)) (lt-ltb _ _ (le16_below s (at + 2)))
 
 ref_kept : (s : List ℕ) (at : ℕ) → kept_ref (file_ref_of (ref_at s at)) ≡ true
 unfolding ref_at
-ref_kept s at = cc (below _ _ (le16_below s at), below _ _ (le16_below s (at + 2)), below _ _ (le16_below s (at + 4)), below _ _ (le16_below s (at + 6)))
-
-five : 5 ≤ 5
-five = omega arith
-
-two_five : 2 ≤ 5
-two_five = omega arith
+ref_kept s at = cc (lt-ltb _ _ (le16_below s at), lt-ltb _ _ (le16_below s (at + 2)), lt-ltb _ _ (le16_below s (at + 4)), lt-ltb _ _ (le16_below s (at + 6)))
 
 node_kept : (l s : List ℕ) (at : ℕ) → kept_node (file_node_of l (node_at s at)) ≡ true
 unfolding node_at path_node
 node_kept l s at =
     cc (
-      step_kept 2 (le16 s (at + 28)) two_five (le16_below s (at + 28)),
-      step_kept 2 (le16 s (at + 30)) two_five (le16_below s (at + 30)),
-      step_kept 5 (le16 s (at + 34)) five (le16_below s (at + 34)),
+      step_kept 2 (le16 s (at + 28)) (omega arith) (le16_below s (at + 28)),
+      step_kept 2 (le16 s (at + 30)) (omega arith) (le16_below s (at + 30)),
+      step_kept 5 (le16 s (at + 34)) (omega arith) (le16_below s (at + 34)),
       eq-eqb (byte_at s (at + 37) % 8 % 8) (byte_at s (at + 37) % 8) (omega arith),
       every_up_to kept_link (λ k. file_link_of (link_at l ((le16 s (at + 26) + k) * 8))) (λ k. link_kept l ((le16 s (at + 26) + k) * 8)) (byte_at s (at + 37) / 8),
     )
@@ -92,12 +81,12 @@ junction_kept h s at =
     let f : ℕ → ℕ = λ k. byte_at h (le16 s (at + 8) + k) in
     let n = byte_at s (at + 10) * byte_at s (at + 11) in
     cc (
-      step_kept 2 (le16 s (at + 2)) two_five (le16_below s (at + 2)),
-      step_kept 2 (le16 s (at + 4)) two_five (le16_below s (at + 4)),
-      step_kept 5 (le16 s (at + 6)) five (le16_below s (at + 6)),
-      step_kept 5 (le16 s at) five (le16_below s at),
+      step_kept 2 (le16 s (at + 2)) (omega arith) (le16_below s (at + 2)),
+      step_kept 2 (le16 s (at + 4)) (omega arith) (le16_below s (at + 4)),
+      step_kept 5 (le16 s (at + 6)) (omega arith) (le16_below s (at + 6)),
+      step_kept 5 (le16 s at) (omega arith) (le16_below s at),
       eq-eqb (length (up_to f n)) n (length_up_to f n),
-      every_up_to is_byte f (λ k. below (f k) 256 (omega arith)) n,
+      every_up_to is_byte f (λ k. lt-ltb (f k) 256 (omega arith)) n,
     )
 
 root_kept : (s : List ℕ) (n l j h r : List ℕ) → kept_root (cell_from (root_read s) n l j h r) ≡ true
@@ -107,7 +96,7 @@ root_kept (b ∷ bs) n l j h r =
     cc (word 28, word 32, word 0, word 36, word 52, word 72, word 76, word 92, word 104, word 108)
   where
     word : (at : ℕ) → is_word (le32 (b ∷ bs) at) ≡ true
-    word at = below (le32 (b ∷ bs) at) 4294967296 (number_below 4 (b ∷ bs) at)
+    word at = lt-ltb (le32 (b ∷ bs) at) 4294967296 (number_below 4 (b ∷ bs) at)
 
 from_kept : (s : List ℕ) (n l j h r : List ℕ) → kept (cell_from (root_read s) n l j h r) ≡ true
 unfolding kept cell_from file_nodes file_junctions file_refs
@@ -141,7 +130,7 @@ unfolding renamed
 renamed_small ns a k few t = go (belongs (old_nodes ns).area a)
   where
     go : (b : Bool) → ltb (cond b (new_number (old_nodes ns) k) k) 65536 ≡ true
-    go true = below _ _ (new_small ns k few (ltb-true k 65536 t))
+    go true = lt-ltb _ _ (new_small ns k few (ltb-true k 65536 t))
     go false = t
 
 module _ (c : Cell) (few : length c.nodes ≤ 65536) where
@@ -149,7 +138,7 @@ module _ (c : Cell) (few : length c.nodes ≤ 65536) where
   old = old_nodes c.nodes
 
   link_again : (l : Link) → kept_link l ≡ true → kept_link (relink old l) ≡ true
-  link_again l t = both (ltb l.area 65536) (ltb (renamed old l.area l.number) 65536) (and_left _ _ t) (renamed_small c.nodes l.area l.number few (and_right (ltb l.area 65536) _ t))
+  link_again l t = and_from (ltb l.area 65536) (ltb (renamed old l.area l.number) 65536) (and_left _ _ t) (renamed_small c.nodes l.area l.number few (and_right (ltb l.area 65536) _ t))
 
   ref_again : (r : Ref) → kept_ref r ≡ true → kept_ref (reref old r) ≡ true
   ref_again r t =
@@ -157,7 +146,7 @@ module _ (c : Cell) (few : length c.nodes ≤ 65536) where
       cc (and_left (ltb r.area 65536) _ t, renamed_small c.nodes r.area r.number few (and_left _ _ t₁), and_right (ltb r.number 65536) _ t₁)
 
   node_again : (k : ℕ) (n : Node) → kept_node n ≡ true → kept_node (renode old k n) ≡ true
-  node_again k n t = both (kept_body n.body) (every kept_link (map (relink old) n.links)) (and_left _ _ t) (every_map kept_link (relink old) kept_link link_again n.links (and_right (kept_body n.body) _ t))
+  node_again k n t = and_from (kept_body n.body) (every kept_link (map (relink old) n.links)) (and_left _ _ t) (every_map kept_link (relink old) kept_link link_again n.links (and_right (kept_body n.body) _ t))
 
   pub kept_again : kept c ≡ true → kept (renumber_cell c) ≡ true
   unfolding kept renumber_cell parted
@@ -173,7 +162,7 @@ module _ (c : Cell) (few : length c.nodes ≤ 65536) where
             (every_append kept_node (keep is_vehicle_node c.nodes) (keep is_ped_node c.nodes) (every_keep kept_node is_vehicle_node c.nodes n) (every_keep kept_node is_ped_node c.nodes n)),
         and_left (every kept_junction c.junctions) _ t₁,
         every_map kept_ref (reref old) kept_ref ref_again c.refs (and_left (every kept_ref c.refs) _ t₂),
-        below (length (keep is_vehicle_node c.nodes)) 4294967296 (omega (arith, all, few)),
-        below (length (keep is_ped_node c.nodes)) 4294967296 (omega (arith, all, few)),
+        lt-ltb (length (keep is_vehicle_node c.nodes)) 4294967296 (omega (arith, all, few)),
+        lt-ltb (length (keep is_ped_node c.nodes)) 4294967296 (omega (arith, all, few)),
         t₄,
       )

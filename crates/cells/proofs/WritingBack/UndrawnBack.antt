@@ -3,7 +3,7 @@
 use Prim.Native.Nat.{ℕ, ◌≤◌, ◌<◌}
 use native.Mathlib.Omega.{arith}
 use mathlib.Core.Path.{◌≡◌, refl, ap, ◌∙◌}
-use mathlib.Core.Bool.{Bool, true, false, ◌&&◌}
+use mathlib.Core.Bool.{Bool, and-true}
 use mathlib.Core.List.{List, [], ◌∷◌}
 use lib.Dec.{ltb}
 use lib.ListN.{length}
@@ -56,11 +56,7 @@ count_with few s g =
     (bytes_of a.refs s g))
 
 few_drawn : (s : List ℕ) → 0 < length s → too_few (length s) ≡ ltb (length s) 112
-few_drawn s h = rw (ne_eqb (length s) 0 (λ e. absurd (omega (arith, e)))) (go (ltb (length s) 112))
-  where
-    go : (t : Bool) → t && true ≡ t
-    go true = refl
-    go false = refl
+few_drawn s h = rw (ne_eqb (length s) 0 (λ e. absurd (omega (arith, e)))) (and-true (ltb (length s) 112))
 
 pub read_drawn : (s g : List ℕ) (m : Memory) → 0 < length s
     → read_of s g m ≡ read_with (ltb (length s) 112) s g m

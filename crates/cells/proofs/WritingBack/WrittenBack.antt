@@ -136,7 +136,7 @@ module _ (h : Memory) (told : Told h) (small : length (written h) ≤ 16777216) 
 -- ---- what an accepted call says
 
 not_wrote : {P : Type 0} {a : Refusal} {n : ℕ} → ◌≡◌ {A = Result ℕ Refusal} (Err a) (Ok n) → P
-not_wrote e = let z : ◌≡◌ {A = ℕ} 0 1 = cc in absurd (omega arith)
+not_wrote e = cc
 
 after_told : (c : Result ℕ Refusal) (s : List ℕ) (next : WriteLeft) (n : ℕ) → (after c s next).answer ≡ Ok n → (accepted c ≡ true) × (after c s next ≡ next)
 after_told (Err a) s next n e = not_wrote e
@@ -228,7 +228,7 @@ read_few s g m e = go (sizes_check (length s) (length g)) refl e
     go : (c : Answer) → sizes_check (length s) (length g) ≡ c
         → (unless c m (if_found (arrays_found (root_read s) (length s) (length g)) m λ n l j h r. read_arrays (root_read s) (bytes_of n s g) (bytes_of l s g) (bytes_of j s g) (bytes_of h s g) (bytes_of r s g) m)).answer ≡ Ok tt
         → length s ≤ 16777216
-    go (Err a) d t = let z : ◌≡◌ {A = ℕ} 0 1 = cc in absurd (omega arith)
+    go (Err a) d t = cc
     go (Ok tt) d t = (small (length s) (length g) d).0
 
 pub whole_held : (m : Memory) → whole_of (held m) ≡ cell_of m

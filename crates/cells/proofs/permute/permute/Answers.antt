@@ -1,28 +1,18 @@
-use Rattle.std.proofs.Common.{ℕ, List, [], length, get_or, refl, sym, ap, ◌∙◌, arith}
-use Rattle.cells.proofs.Sequences.Moved.{exchange, exchange_less, all_arrived, swap_is, carried, loose, below_t}
+use Rattle.std.proofs.Common.{length, get_or, refl, sym, arith}
+use Rattle.cells.proofs.Sequences.Moved.{exchanged, all_arrived}
 use Rattle.cells.proofs.permute.permute.Goals as goal
-
-pub loop-i-smaller : goal.loop-i-smaller
-loop-i-smaller c =
-    let l = c.loop-i in
-    let n = length c.args.nodes.now in
-    let t = get_or l.to l.i 0 in
-    let below = below_t n l.i t c.args.nodes.now c.args.to.now l.nodes l.to (omega arith) (omega arith) (omega arith) refl l.invariant.moving in
-    let e = c.swap-else-t-i.ensures.after ∙ swap_is 0 l.to l.i t (omega arith) (omega arith) in
-    omega (arith, ap (λ (x : List ℕ). loose x n) e, exchange_less n l.i t l.to (omega arith) (omega arith) refl (λ d. c.if-t-i.false (sym d)) l.invariant.moving.places)
 
 pub loop-i-preserved : goal.loop-i-preserved
 loop-i-preserved c =
     let l = c.loop-i in
     let n = length c.args.nodes.now in
     let t = get_or l.to l.i 0 in
-    let below = below_t n l.i t c.args.nodes.now c.args.to.now l.nodes l.to (omega arith) (omega arith) (omega arith) refl l.invariant.moving in
     record {
       inside = omega arith;
       nodes_long = omega arith;
       to_long = omega arith;
-      moving = carried (c.swap.ensures.after ∙ swap_is [] l.nodes l.i t (omega arith) (omega arith)) (c.swap-else-t-i.ensures.after ∙ swap_is 0 l.to l.i t (omega arith) (omega arith))
-          (exchange n l.i t c.args.nodes.now c.args.to.now l.nodes l.to (omega arith) (omega arith) (omega arith) refl l.invariant.moving (λ d. c.if-t-i.false (sym d)));
+      moving = exchanged n l.i t c.args.nodes.now c.args.to.now l.nodes l.to (omega arith) (omega arith) (omega arith) refl l.invariant.moving (λ d. c.if-t-i.false (sym d))
+          c.swap.ensures.after c.swap-else-t-i.ensures.after;
     }
 
 pub returns : goal.returns

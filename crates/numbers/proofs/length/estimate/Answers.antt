@@ -1,14 +1,11 @@
-use Rattle.std.proofs.Common.{ℕ, ◌+◌, ◌/◌, ◌%◌, ◌<◌, ◌≤◌, not, T, sym, subst, arith, lit<}
+use Rattle.std.proofs.Common.{◌+◌, ◌/◌, not, T, sym, subst, arith, lit<}
 use lib.Ieee.{Float, binary32, is_nan, add, div, of_bits}
 use Rattle.numbers.proofs.Patterns.{number_pattern}
 use Rattle.numbers.proofs.Guesses.{step_good}
 use Rattle.numbers.proofs.length.estimate.Goals as goal
 
 pub float_from_bits-start : goal.float_from_bits-start
-float_from_bits-start c = rw (number_pattern (532487669 + c.args.b / 2) (under c.args.b c.requires.0)) tt
-  where
-    under : (b : ℕ) → b < 1199440128 → (532487669 + b / 2) % 2147483648 ≤ 2139095040
-    under b h = omega arith
+float_from_bits-start c = rw (number_pattern (532487669 + c.args.b / 2) (omega arith)) tt
 
 pub float_to_bits-result : goal.float_to_bits-result
 float_to_bits-result c =

@@ -8,18 +8,18 @@ overflow_cast-choices c =
     omega (
       arith,
       c.by_of.ensures,
-      fill_byte a.scratch.now a.goal a.choices.now a.places.now c.requires.1 _ _ _ _ c.loop-i.invariant c.loop-i-test.true,
+      fill_byte _ _ _ _ c.requires.1 _ _ _ _ c.loop-i.invariant c.loop-i-test.true,
     )
 
 pub loop-i-preserved : goal.loop-i-preserved
 loop-i-preserved c =
     let a = c.args in
-    fill_turn a.scratch.now a.goal a.choices.now a.places.now c.requires.1 _ _ _ _ c.loop-i.invariant
+    fill_turn _ _ _ _ c.requires.1 _ _ _ _ c.loop-i.invariant
     c.loop-i-test.true _ _ c.by_of.ensures c.from_of-v.ensures
 
 pub returns : goal.returns
 returns c =
     let a = c.args in (
-      fill_choices a.scratch.now a.goal a.choices.now a.places.now c.requires.1 _ _ _ _ c.loop-i.invariant c.loop-i-test.false,
-      fill_places a.scratch.now a.goal a.choices.now a.places.now c.requires.1 _ _ _ _ c.loop-i.invariant c.loop-i-test.false,
+      fill_choices _ _ _ _ c.requires.1 _ _ _ _ c.loop-i.invariant c.loop-i-test.false,
+      fill_places _ _ _ _ c.requires.1 _ _ _ _ c.loop-i.invariant c.loop-i-test.false,
     )

@@ -4,7 +4,8 @@ use Rattle.std.proofs.lemmas.Result.{IfOk-weaker}
 use Rattle.cells.specs.Memory.{memory}
 use Rattle.rounds.specs.Round.{version_read}
 use Rattle.printround.specs.Text.{refused_of}
-use Rattle.printround.proofs.Zeros.{choices_lent_law, given_back}
+use lib.Seq.{take_at}
+use Rattle.printround.proofs.Zeros.{choices_lent_law}
 use Rattle.printround.proofs.Cases.{file_held, file_refused}
 use Rattle.printround.proofs.print.file_read.Goals as goal
 
@@ -19,7 +20,7 @@ returns-in-Ok c =
     let long : length f.new.choices ≡ c.in_ok-choices.choices.len
     = omega (arith, f.auto.choices, c.as_mut_slice.ensures.len) in
     let shown = c.as_slice.ensures.value ∙ c.truncate.ensures.items
-    ∙ ap (take r.count) (given_back _ f.new.choices _ long) in
+    ∙ ap (take r.count) (take_at f.new.choices _ _ long) in
     IfOk-weaker c.followed.result _ _
     (λ text said js hs rs.
     file_held (memory a.ynd a.nodes.now a.links.now js hs rs) r.version r.start r.count f.new.choices _ _ _

@@ -4,7 +4,8 @@ use Rattle.std.proofs.lemmas.Result.{IfOk-weaker}
 use Rattle.cells.specs.Memory.{memory}
 use Rattle.rounds.specs.Follow.{follow_version}
 use Rattle.printround.specs.Text.{refused_of}
-use Rattle.printround.proofs.Zeros.{visited_lent_law, given_back}
+use lib.Seq.{take_at}
+use Rattle.printround.proofs.Zeros.{visited_lent_law}
 use Rattle.printround.proofs.Cases.{ended, not_followed}
 use Rattle.printround.proofs.print.followed.Goals as goal
 
@@ -17,7 +18,7 @@ returns-in-Ok c =
     let long : length f.new.visited ≡ c.in_ok-visited.visited.len
     = omega (arith, f.auto.visited, c.as_mut_slice.ensures.len) in
     let shown = c.as_slice.ensures.value ∙ c.truncate.ensures.items
-    ∙ ap (take c.in-Ok.walk.count) (given_back _ f.new.visited _ long) in
+    ∙ ap (take c.in-Ok.walk.count) (take_at f.new.visited _ _ long) in
     IfOk-weaker c.round.result _ _
     (λ text said js hs rs.
     let m = memory a.ynd a.nodes.now a.links.now js hs rs in

@@ -7,7 +7,8 @@ use Rattle.cells.specs.Read.{read_of}
 use Rattle.rounds.specs.Round.{version_read}
 use Rattle.printround.specs.Printed.{file_of, choices_lent}
 use Rattle.printround.specs.Text.{refused_of}
-use Rattle.printround.proofs.Zeros.{memory_lent, given_back}
+use lib.Seq.{take_at}
+use Rattle.printround.proofs.Zeros.{memory_lent}
 use Rattle.printround.proofs.Cases.{section_held, section_refused}
 use Rattle.printround.proofs.print.section_read.Goals as goal
 
@@ -24,8 +25,8 @@ returns-in-Ok c =
     = omega (arith, o.auto.nodes, c.as_mut_slice.ensures.len) in
     let links_long : length o.new.links ≡ c.in_ok-links.links.len
     = omega (arith, o.auto.links, c.as_mut_slice-2.ensures.len) in
-    let n = c.as_slice.ensures.value ∙ given_back _ o.new.nodes _ nodes_long in
-    let l = c.as_slice-in-Ok.ensures.value ∙ given_back _ o.new.links _ links_long in
+    let n = c.as_slice.ensures.value ∙ take_at o.new.nodes _ _ nodes_long in
+    let l = c.as_slice-in-Ok.ensures.value ∙ take_at o.new.links _ _ links_long in
     let v = version_read a.file.now choices_lent in
     IfOk-weaker c.file_read.result _ _
     (λ text said.

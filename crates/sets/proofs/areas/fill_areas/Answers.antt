@@ -1,6 +1,6 @@
 use Rattle.std.proofs.Common.{◌+◌, ◌<◌, ◌≢◌, length, arith, sym, ◌∙◌, below_more, get_or-set_other, get_or-set_same}
-use Rattle.sets.proofs.PartLaws.{start_next, start_none}
-use Rattle.sets.proofs.AreasFilled.{part_ends, area_seen, areas_stored}
+use Rattle.sets.proofs.PartLaws.{start_next, start_none, part_inside}
+use Rattle.sets.proofs.AreasFilled.{area_seen}
 use Rattle.sets.proofs.areas.fill_areas.Goals as goal
 
 pub loop-i-init : goal.loop-i-init
@@ -17,7 +17,7 @@ loop-i-preserved c =
       (λ k. c.loop-i.invariant.0 k + c.word_at-start.ensures.0 k) ∙ sym (start_next 15 ws i lt),
       omega (
         arith,
-        part_ends 10 15 ws (length nodes) i lt c.requires.1,
+        part_inside c.requires.1 i lt,
         c.word_at-start.ensures.0,
         c.loop-i.invariant.0,
       ),
@@ -27,8 +27,3 @@ loop-i-preserved c =
           ∙ area_seen ws nodes i c.loop-i.start c.word_at.result lt c.requires.1 c.loop-i.invariant.0
           c.word_at.ensures.0)),
     )
-
-pub returns : goal.returns
-returns c =
-    areas_stored c.args.members.now c.args.nodes.now c.loop-i.areas (omega (arith, c.loop-i.auto.areas, c.requires.0))
-    (λ j lt. c.loop-i.invariant.2 j (omega arith))

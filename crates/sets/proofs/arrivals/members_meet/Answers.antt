@@ -1,16 +1,9 @@
-use Rattle.std.proofs.Common.{ℕ, List, length, refl, arith, rules, tests, sym, subst, ◌∙◌}
+use Rattle.std.proofs.Common.{length, refl, arith, rules, tests, ◌∙◌}
 use Rattle.std.proofs.lemmas.Iterator.{YieldsList-from_range}
 use Rattle.std.proofs.lemmas.Iterator.Search.{all_from_yields_List}
 use Rattle.cells.specs.LookupCall.{numbers_in}
-use Rattle.walks.specs.SoundParts.{Ready}
-use Rattle.sets.proofs.ArrivalLaws.{meets_by, meets_all, ready_taken}
+use Rattle.sets.proofs.ArrivalLaws.{meets_by, meets_all}
 use Rattle.sets.proofs.arrivals.members_meet.Goals as goal
-
-pub invariant_of-target : goal.invariant_of-target
-invariant_of-target c = record {
-  ready = subst (λ (l : List (List ℕ)). Ready (length l) l c.args.scratch.now) (sym c.own_entries.ensures)
-      (ready_taken _ _ _ c.requires.1);
-}
 
 pub returns : goal.returns
 returns c =
@@ -20,4 +13,4 @@ returns c =
     let n = length x.members.now in
     let f = meets_by x.areas.now x.members.now x.nodes.now x.links.now k (numbers_in (length own.result.now) own.result.now) in
     all_from_yields_List f _ _ _ c.all.ensures.ran (YieldsList-from_range 0 n n refl (omega arith)) (λ x b q h. search (rules, tests))
-    ∙ meets_all x.areas.now x.members.now x.nodes.now x.links.now k own.result.now own.ensures
+    ∙ meets_all x.areas.now x.members.now x.nodes.now x.links.now k own.result.now own.ensures.value

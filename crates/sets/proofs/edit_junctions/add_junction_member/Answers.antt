@@ -1,66 +1,26 @@
-use mathlib.Core.Path.{refl, sym}
-use Rattle.cells.specs.Add.{add_junction}
-use Rattle.sets.specs.CellSet.{cell_set}
-use Rattle.sets.specs.MemberParts.{part_memory}
-use Rattle.sets.proofs.MemberPartLaws.{is_open, not_open, put_part, put_back}
-use Rattle.sets.proofs.MemberEditLaws.{lent_heights, edit_refused, edit_stored, edit_not}
+use mathlib.Core.Path.{refl}
 use Rattle.sets.proofs.EditsKept.{add_junction_kept}
-use Rattle.std.proofs.lemmas.Result.{err_from_is_err_and}
+use Rattle.sets.proofs.MemberAskLaws.{apart, asks, lent, opens}
+use Rattle.sets.proofs.MemberEditLaws.{edited, not_edited, refused, stays, wrote}
 use Rattle.sets.proofs.edit_junctions.add_junction_member.Goals as goal
 
 pub returns-in_err-p : goal.returns-in_err-p
 returns-in_err-p c nodes links refs hn hl hr =
-    let x = c.args in
-    let y = cell_set x.members.now nodes links x.junctions.now x.heights.now refs in
-    let same = lent_heights x.members.now _ c.held-lens.ensures x.member nodes links x.junctions.now refs x.heights.now
-    hn hl hr in
-    let e = err_from_is_err_and c.from_residual.result c.from_residual.ensures.1 in
-    rw (e.1, e.2) (
-    edit_not y x.member (λ m. add_junction m x.junction x.values.now) _ _
-    (not_open y x.member _ same _ c.open_member.ensures.value _ c.in_err-p.was))
+    not_edited _ _ _ _ refl (asks c.held-lens.ensures (apart _ hn) (apart _ hl) (lent _) (lent _) (apart _ hr))
+    c.open_member.ensures.value c.in_err-p.was c.from_residual.ensures.1
 
 pub returns-in_err-next : goal.returns-in_err-next
 returns-in_err-next c nodes links refs hn hl hr =
-    let x = c.args in
-    let y = cell_set x.members.now nodes links x.junctions.now x.heights.now refs in
-    let same = lent_heights x.members.now _ c.held-lens.ensures x.member nodes links x.junctions.now refs x.heights.now
-    hn hl hr in
-    let p = c.in_ok-p.p in
-    let k = is_open y x.member _ same _ c.open_member.ensures.value p c.in_ok-p.was in
-    let words = c.told-members x.member k.may.there in
-    let part = part_memory p.ynd p.a p.e y in
-    let r = c.add_junction in
-    let e = err_from_is_err_and c.from_residual-in_err-next.result c.from_residual-in_err-next.ensures.1 in
-    rw (e.1, e.2) (
-    edit_refused y x.member p k words (λ m. add_junction m x.junction x.values.now) (add_junction_kept x.junction x.values.now) _ k.asked
-    r.result part.nodes part.links r.new.junctions part.refs r.new.heights
-    (r.ensures part.nodes part.links part.refs)
-    nodes links _ refs _
-    (sym (put_back nodes p.a.nodes _))
-    (sym (put_back links p.a.links _))
-    (put_part x.junctions.now p.a.junctions p.e.junctions r.new.junctions r.new.junctions k.lie.junctions_rise k.lie.junctions_end r.auto.junctions refl)
-    (put_part x.heights.now p.a.heights p.e.heights r.new.heights r.new.heights k.lie.heights_rise k.lie.heights_end r.auto.heights refl)
-    (sym (put_back refs p.a.refs _))
-    _ c.in_err-next.was)
+    refused
+    (opens _ (asks c.held-lens.ensures (apart _ hn) (apart _ hl) (lent _) (lent _) (apart _ hr)) c.open_member.ensures.value c.in_ok-p.was)
+    c.told-members (add_junction_kept _ _) stays stays (wrote c.add_junction.auto.junctions)
+    (wrote c.add_junction.auto.heights) stays _ refl (c.add_junction.ensures _ _ _) c.in_err-next.was
+    c.from_residual-in_err-next.ensures.1
 
 pub returns : goal.returns
 returns c nodes links refs hn hl hr =
-    let x = c.args in
-    let y = cell_set x.members.now nodes links x.junctions.now x.heights.now refs in
-    let same = lent_heights x.members.now _ c.held-lens.ensures x.member nodes links x.junctions.now refs x.heights.now
-    hn hl hr in
-    let p = c.in_ok-p.p in
-    let k = is_open y x.member _ same _ c.open_member.ensures.value p c.in_ok-p.was in
-    let words = c.told-members x.member k.may.there in
-    let part = part_memory p.ynd p.a p.e y in
-    let r = c.add_junction in
-    edit_stored y x.member p k words (λ m. add_junction m x.junction x.values.now) (add_junction_kept x.junction x.values.now) _ k.asked
-    r.result part.nodes part.links r.new.junctions part.refs r.new.heights
-    (r.ensures part.nodes part.links part.refs)
-    nodes links _ refs _
-    (sym (put_back nodes p.a.nodes _))
-    (sym (put_back links p.a.links _))
-    (put_part x.junctions.now p.a.junctions p.e.junctions r.new.junctions r.new.junctions k.lie.junctions_rise k.lie.junctions_end r.auto.junctions refl)
-    (put_part x.heights.now p.a.heights p.e.heights r.new.heights r.new.heights k.lie.heights_rise k.lie.heights_end r.auto.heights refl)
-    (sym (put_back refs p.a.refs _))
-    c.in_ok-next.next c.in_ok-next.was _ c.store_ynd.ensures
+    edited
+    (opens _ (asks c.held-lens.ensures (apart _ hn) (apart _ hl) (lent _) (lent _) (apart _ hr)) c.open_member.ensures.value c.in_ok-p.was)
+    c.told-members (add_junction_kept _ _) stays stays (wrote c.add_junction.auto.junctions)
+    (wrote c.add_junction.auto.heights) stays _ refl (c.add_junction.ensures _ _ _) c.in_ok-next.was
+    c.store_ynd.ensures

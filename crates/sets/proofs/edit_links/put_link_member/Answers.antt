@@ -1,44 +1,20 @@
-use mathlib.Core.Path.{refl, ap, sym}
-use Rattle.cells.specs.Edit.{put_link}
-use Rattle.sets.specs.CellSet.{cell_set}
-use Rattle.sets.specs.MemberParts.{part_memory}
-use Rattle.sets.specs.MemberEdit.{links_left}
-use Rattle.sets.proofs.MemberPartLaws.{is_open, not_open, put_part, put_back}
-use Rattle.sets.proofs.MemberEditLaws.{lent_links, own_entry, edit_part, edit_not}
+use mathlib.Core.List.{[]}
+use mathlib.Core.Path.{ap, refl}
+use Rattle.cells.specs.Memory.{memory}
 use Rattle.sets.proofs.EditsKept.{put_link_kept}
-use Rattle.std.proofs.lemmas.Result.{err_from_is_err_and}
+use Rattle.sets.specs.MemberEdit.{links_left}
+use Rattle.sets.proofs.MemberAskLaws.{apart, asks, lent, opens}
+use Rattle.sets.proofs.MemberEditLaws.{not_edited, stays, stored, wrote}
 use Rattle.sets.proofs.edit_links.put_link_member.Goals as goal
 
 pub returns-in_err-p : goal.returns-in_err-p
 returns-in_err-p c junctions refs heights hj hh hr =
-    let x = c.args in
-    let y = cell_set x.members.now x.nodes.now x.links.now junctions heights refs in
-    let same = lent_links x.members.now _ c.held-lens.ensures x.member x.nodes.now x.links.now junctions refs heights
-    hj hh hr in
-    let e = err_from_is_err_and c.from_residual.result c.from_residual.ensures.1 in
-    rw (e.1, e.2) (
-    edit_not y x.member (λ m. links_left m (put_link m.ynd m.nodes m.links x.place x.k x.link)) _ _
-    (not_open y x.member _ same _ c.open_member.ensures.value _ c.in_err-p.was))
+    not_edited _ _ _ _ refl (asks c.held-lens.ensures (lent _) (lent _) (apart _ hj) (apart _ hh) (apart _ hr))
+    c.open_member.ensures.value c.in_err-p.was c.from_residual.ensures.1
 
 pub returns : goal.returns
 returns c junctions refs heights hj hh hr =
-    let x = c.args in
-    let y = cell_set x.members.now x.nodes.now x.links.now junctions heights refs in
-    let same = lent_links x.members.now _ c.held-lens.ensures x.member x.nodes.now x.links.now junctions refs heights
-    hj hh hr in
-    let p = c.in_ok-p.p in
-    let k = is_open y x.member _ same _ c.open_member.ensures.value p c.in_ok-p.was in
-    let words = c.told-members x.member k.may.there in
-    let part = part_memory p.ynd p.a p.e y in
-    let r = c.put_link in
-    edit_part y x.member p k words (λ m. links_left m (put_link m.ynd m.nodes m.links x.place x.k x.link))
-    (put_link_kept x.place x.k x.link) _ k.asked
-    r.result p.ynd part.nodes r.new.links part.junctions part.refs part.heights
-    (ap (links_left part) r.ensures)
-    x.members.now x.nodes.now _ junctions refs heights (sym (own_entry y x.member p k words))
-    (sym (put_back x.nodes.now p.a.nodes _))
-    (put_part x.links.now p.a.links p.e.links r.new.links r.new.links k.lie.links_rise k.lie.links_end r.auto.links
-    refl)
-    (sym (put_back junctions p.a.junctions _))
-    (sym (put_back heights p.a.heights _))
-    (sym (put_back refs p.a.refs _))
+    stored
+    (opens _ (asks c.held-lens.ensures (lent _) (lent _) (apart _ hj) (apart _ hh) (apart _ hr)) c.open_member.ensures.value c.in_ok-p.was)
+    c.told-members (put_link_kept _ _ _) stays (wrote c.put_link.auto.links) stays stays stays
+    (ap (links_left (memory _ _ [] _ _ _)) c.put_link.ensures)

@@ -1,31 +1,13 @@
-use lib.ListN.{length}
-use Rattle.cells.specs.Edit.{got_link, link_entry}
-use Rattle.sets.specs.CellSet.{cell_set}
-use Rattle.sets.proofs.MemberPartLaws.{is_open, not_open}
-use Rattle.sets.proofs.MemberEditLaws.{lent_links}
-use Rattle.sets.proofs.MemberAskLaws.{ask_in, ask_not}
-use Rattle.std.proofs.lemmas.Result.{err_from_is_err_and}
+use Rattle.sets.proofs.MemberAskLaws.{answered, apart, asks, lent, not_asked, opens}
 use Rattle.sets.proofs.get_member.get_link_member.Goals as goal
-use Rattle.std.specs.Prelude.{Err}
 
 pub returns-in_err-p : goal.returns-in_err-p
 returns-in_err-p c junctions refs heights hj hh hr =
-    let x = c.args in
-    let y = cell_set x.members.now x.nodes.now x.links.now junctions heights refs in
-    let same = lent_links x.members.now _ c.held-lens.ensures x.member x.nodes.now x.links.now junctions refs heights
-    hj hh hr in
-    let e = err_from_is_err_and c.from_residual.result c.from_residual.ensures.1 in
-    rw (e.1, e.2) (
-    ask_not y x.member Err (λ m. got_link (link_entry m.ynd m.nodes (length m.links) x.place x.k) m.links) _
-    (not_open y x.member _ same _ c.open_member.ensures.value _ c.in_err-p.was))
+    not_asked _ (asks c.held-lens.ensures (lent _) (lent _) (apart _ hj) (apart _ hh) (apart _ hr))
+    c.open_member.ensures.value _ c.in_err-p.was c.from_residual.ensures.1
 
 pub returns : goal.returns
 returns c junctions refs heights hj hh hr =
-    let x = c.args in
-    let y = cell_set x.members.now x.nodes.now x.links.now junctions heights refs in
-    let same = lent_links x.members.now _ c.held-lens.ensures x.member x.nodes.now x.links.now junctions refs heights
-    hj hh hr in
-    let p = c.in_ok-p.p in
-    let k = is_open y x.member _ same _ c.open_member.ensures.value p c.in_ok-p.was in
-    ask_in y x.member Err (λ m. got_link (link_entry m.ynd m.nodes (length m.links) x.place x.k) m.links) p
-    k _ c.get_link.ensures
+    answered _ _
+    (opens _ (asks c.held-lens.ensures (lent _) (lent _) (apart _ hj) (apart _ hh) (apart _ hr)) c.open_member.ensures.value c.in_ok-p.was)
+    c.get_link.ensures

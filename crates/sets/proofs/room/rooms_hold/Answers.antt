@@ -2,11 +2,11 @@ use Rattle.std.proofs.Common.{◌∙◌, rules, tests}
 use Rattle.std.proofs.lemmas.Iterator.{YieldsList-from_slice}
 use Rattle.std.proofs.lemmas.Iterator.Search.{all_from_yields_List}
 use Rattle.sets.specs.CellSet.{room_for}
-use Rattle.sets.proofs.SetLists.{all_every}
+use Rattle.walks.proofs.Ranges.{all_is_every}
 use Rattle.sets.proofs.room.rooms_hold.Goals as goal
 
 pub returns : goal.returns
 returns c =
     let a = c.args in
     all_from_yields_List (room_for a.k a.size) _ _ _ c.all.ensures.ran (YieldsList-from_slice a.members.now cc) (λ x b q h. search (rules, tests))
-    ∙ all_every (room_for a.k a.size) a.members.now
+    ∙ all_is_every (room_for a.k a.size) a.members.now

@@ -6,6 +6,6 @@ returns c =
     let a = c.args in
     let s = a.self.now in
     let i = c.loop-b.invariant in
-    let done = all_relaxed s.ynd s.nodes.now s.links.now s.lent s.start _ _ a.u _ _ i.1.searching c.requires.2
+    let done = all_relaxed _ _ _ s.lent _ _ _ _ _ _ i.1.searching c.requires.2
     c.link_count-b-end.ensures c.loop-b-test.false in
     (i.0, record { places = i.1.places; searching = done }, i.3)

@@ -5,54 +5,40 @@ use Rattle.paths.proofs.search.Search.relax_one.Goals as goal
 
 pub overflow_mul-edge : goal.overflow_mul-edge
 overflow_mul-edge c =
-    let a = c.args in
-    let s = a.self.now in
     let p = c.requires in
-    let x = linked s.ynd s.nodes.now s.links.now s.lent s.start a.scratch.now a.queue.now.size a.u a.b a.key p.1.searching p.2 p.3 p.4 _
-    (sym c.in-Some.is ∙ c.follow.ensures) in
+    let x = linked _ _ _ c.args.self.now.lent _ _ _ _ _ _ p.1.searching p.2 p.3 p.4 _ (sym c.in-Some.is ∙ c.follow.ensures) in
     omega (arith, x.short)
 
 pub overflow_add-key : goal.overflow_add-key
 overflow_add-key c =
-    let a = c.args in
-    let s = a.self.now in
     let p = c.requires in
-    let x = linked s.ynd s.nodes.now s.links.now s.lent s.start a.scratch.now a.queue.now.size a.u a.b a.key p.1.searching p.2 p.3 p.4 _
-    (sym c.in-Some.is ∙ c.follow.ensures) in
+    let x = linked _ _ _ c.args.self.now.lent _ _ _ _ _ _ p.1.searching p.2 p.3 p.4 _ (sym c.in-Some.is ∙ c.follow.ensures) in
     omega (arith, x.small)
 
 pub overflow_add-key-in-Some : goal.overflow_add-key-in-Some
 overflow_add-key-in-Some c =
-    let a = c.args in
-    let s = a.self.now in
     let p = c.requires in
-    let x = linked s.ynd s.nodes.now s.links.now s.lent s.start a.scratch.now a.queue.now.size a.u a.b a.key p.1.searching p.2 p.3 p.4 _
-    (sym c.in-Some.is ∙ c.follow.ensures) in
+    let x = linked _ _ _ c.args.self.now.lent _ _ _ _ _ _ p.1.searching p.2 p.3 p.4 _ (sym c.in-Some.is ∙ c.follow.ensures) in
     omega (arith, x.small)
 
 pub offer-requires : goal.offer-requires
 offer-requires c =
-    let a = c.args in
-    let s = a.self.now in
     let p = c.requires in
     let e = sym c.in-Some.is ∙ c.follow.ensures in
-    let x = linked s.ynd s.nodes.now s.links.now s.lent s.start a.scratch.now a.queue.now.size a.u a.b a.key p.1.searching p.2 p.3 p.4 _ e in (
+    let x = linked _ _ _ c.args.self.now.lent _ _ _ _ _ _ p.1.searching p.2 p.3 p.4 _ e in (
       rw p.1.places p.1.searching.kept,
       rw p.1.places x.inside,
       rw p.1.places p.2,
       p.5,
-      link_fits s.ynd s.nodes.now s.links.now s.lent s.start a.scratch.now a.queue.now.size a.u a.b a.key
-          p.1.searching p.2 p.3 p.4 _ e,
+      link_fits _ _ _ c.args.self.now.lent _ _ _ _ _ _ p.1.searching p.2 p.3 p.4 _ e,
     )
 
 pub returns-in-Some : goal.returns-in-Some
 returns-in-Some c =
-    let a = c.args in
-    let s = a.self.now in
+    let s = c.args.self.now in
     let p = c.requires in
     let o = c.offer.ensures in
-    let t = one_taken s.ynd s.nodes.now s.links.now s.lent s.start a.scratch.now a.queue.now.size a.u a.b a.key
-    p.1.searching p.2 p.3 p.4 _ _ _ (sym c.in-Some.is ∙ c.follow.ensures) (rw p.1.places at o.1) in (
+    let t = one_taken _ _ _ s.lent _ _ _ _ _ _ p.1.searching p.2 p.3 p.4 _ _ _ (sym c.in-Some.is ∙ c.follow.ensures) (rw p.1.places at o.1) in (
       still_ready s _ _ c.offer.auto.scratch t.3 p.0,
       record { places = o.0 ∙ p.1.places; searching = t.0 },
       t.1,
@@ -61,9 +47,6 @@ returns-in-Some c =
 
 pub returns-in_default : goal.returns-in_default
 returns-in_default c =
-    let a = c.args in
-    let s = a.self.now in
     let p = c.requires in
-    let t = one_stopped s.ynd s.nodes.now s.links.now s.lent s.start a.scratch.now a.queue.now.size a.u a.b a.key
-    p.1.searching p.2 p.3 p.4 (sym c.in_default.is ∙ c.follow.ensures) in
+    let t = one_stopped _ _ _ c.args.self.now.lent _ _ _ _ _ _ p.1.searching p.2 p.3 p.4 (sym c.in_default.is ∙ c.follow.ensures) in
     (p.0, record { places = p.1.places; searching = t.0 }, p.3, omega arith)

@@ -18,7 +18,7 @@ loop-queue-init c =
       },
       record {
         places = c.offer.ensures.0 ∙ n;
-        searching = search_begun s.ynd s.nodes.now s.links.now s.lent s.start _ _ _ s.inside
+        searching = search_begun _ _ _ s.lent _ _ _ _ s.inside
             (rw s.whole at c.clear.ensures.0) o;
       },
     )
@@ -33,8 +33,8 @@ relax-requires c =
       record {
         places = c.pop-u.ensures.0 ∙ i.1.places;
         searching = rw c.pop-u.ensures.1
-            (search_up s.ynd s.nodes.now s.links.now s.lent s.start _ _ _ _ h (omega arith) q);
+            (search_up _ _ _ s.lent _ _ _ _ _ h (omega arith) q);
       },
       q.inside,
-      search_label s.ynd s.nodes.now s.links.now s.lent s.start _ _ _ _ h (omega arith) q,
+      search_label _ _ _ s.lent _ _ _ _ _ h (omega arith) q,
     )

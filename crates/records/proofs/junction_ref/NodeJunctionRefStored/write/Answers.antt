@@ -1,15 +1,12 @@
 -- Field by field, one behind the other.
-use Rattle.std.proofs.Common.{◌+◌, ◌≤◌, length, refl, arith}
+use Rattle.std.proofs.Common.{arith}
 use Rattle.records.specs.Bytes.{number_bytes}
 use Rattle.records.specs.Records.{ref_bytes}
-use Rattle.records.proofs.Puts.{then}
+use Rattle.records.proofs.Puts.{fields_put, next, done}
 use Rattle.records.proofs.junction_ref.NodeJunctionRefStored.write.Goals as goal
 
 pub returns : goal.returns
 unfolding ref_bytes number_bytes
 returns c =
-    let a = c.args.at in
-    let room : a ≤ length c.args.section.now = omega arith in
-    let e2 = then _ _ _ a (a + 2) _ _ c.write.ensures c.write-2.ensures refl room in
-    let e3 = then _ _ _ a (a + 4) _ _ e2 c.write-3.ensures refl room in
-    then _ _ _ a (a + 6) _ _ e3 c.write-4.ensures refl room
+    fields_put c.args.at (omega arith)
+    (next c.write.ensures (next c.write-2.ensures (next c.write-3.ensures (next c.write-4.ensures done))))

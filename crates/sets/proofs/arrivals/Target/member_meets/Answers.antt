@@ -4,7 +4,7 @@ use Rattle.std.proofs.lemmas.Iterator.Search.{all_from_yields_List}
 use Rattle.cells.specs.Lists.{every}
 use Rattle.cells.specs.LookupCall.{numbers_in}
 use Rattle.sets.specs.SetSoundParts.{words_meet}
-use Rattle.sets.proofs.SetLists.{all_every}
+use Rattle.walks.proofs.Ranges.{all_is_every}
 use Rattle.sets.proofs.arrivals.Target.member_meets.Goals as goal
 
 pub returns : goal.returns
@@ -15,5 +15,5 @@ returns c =
     let nodes = c.own_entries in
     let f = λ (links : List (List ℕ)). words_meet s.set.areas.now s.member (numbers_in (length s.nodes.now) s.nodes.now) a.i links in
     all_from_yields_List (f own.result.now) _ _ _ c.all.ensures.ran (YieldsList-from_slice nodes.result.now cc) (λ x b q h. search (rules, tests))
-    ∙ all_every (f own.result.now) nodes.result.now
-    ∙ (λ j. every (f (own.ensures j)) (nodes.ensures j))
+    ∙ all_is_every (f own.result.now) nodes.result.now
+    ∙ (λ j. every (f (own.ensures.value j)) (nodes.ensures.value j))

@@ -1,13 +1,9 @@
 use Rattle.std.proofs.Common.{sym, ◌∙◌, ◌≡◌, length, arith}
-use Rattle.cells.proofs.Forms.Limits.{within as limits}
 use Rattle.walks.proofs.Storing.{storing_start, storing_step, stored_stop, stored_end}
 use Rattle.walks.proofs.walk.Yard.store.Goals as goal
 
 pub loop-i-init : goal.loop-i-init
 loop-i-init c = storing_start _ c.args.self.now.nodes_held _ _ _ c.requires.room c.requires.start_in
-
-pub overflow_cast-visited : goal.overflow_cast-visited
-overflow_cast-visited c = omega (arith, (limits _ c.args.self.now.within).0)
 
 pub loop-i-preserved : goal.loop-i-preserved
 loop-i-preserved c =
@@ -17,9 +13,6 @@ pub returns-in-Err : goal.returns-in-Err
 returns-in-Err c =
     let s = stored_stop _ c.args.self.now.nodes_held _ _ _ c.requires.room _ _ _ c.loop-i.invariant _ c.loop-i-test.true (sym c.in-Err.is ∙ c.follow.ensures) in
     record { traced = s.0; stored = s.1 }
-
-pub overflow_cast-visited-2 : goal.overflow_cast-visited-2
-overflow_cast-visited-2 c = omega (arith, (limits _ c.args.self.now.within).0)
 
 pub returns : goal.returns
 returns c =
