@@ -5,3 +5,7 @@ pub mod Frame
 pub mod Enough
 pub mod WorkedExample
 pub mod SameReading
+pub mod OtherNumbers
+pub mod RoundsAlike
+pub mod TextLength
+pub mod AfterCalls

@@ -4,3 +4,4 @@ pub mod RoundBack
 pub mod RoundsUnnoticed
 pub mod VersionBack
 pub mod VersionAnswers
+pub mod VersionsUnnoticed

@@ -10,7 +10,7 @@ use mathlib.Core.List.{List}
 use lib.ListN.{length, length-map, get_or-map}
 use Rattle.cells.specs.Memory.{Memory}
 use Rattle.cells.specs.Read.{read_of}
-use Rattle.cells.specs.Cell.{Cell, Node, node_at, numbers, no_node}
+use Rattle.cells.specs.Cell.{Cell, Node, numbers, no_node}
 use Rattle.cells.specs.CellOf.{nodes_of, cell_of}
 use Rattle.cells.specs.FileCell.{file_cell}
 use Rattle.cells.proofs.Lookups.LookupLaws.{node_held}
@@ -29,11 +29,8 @@ use Rattle.walks.proofs.Routes.{move_route}
 use Rattle.walks.proofs.WalksAlike.{Lies, read_lies, run_lies, route_left}
 use Rattle.walks.proofs.Demand.{demand_3, walks_unnoticed}
 use Rattle.rounds.specs.Follow.{follow_round}
+use Rattle.rounds.specs.Numbers.{number_at, present_number}
 use Rattle.std.specs.Prelude.{Ok}
-
--- the number of the node at a place
-abbrev pub number_at : Memory → ℕ → ℕ
-number_at m p = (node_at (nodes_of m) p).number
 
 -- in a sound cell, a round from a node's number is the walk from its place
 pub follow_own : (m : Memory) → Lies m → sound (cell_of m) ≡ true → (choices : List ℕ) (p : ℕ) → p < length (nodes_of m)
@@ -47,10 +44,6 @@ follow_own m lies s choices p lt visited =
     } in
     let differ : differing (numbers ns) ≡ true = (sound_parts (cell_of m) (omega arith) s).differ in
     rw (node_held m (number_at m p) lies.within lies.nodes_lie, find_is (numbers ns) (number_at m p) p differ has)
-
--- the number that the node first at place p has after the calls
-abbrev pub present_number : Memory → List Call → ℕ → ℕ
-present_number m calls p = number_at (run m calls) (moved m calls p)
 
 -- What is said of a round over these choices from the node first at place p: `first` is the cell that document 01
 -- defines for the bytes read, m the memory that it was read into, and the calls are those between the two rounds.
