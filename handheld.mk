@@ -1,6 +1,6 @@
 # The handheld's library: archive, header, example, wrapper, hard use. Included by the repository's Makefile, at whose root these run.
 #   make archive         target/staticlib/libexports.a, proved and compiled (some minutes after a change)
-#   make example         the C example, built and run on the sample yards; the header held to the archive
+#   make example         the C examples, built and run; the header held to the archive
 #   make bindings        the tests of the Rust wrapper (cargo)
 #   make asan            the C calls on samples, vectors and inputs, the caller under AddressSanitizer (gcc)
 #   make valgrind        the same under valgrind, which sees the archive's code too
@@ -11,13 +11,14 @@ YND_ARCHIVE ?= target/staticlib/libexports.a
 FUZZ_SECONDS ?= 60
 CC_HANDHELD ?= gcc
 C_FLAGS = -std=c11 -g -Wall -Wextra -Wpedantic -Werror -Iinclude
-HARD = $(addprefix hard/,lent.c model.c calls.c reach.c rounds.c versions.c sets.c paths.c edits.c stores.c input.c)
+HARD = $(addprefix hard/,lent.c model.c calls.c reach.c rounds.c versions.c paths.c edits.c stores.c input.c) \
+	$(addprefix hard/,sets.c members.c member_edits.c)
 DRIVE = $(HARD) hard/vectors.c hard/every.c hard/drive.c
 HARD_HEADS = $(wildcard hard/*.h) include/bofrashem.h
 CORPUS = target/hard/corpus
 ROUNDS = target/hard/rounds
 INPUTS = -s samples/dock.section -s samples/hall.section -s samples/yard.section -v crates/vectors/stdin $(foreach f,$(wildcard $(CORPUS)/seed*),-i $(f)) $(foreach f,$(wildcard $(ROUNDS)/seed*),-r $(f))
-PROVED_CRATES = numbers records cells walks reach rounds paths sets exports
+PROVED_CRATES = numbers records cells walks reach rounds paths sets set_rounds exports
 # what a check makes lies in crates/NAME/out and is no source
 PROVED = $(shell find $(wildcard $(foreach c,$(PROVED_CRATES),$(addprefix crates/$(c)/,src specs proofs))) -name '*.rt' -o -name '*.antt')
 need = @command -v $(1) >/dev/null || { echo '$(1) is missing: apt-get install $(2)'; exit 1; }
@@ -32,14 +33,15 @@ target/staticlib/libexports.a: $(PROVED) crates.txt
 	@(cd crates/exports && rt lib) >target/archive.log 2>&1 || { cat target/archive.log; exit 1; }
 	@cp crates/exports/out/libexports.a $@
 
-target/handheld/handheld: examples/handheld.c include/bofrashem.h $(YND_ARCHIVE)
+target/handheld/%: examples/%.c include/bofrashem.h $(YND_ARCHIVE)
 	$(call need,$(CC_HANDHELD),gcc)
 	@mkdir -p $(@D)
 	$(CC_HANDHELD) $(C_FLAGS) -O2 $< $(YND_ARCHIVE) -o $@
 
-example: target/handheld/handheld test-header
+example: target/handheld/handheld target/handheld/crossing test-header
 	@for f in samples/*.section; do echo; $< $$f || exit 1; done
 	@echo; echo 'up the ramp, over place 2:'; $< samples/dock.section 6 0 1 1 1
+	@echo; echo 'a round that crosses two cells:'; target/handheld/crossing
 
 # Every symbol of the archive is in the header with its parameters, and the other way round; the checks call each one.
 test-header: $(YND_ARCHIVE)

@@ -15,7 +15,8 @@ enum what {
     ADD_NODE, ADD_LINK, ADD_REF, ADD_JUNCTION, PUT_NODE, SET_POSITION, PUT_LINK, PUT_REF, PUT_JUNCTION, PUT_HEIGHT, GET_NODE, GET_LINK, GET_REF,
     GET_JUNCTION, GET_HEIGHT, WITHIN, NEAREST, PUT_LINKS, PUT_HEIGHTMAP,
     TRUNCATE, READ_ROUND, WRITE_ROUND, FOLLOW, READ_VERSION, WRITE_VERSION, FOLLOW_VERSION, SHORTEST_PATH,
-    SET_JOIN, SET_LEAVE, SET_RENUMBER, SET_WALK, SET_SOUND, WHATS
+    SET_JOIN, SET_LEAVE, SET_RENUMBER, SET_WALK, SET_SOUND, SET_HAND_BACK, SET_AREA, SET_FOLLOW,
+    MEMBER_WRITE, MEMBER_WRITE_READ, MEMBER_LOOKUP, MEMBER_GET, MEMBER_SHOWN, MEMBER_EDIT, WHATS
 };
 
 uint8_t byte(script *s);
@@ -35,6 +36,7 @@ void check_reach(const lent *m, script *s);
 void check_follow(const lent *m, script *s, const uint8_t *choices, size_t n);
 void check_path(const lent *m, script *s);
 void check_set(const lent *m, size_t start, const uint8_t *choices, size_t n);
+void check_member(const lent *m, script *s);
 void check_renumber(lent *m, script *s);
 void check_write(const lent *m, script *s);
 /* as_read: the cell is as reading left it, so that an accepted call leaves it. */

@@ -142,6 +142,7 @@ static void use_all(lent *m, script *s, bool as_read)
     check_follow(m, s, choices, n);
     check_path(m, s);
     check_set(m, start, choices, n);
+    check_member(m, s);
     check_sound(m);
     if (as_read)
         check_demand_3(m, s, start, choices, n);

@@ -1,5 +1,6 @@
 /* T-09: cells that join and leave a set, and its calls. A set of one member is its cell: each call on it is held to
- * the cell's own. Two cells whose links cross are walked, renumbered and taken apart. */
+ * the cell's own. Two cells whose links cross are walked, renumbered and taken apart. Calls on one member are in
+ * members.c. */
 #include "check.h"
 
 /* A set of at most two members in six lists. The lists' own ynd isn't used. */
@@ -112,6 +113,39 @@ static void one_walk(set *s, const lent *m, size_t start, const uint8_t *choices
     unblock(visited, room * sizeof *visited);
 }
 
+/* A round of either version in a set of one member is that round in its cell. */
+static void one_round(set *s, const lent *m, uint16_t area, uint16_t start, const uint8_t *choices, size_t n)
+{
+    uint32_t *visited = block((n + 1) * sizeof *visited);
+    ynd_location *crossed = block((n + 1) * sizeof *crossed);
+    ynd_walk_end *end = block(sizeof *end), *ends = block(sizeof *ends);
+    size_t *count = block(sizeof *count), *counts = block(sizeof *counts), *place = block(sizeof *place);
+    bool found = false;
+    size_t member = 7;
+    ynd_set_member_of_area(s->members, 1, NODES(&s->all), area ^ 1, &found, &member);
+    CHECK(answer(SET_AREA, 0, 0) == 0 && !found && member == 7);
+    ynd_set_member_of_area(s->members, 1, NODES(&s->all), area, &found, &member);
+    CHECK(found && member == 0);
+    for (uint16_t version = 0; version < 4; version++)
+        for (uint16_t other = 0; other < 2; other++) {
+            uint32_t want = ynd_follow_round_versioned(m->ynd, NODES(m), LINKS(m), version, area ^ other, start, choices,
+                n, visited, n + 1, end, count, place);
+            uint32_t got = ynd_set_follow_round(s->members, 1, NODES(&s->all), LINKS(&s->all), version, area ^ other, 0,
+                start, choices, n, crossed, n + 1, ends, counts, s->place);
+            CHECK(answer(SET_FOLLOW, got, *s->place) == want && *s->place == *place && *counts == *count);
+            CHECK(memcmp(end, ends, sizeof *end) == 0);
+            for (size_t i = 0; i < (got ? 0 : *count); i++)
+                CHECK(visited[i] == crossed[i].place && crossed[i].member == 0);
+        }
+    unblock(place, sizeof *place);
+    unblock(counts, sizeof *counts);
+    unblock(count, sizeof *count);
+    unblock(ends, sizeof *ends);
+    unblock(end, sizeof *end);
+    unblock(crossed, (n + 1) * sizeof *crossed);
+    unblock(visited, (n + 1) * sizeof *visited);
+}
+
 static void one_sound(set *s, const lent *m)
 {
     bool *sound = block(sizeof *sound);
@@ -161,6 +195,36 @@ static uint32_t leave(set *s, uint16_t area)
     return answer(SET_LEAVE, number, *s->place);
 }
 
+static uint32_t hand_back(const set *s, uint16_t area, const lent *to)
+{
+    uint32_t number = ynd_set_hand_back(s->members, *s->count, LISTS(&s->all), area, to->ynd, LISTS(to), s->place);
+    return answer(SET_HAND_BACK, number, *s->place);
+}
+
+/* The set's only member handed back is the cell; into lists that are too short, nothing. */
+static void one_handed_back(set *s, const lent *m, uint16_t area)
+{
+    const ynd_cell *c = m->ynd;
+    const size_t held[5] = { c->node_count, c->link_count, c->junction_count, c->heightmap_count, c->ref_count };
+    lent want = lend_more(m, held[0], held[1], held[2], held[3], held[4]);
+    lent to = lend(held[0], held[1], held[2], held[3], held[4]), kept = lend_copy(&to);
+    CHECK(hand_back(s, area ^ 1, &to) == YND_NO_SUCH_PLACE && same_lent(&to, &kept));
+    CHECK(hand_back(s, area, &to) == 0 && same_lent(&to, &want));
+    for (size_t i = 0; i < 5; i++) {
+        if (held[i] == 0)
+            continue;
+        lent less = lend(held[0] - (i == 0), held[1] - (i == 1), held[2] - (i == 2), held[3] - (i == 3),
+            held[4] - (i == 4));
+        lent as_lent = lend_copy(&less);
+        CHECK(hand_back(s, area, &less) == YND_LENT_TOO_SHORT && *s->place == i && same_lent(&less, &as_lent));
+        unlend(&as_lent);
+        unlend(&less);
+    }
+    unlend(&kept);
+    unlend(&to);
+    unlend(&want);
+}
+
 /* Any cell as a set of one member. */
 void check_set(const lent *m, size_t start, const uint8_t *choices, size_t n)
 {
@@ -178,8 +242,13 @@ void check_set(const lent *m, size_t start, const uint8_t *choices, size_t n)
         one_walk(&s, m, start, choices, n, n + 1);
         one_walk(&s, m, start, choices, n, n / 2);
         one_sound(&s, m);
-        one_renumbered(&s, m);
         uint16_t area = c->node_count ? s.all.nodes[0].area_id : 0;
+        one_round(&s, m, area, c->node_count ? s.all.nodes[0].node_id : 5, choices, n);
+        one_round(&s, m, area, (uint16_t)start, choices, n);
+        one_handed_back(&s, m, area);
+        holds(&s, m);
+        one_renumbered(&s, m);
+        area = c->node_count ? s.all.nodes[0].area_id : 0;
         CHECK(leave(&s, area ^ 1) == YND_NO_SUCH_PLACE && *s.count == 1);
         CHECK(leave(&s, area) == 0 && *s.count == 0);
     }
@@ -238,6 +307,19 @@ static bool is_sound(const set *s)
     return sound;
 }
 
+/* A set of 65,536 nodes together takes none, whichever member's part has room; by hand, since 14 is asked before 7. */
+static void full_set(const set *s)
+{
+    ynd_member entries[2] = { s->members[0], s->members[1] };
+    size_t place;
+    entries[0].ynd.node_count = YND_NODES_MOST - 2;
+    CHECK(ynd_member_add_node(entries, 2, NODES(&s->all), 1, EAST, 0, 0, 0, &place) == YND_AT_LIMIT && place == 0);
+    entries[0].ynd.node_count--;
+    CHECK(ynd_member_add_node(entries, 2, NODES(&s->all), 1, EAST, 0, 0, 0, &place) == YND_LENT_TOO_SHORT);
+    CHECK(place == YND_NODES && entries[1].ynd.node_count == 2);
+    CHECK(ynd_member_add_node(entries, 2, NODES(&s->all), 2, EAST, 0, 0, 0, &place) == YND_NO_SUCH_PLACE);
+}
+
 /* The way goes west, west, east and west again. */
 void two_members(void)
 {
@@ -253,6 +335,7 @@ void two_members(void)
     CHECK(renumber(&s, 2, 1, scratch, places, 2) == 0 && places[0] == 1 && places[1] == 0 && is_sound(&s));
     goes(&s, done, (ynd_location[]){ { 0, 0 }, { 0, 1 }, { 1, 0 }, { 0, 0 }, { 0, 1 } }, 5);
     CHECK(s.all.links[1].area_id == EAST && s.all.links[1].node_id == 0);
+    full_set(&s);
     s.all.links[1].node_id = 77;
     CHECK(!is_sound(&s));
     goes(&s, (ynd_walk_end){ YND_NO_NODE, 0, 0 }, (ynd_location[]){ { 0, 0 }, { 0, 1 } }, 2);

@@ -117,6 +117,57 @@ static void do_set_renumber(void)
     accepted(ynd_set_renumber(&member, 1, SET_LISTS, scratch, YND_SCRATCH, places, counts.nodes, 0, &place));
 }
 
+/* The calls on the member that are lent most. */
+static void do_member_write(void)
+{
+    accepted(ynd_member_write(&member, 1, SET_LISTS, 0, section, YND_SECTION_MOST, &count, &place));
+}
+
+static void do_member_write_then_read(void)
+{
+    accepted(ynd_member_write_then_read(&member, 1, SET_LISTS, 0, section, YND_SECTION_MOST, &count, &place));
+}
+
+static void do_member_shown_node(void)
+{
+    static ynd_seen_node seen;
+    accepted(ynd_member_shown_node(&member, 1, SET_NODES, SET_LINKS, SET_JUNCTIONS, SET_REFS, 0, 0, &seen, &place));
+}
+
+static void do_member_put_links(void)
+{
+    accepted(ynd_member_put_links(&member, 1, SET_NODES, SET_LINKS, 0, 0, &link_to, 1, &place));
+}
+
+static void do_member_put_words(void)
+{
+    static uint32_t unknowns[7];
+    accepted(ynd_member_put_words(&member, 1, 0, 1, 2, 3, unknowns, &place));
+}
+
+/* Its part has no room: refused behind all that is asked before. */
+static void do_member_add_junction(void)
+{
+    static const ynd_junction_entry empty;
+    ynd_member_add_junction(&member, 1, SET_JUNCTIONS, SET_HEIGHTS, 0, &empty, NULL, 0, &place);
+}
+
+static void do_member_add_node(void)
+{
+    ynd_member_add_node(&member, 1, SET_NODES, 0, 489, 1, 2, 3, &place);
+}
+
+static void do_member_node(void)
+{
+    accepted(ynd_member_node(&member, 1, SET_NODES, 0, 3, &yes, &at, &place));
+}
+
+static void do_set_hand_back(void)
+{
+    uint16_t own = set_nodes[0].area_id;
+    accepted(ynd_set_hand_back(&member, 1, SET_LISTS, own, &ynd, LISTS, &place));
+}
+
 static void do_set_leave(void)
 {
     uint16_t own = set_nodes[0].area_id;
@@ -144,7 +195,13 @@ int main(int argc, char **argv)
         { "ynd_within", do_within }, { "ynd_nearest", do_nearest }, { "ynd_follow_round", do_follow_round },
         { "ynd_follow_round_versioned", do_follow_version },
         { "ynd_set_join", do_set_join }, { "ynd_set_sound", do_set_sound }, { "ynd_set_crossing_walk", do_set_walk },
-        { "ynd_set_renumber", do_set_renumber }, { "ynd_set_leave", do_set_leave },
+        { "ynd_set_renumber", do_set_renumber },
+        { "ynd_member_write", do_member_write }, { "ynd_member_write_then_read", do_member_write_then_read },
+        { "ynd_member_shown_node", do_member_shown_node }, { "ynd_member_put_links", do_member_put_links },
+        { "ynd_member_put_words", do_member_put_words }, { "ynd_member_add_junction", do_member_add_junction },
+        { "ynd_member_add_node", do_member_add_node }, { "ynd_member_node", do_member_node },
+        { "ynd_set_hand_back", do_set_hand_back },
+        { "ynd_set_leave", do_set_leave },
         { "ynd_write_round", do_write_round }, { "ynd_read_round", do_read_round },
         { "ynd_add_node", do_add_node }, { "ynd_add_link", do_add_link }, { "ynd_add_ref", do_add_ref }, { "ynd_put_node", do_put_node },
         { "ynd_stored_position", do_stored }, { "ynd_length_between", do_length }, { "ynd_cell_file_name", do_file_name },

@@ -361,11 +361,103 @@ static void round_of(record *r)
     unblock(place, sizeof *place);
 }
 
+enum { SET_MEMBERS = 3, SET_NODES = 12, SET_LINKS = 24 };
+
+/* A cell joins: its nodes and links as they stand in the record. */
+static void joins(record *r, ynd_member *members, size_t *count, const lent *all)
+{
+    uint16_t area = (uint16_t)number(r, 2);
+    size_t n = number(r, 1), l = number(r, 1), *place = block(sizeof *place);
+    ynd_counts *sizes = block(sizeof *sizes);
+    lent m = lend(n, l, 0, 0, 0);
+    ynd_new(m.ynd);
+    m.ynd->node_count = (uint32_t)n;
+    m.ynd->link_count = (uint32_t)l;
+    *sizes = (ynd_counts){ n, l, 0, 0, 0 };
+    for (size_t i = 0; i < n; i++) {
+        ynd_node_new(area, (uint16_t)number(r, 1), 0, 0, 0, &m.nodes[i]);
+        m.nodes[i].flags1 = (uint8_t)number(r, 1);
+        m.nodes[i].link_start = number(r, 1);
+        m.nodes[i].link_count = (uint8_t)number(r, 1);
+    }
+    for (size_t i = 0; i < l; i++) {
+        uint16_t to = (uint16_t)number(r, 2);
+        ynd_link_to(to, (uint16_t)number(r, 1), &m.links[i]);
+    }
+    CHECK(ynd_set_join(count, members, SET_MEMBERS, LISTS(all), m.ynd, LISTS(&m), sizes, place) == 0);
+    unlend(&m);
+    unblock(sizes, sizeof *sizes);
+    unblock(place, sizeof *place);
+}
+
+static void crossing_walk(record *r, const ynd_member *members, size_t count, const lent *all)
+{
+    size_t member = number(r, 1), start = number(r, 1), n = number(r, 1), room = number(r, 1);
+    size_t *place = block(sizeof *place), *visits = block(sizeof *visits);
+    uint32_t refusal = number(r, 1), at = number(r, 1), how = number(r, 1), area = number(r, 2), to = number(r, 1);
+    size_t held = number(r, 1);
+    uint8_t *choices = block_of(bytes_of(r, n), n);
+    ynd_location *visited = block(room * sizeof *visited);
+    ynd_walk_end *end = block(sizeof *end);
+    for (size_t i = 0; i < room; i++)
+        visited[i] = (ynd_location){ 255, 255 };
+    uint32_t got = ynd_set_crossing_walk(members, count, NODES(all), LINKS(all), member, start, choices, n, visited,
+        room, end, visits, place);
+    CHECK(got == refusal && *place == at);
+    CHECK(got || (end->how == how && end->area_id == area && end->node_id == to && *visits == held));
+    for (size_t i = 0; i < room; i++) {
+        CHECK(visited[i].member == number(r, 1));
+        CHECK(visited[i].place == number(r, 1));
+    }
+    unblock(end, sizeof *end);
+    unblock(visited, room * sizeof *visited);
+    unblock(choices, n);
+    unblock(visits, sizeof *visits);
+    unblock(place, sizeof *place);
+}
+
+static void member_renumbered(record *r, ynd_member *members, size_t count, const lent *all)
+{
+    size_t member = number(r, 1), room = number(r, 1), *place = block(sizeof *place);
+    uint32_t refusal = number(r, 1), at = number(r, 1);
+    uint32_t *scratch = block(YND_SCRATCH * sizeof *scratch), *places = block(room * sizeof *places);
+    for (size_t i = 0; i < room; i++)
+        places[i] = 255;
+    uint32_t got = ynd_set_renumber(members, count, NODES(all), LINKS(all), JUNCTIONS(all), HEIGHTS(all), REFS(all),
+        scratch, YND_SCRATCH, places, room, member, place);
+    CHECK(got == refusal && *place == at);
+    for (size_t i = 0; i < room; i++)
+        CHECK(places[i] == number(r, 1));
+    unblock(places, room * sizeof *places);
+    unblock(scratch, YND_SCRATCH * sizeof *scratch);
+    unblock(place, sizeof *place);
+}
+
+/* A set's walks and renumberings, one after the other. */
+static void set_steps(record *r)
+{
+    size_t cells = number(r, 1), steps_left = number(r, 1), *count = block(sizeof *count);
+    ynd_member *members = block(SET_MEMBERS * sizeof *members);
+    lent all = lend(SET_NODES, SET_LINKS, 0, 0, 0);
+    *count = 0;
+    while (cells--)
+        joins(r, members, count, &all);
+    while (steps_left--)
+        if (number(r, 1))
+            member_renumbered(r, members, *count, &all);
+        else
+            crossing_walk(r, members, *count, &all);
+    CHECK(r->left == 0);
+    unlend(&all);
+    unblock(members, SET_MEMBERS * sizeof *members);
+    unblock(count, sizeof *count);
+}
+
 size_t replay(const uint8_t *bytes, size_t n)
 {
     static void (*const KINDS[])(record *) = {
         NULL, steps, metres, grid, length, name, grid_cell, area, lane_offset, file, links, junction, large, walk, sound,
-        NULL, NULL, NULL, round_file, follow, round_of
+        NULL, NULL, NULL, round_file, follow, round_of, NULL, set_steps
     };
     record all = { bytes, n };
     size_t count = 0, other = 0;

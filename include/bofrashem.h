@@ -478,6 +478,19 @@ uint32_t ynd_set_leave(
     uint8_t *heights, size_t heights_len, ynd_ref_entry *refs, size_t refs_len, uint16_t area, size_t *count,
     size_t *place);
 
+/* The cell that ynd_set_leave would take out by this area, copied into lists of the caller's own; the set stays as it
+ * is, and ynd_set_leave follows where it is to leave. `ynd` gets its words (what it held before does not matter), the
+ * five lists its entries from their front on; later entries stay. `members` are the set's and no more. Refused, in
+ * this order: 13 no member has the area; 14 over a limit; 7 at 0 to 4; 7 at 0 to 4 where the caller's own list is
+ * shorter than the cell's count. */
+uint32_t ynd_set_hand_back(
+    const ynd_member *members, size_t members_len, const ynd_node_entry *nodes, size_t nodes_len,
+    const ynd_link_entry *links, size_t links_len, const ynd_junction_entry *junctions, size_t junctions_len,
+    const uint8_t *heights, size_t heights_len, const ynd_ref_entry *refs, size_t refs_len, uint16_t area,
+    ynd_cell *ynd, ynd_node_entry *to_nodes, size_t to_nodes_len, ynd_link_entry *to_links, size_t to_links_len,
+    ynd_junction_entry *to_junctions, size_t to_junctions_len, uint8_t *to_heights, size_t to_heights_len,
+    ynd_ref_entry *to_refs, size_t to_refs_len, size_t *place);
+
 /* Renumbers the member at a place of `members` (the set's and no more), as ynd_renumber does a cell. Links of the
  * others that name its area, and that aren't of their own, follow where it is the first of its area; their refs
  * don't. `places` gets the new place of each of its nodes. The scratch holds anything after an accepted call. A
@@ -510,6 +523,225 @@ uint32_t ynd_set_sound(
     const ynd_member *members, size_t members_len, const ynd_node_entry *nodes, size_t nodes_len,
     const ynd_link_entry *links, size_t links_len, const ynd_ref_entry *refs, size_t refs_len,
     uint32_t *scratch, size_t scratch_len, bool *sound, size_t *place);
+
+/* The member of this area, the first joined of several: `found` says whether there is one, `member` gets it, or stays.
+ * An empty member's area is 0. `members` are the set's and no more; parts are cut where the nodes end. Never refused. */
+void ynd_set_member_of_area(
+    const ynd_member *members, size_t members_len, const ynd_node_entry *nodes, size_t nodes_len, uint16_t area,
+    bool *found, size_t *member);
+
+/* Follows a round of this version across the set, as ynd_set_crossing_walk walks: from the node that has the number
+ * `start` in the member of `area` (version 2, `member` is not looked at) or in the member named (version 1, `area` is
+ * not looked at). `members` are the set's and no more. Refused, in this order: 15 a version that is neither 1 nor 2;
+ * 19 a version 2 round whose area is no member's; 13 no such member; 14 over a limit; 7 at 0 and 1; 13 no node of the
+ * member has the number; 7 at 8 where `visited` is too short (choices_len + 1 entries always do). */
+uint32_t ynd_set_follow_round(
+    const ynd_member *members, size_t members_len, const ynd_node_entry *nodes, size_t nodes_len,
+    const ynd_link_entry *links, size_t links_len, uint16_t version, uint16_t area, size_t member, uint16_t start,
+    const uint8_t *choices, size_t choices_len, ynd_location *visited, size_t visited_len, ynd_walk_end *end,
+    size_t *count, size_t *place);
+
+/* ---- Calls on one member of a set, each named as the cell's call that it is: the member at a place of `members`
+ * (the set's and no more) is the cell, and its lists are its parts of the five lists. So 7 where a list has no free
+ * entry is here 7 where the member's part has none, whatever stands behind it. All else in the six lists stays: the
+ * other members, and what is behind all parts. Each is refused first, in this order, with "the set's": 13 no such
+ * member; 14 over a limit; 7 at 0 to 4, of which the lists that a call isn't lent count as long enough. What follows
+ * with each call are the cell's own causes ---- */
+
+/* Writes the member as ynd_write does a cell: into `section` from its first byte on; `length` gets how many bytes
+ * were written. Refused, in this order: the set's; 12, 8 and 9 node by node, 10 and 11 as ynd_write is; 7 at 5 where
+ * the section is too short. */
+uint32_t ynd_member_write(
+    const ynd_member *members, size_t members_len, const ynd_node_entry *nodes, size_t nodes_len,
+    const ynd_link_entry *links, size_t links_len, const ynd_junction_entry *junctions, size_t junctions_len,
+    const uint8_t *heights, size_t heights_len, const ynd_ref_entry *refs, size_t refs_len, size_t member,
+    uint8_t *section, size_t section_len, size_t *length, size_t *place);
+
+/* Writes the member and reads just those bytes back into its own parts, as ynd_write_then_read does a cell. Refused as
+ * ynd_member_write is; a member made by hand is also refused with 7 at 0 to 4 where its part is too short for copies
+ * of ranges that overlap. A refusal leaves all members and the section as they were. */
+uint32_t ynd_member_write_then_read(
+    ynd_member *members, size_t members_len, ynd_node_entry *nodes, size_t nodes_len,
+    ynd_link_entry *links, size_t links_len, ynd_junction_entry *junctions, size_t junctions_len,
+    uint8_t *heights, size_t heights_len, ynd_ref_entry *refs, size_t refs_len, size_t member,
+    uint8_t *section, size_t section_len, size_t *length, size_t *place);
+
+/* What a walk shows of the member's node at place `at`, as ynd_shown_node. Refused, in this order: the set's; 13 no
+ * such place. */
+uint32_t ynd_member_shown_node(
+    const ynd_member *members, size_t members_len, const ynd_node_entry *nodes, size_t nodes_len,
+    const ynd_link_entry *links, size_t links_len, const ynd_junction_entry *junctions, size_t junctions_len,
+    const ynd_ref_entry *refs, size_t refs_len, size_t member, size_t at, ynd_seen_node *shown, size_t *place);
+
+/* What a walk shows of the member's junction at place `at`, as ynd_shown_junction. Refused, in this order: the set's;
+ * 13 no such place. */
+uint32_t ynd_member_shown_junction(
+    const ynd_member *members, size_t members_len, const ynd_junction_entry *junctions, size_t junctions_len,
+    size_t member, size_t at, ynd_seen_junction *shown, size_t *place);
+
+/* Copies the heightmap values of the member's junction at place `at` to the front of `values`, as ynd_shown_values.
+ * Refused, in this order: the set's; 13 no such place; 7 at 3 where `values` is too short. */
+uint32_t ynd_member_shown_values(
+    const ynd_member *members, size_t members_len, const ynd_junction_entry *junctions, size_t junctions_len,
+    const uint8_t *heights, size_t heights_len, size_t member, size_t at, uint8_t *values, size_t values_len,
+    size_t *count, size_t *place);
+
+/* What a walk shows of the link that a byte chooses at place `at` of the member, as ynd_shown_link. Refused, in this
+ * order: the set's; 13 no such place. */
+uint32_t ynd_member_shown_link(
+    const ynd_member *members, size_t members_len, const ynd_node_entry *nodes, size_t nodes_len,
+    const ynd_link_entry *links, size_t links_len, size_t member, size_t at, uint8_t choice, ynd_seen_link *shown,
+    size_t *place);
+
+/* The place of the member's node that has a number, as ynd_node. Refused: the set's. */
+uint32_t ynd_member_node(
+    const ynd_member *members, size_t members_len, const ynd_node_entry *nodes, size_t nodes_len, size_t member,
+    uint16_t node_id, bool *found, size_t *at, size_t *place);
+
+/* The place of the junction that the member's refs give to a node, as ynd_junction_of. Refused: the set's. */
+uint32_t ynd_member_junction_of(
+    const ynd_member *members, size_t members_len, const ynd_node_entry *nodes, size_t nodes_len,
+    const ynd_ref_entry *refs, size_t refs_len, size_t member, uint16_t area_id, uint16_t node_id, bool *found,
+    size_t *at, size_t *place);
+
+/* The member's own area, as ynd_area_of_cell: `found` is false in a member with no node, whose area in the set is 0.
+ * Refused: the set's. */
+uint32_t ynd_member_area(
+    const ynd_member *members, size_t members_len, const ynd_node_entry *nodes, size_t nodes_len, size_t member,
+    bool *found, uint32_t *area, size_t *place);
+
+/* Adds a node behind all others of the member, as ynd_add_node. Refused, in this order: the set's, 14 also where the
+ * set has 65,536 nodes together; 7 at 0 where the member's part has no free entry. */
+uint32_t ynd_member_add_node(
+    ynd_member *members, size_t members_len, ynd_node_entry *nodes, size_t nodes_len, size_t member,
+    uint16_t area_id, float x, float y, float z, size_t *place);
+
+/* Adds a link as the last one of the member's node at place `at`, as ynd_add_link. Refused, in this order: the set's;
+ * 13 no such place; 14 at 255 links of the node; 7 at 1 where the member's part has no free entry. */
+uint32_t ynd_member_add_link(
+    ynd_member *members, size_t members_len, ynd_node_entry *nodes, size_t nodes_len,
+    ynd_link_entry *links, size_t links_len, size_t member, size_t at, const ynd_link_entry *link, size_t *place);
+
+/* Adds a ref behind all others of the member, as ynd_add_ref. Refused, in this order: the set's; 14 where the count
+ * would pass 32 bits; 7 at 4 where the member's part has no free entry. */
+uint32_t ynd_member_add_ref(
+    ynd_member *members, size_t members_len, ynd_ref_entry *refs, size_t refs_len, size_t member,
+    const ynd_ref_entry *added, size_t *place);
+
+/* Adds a junction behind all others of the member, with its heightmap values, as ynd_add_junction. Refused, in this
+ * order: the set's; 14 at 4,096 junctions, or where the count of values would pass 32 bits; 12 where the values are
+ * not width times height; 7 at 2 and 3 where the member's part has no room. */
+uint32_t ynd_member_add_junction(
+    ynd_member *members, size_t members_len, ynd_junction_entry *junctions, size_t junctions_len,
+    uint8_t *heights, size_t heights_len, size_t member, const ynd_junction_entry *junction,
+    const uint8_t *values, size_t values_len, size_t *place);
+
+/* Copies the member's own words, and how many entries it holds. Fills `ynd`. Refused: the set's. */
+uint32_t ynd_member_get_cell(
+    const ynd_member *members, size_t members_len, size_t member, ynd_cell *ynd, size_t *place);
+
+/* Copies the member's node at place `at`, as ynd_get_node. Refused, in this order: the set's; 13 no such place. */
+uint32_t ynd_member_get_node(
+    const ynd_member *members, size_t members_len, const ynd_node_entry *nodes, size_t nodes_len, size_t member,
+    size_t at, ynd_node_entry *node, size_t *place);
+
+/* Copies link k of the member's node at place `at`, as ynd_get_link. Refused, in this order: the set's; 13 no such
+ * node or link. */
+uint32_t ynd_member_get_link(
+    const ynd_member *members, size_t members_len, const ynd_node_entry *nodes, size_t nodes_len,
+    const ynd_link_entry *links, size_t links_len, size_t member, size_t at, size_t k, ynd_link_entry *link,
+    size_t *place);
+
+/* Copies the member's ref at place `at`, as ynd_get_ref. Refused, in this order: the set's; 13 no such place. */
+uint32_t ynd_member_get_ref(
+    const ynd_member *members, size_t members_len, const ynd_ref_entry *refs, size_t refs_len, size_t member,
+    size_t at, ynd_ref_entry *taken, size_t *place);
+
+/* Copies the member's junction at place `at`, as ynd_get_junction. Refused, in this order: the set's; 13 no such
+ * place. */
+uint32_t ynd_member_get_junction(
+    const ynd_member *members, size_t members_len, const ynd_junction_entry *junctions, size_t junctions_len,
+    size_t member, size_t at, ynd_junction_entry *junction, size_t *place);
+
+/* Copies heightmap value k of the member's junction at place `at`, as ynd_get_height. Refused, in this order: the
+ * set's; 13 no such junction or value. */
+uint32_t ynd_member_get_height(
+    const ynd_member *members, size_t members_len, const ynd_junction_entry *junctions, size_t junctions_len,
+    const uint8_t *heights, size_t heights_len, size_t member, size_t at, size_t k, uint8_t *value, size_t *place);
+
+/* Stores every field of the member's node at place `at` but where its links are, as ynd_put_node. Refused, in this
+ * order: the set's; 13 no such place. */
+uint32_t ynd_member_put_node(
+    const ynd_member *members, size_t members_len, ynd_node_entry *nodes, size_t nodes_len, size_t member, size_t at,
+    const ynd_node_entry *node, size_t *place);
+
+/* Stores a position, in whole steps, of the member's node at place `at`, as ynd_set_position. Refused, in this order:
+ * the set's; 13 no such place. */
+uint32_t ynd_member_set_position(
+    const ynd_member *members, size_t members_len, ynd_node_entry *nodes, size_t nodes_len, size_t member, size_t at,
+    float x, float y, float z, size_t *place);
+
+/* Stores link k of the member's node at place `at`, as ynd_put_link. Refused, in this order: the set's; 13 no such
+ * node or link. */
+uint32_t ynd_member_put_link(
+    const ynd_member *members, size_t members_len, const ynd_node_entry *nodes, size_t nodes_len,
+    ynd_link_entry *links, size_t links_len, size_t member, size_t at, size_t k, const ynd_link_entry *link,
+    size_t *place);
+
+/* Stores the member's ref at place `at`, as ynd_put_ref. Refused, in this order: the set's; 13 no such place. */
+uint32_t ynd_member_put_ref(
+    const ynd_member *members, size_t members_len, ynd_ref_entry *refs, size_t refs_len, size_t member, size_t at,
+    const ynd_ref_entry *put, size_t *place);
+
+/* Stores every field of the member's junction at place `at` but where its heightmap starts, as ynd_put_junction.
+ * Refused, in this order: the set's; 13 no such place; 12 where width times height is not what it was. */
+uint32_t ynd_member_put_junction(
+    const ynd_member *members, size_t members_len, ynd_junction_entry *junctions, size_t junctions_len,
+    size_t member, size_t at, const ynd_junction_entry *junction, size_t *place);
+
+/* Stores heightmap value k of the member's junction at place `at`, as ynd_put_height. Refused, in this order: the
+ * set's; 13 no such junction or value. */
+uint32_t ynd_member_put_height(
+    const ynd_member *members, size_t members_len, const ynd_junction_entry *junctions, size_t junctions_len,
+    uint8_t *heights, size_t heights_len, size_t member, size_t at, size_t k, uint8_t value, size_t *place);
+
+/* Stores the member's own words: vft, the counts of nodes that are no ped nodes and of ped nodes, and unk24, unk34,
+ * unk48, unk4c, unk5c, unk68 and unk6c. How many entries it holds stays. Refused: the set's. */
+uint32_t ynd_member_put_words(
+    ynd_member *members, size_t members_len, size_t member, uint32_t vft, uint32_t vehicle_node_count,
+    uint32_t ped_node_count, const uint32_t unknowns[7], size_t *place);
+
+/* The first `count` nodes of the member stay, as ynd_truncate_nodes; its part stays as long. Refused, in this order:
+ * the set's; 13 where there are fewer. */
+uint32_t ynd_member_truncate_nodes(
+    ynd_member *members, size_t members_len, size_t member, size_t count, size_t *place);
+
+/* The first `count` junctions of the member stay, as ynd_truncate_junctions. Refused, in this order: the set's; 13
+ * where there are fewer. */
+uint32_t ynd_member_truncate_junctions(
+    ynd_member *members, size_t members_len, size_t member, size_t count, size_t *place);
+
+/* The first `count` refs of the member stay, as ynd_truncate_refs. Refused, in this order: the set's; 13 where there
+ * are fewer. */
+uint32_t ynd_member_truncate_refs(
+    ynd_member *members, size_t members_len, size_t member, size_t count, size_t *place);
+
+/* The links of the member's node at place `at` are the given ones, as ynd_put_links. Refused, in this order: the
+ * set's; 13 no such place; 14 over 255 given links, or where link_count would pass 32 bits; 7 at 1 where the member's
+ * part is shorter than its count afterwards (link_count + given_len entries always do). */
+uint32_t ynd_member_put_links(
+    ynd_member *members, size_t members_len, ynd_node_entry *nodes, size_t nodes_len,
+    ynd_link_entry *links, size_t links_len, size_t member, size_t at, const ynd_link_entry *given,
+    size_t given_len, size_t *place);
+
+/* The heightmap of the member's junction at place `at` is width times height of the given values, as
+ * ynd_put_heightmap. Refused, in this order: the set's; 13 no such place; 14 where heightmap_count would pass 32 bits;
+ * 12 where the values are not width times height; 7 at 3 where the member's part is shorter than its count afterwards
+ * (heightmap_count + values_len entries always do). */
+uint32_t ynd_member_put_heightmap(
+    ynd_member *members, size_t members_len, ynd_junction_entry *junctions, size_t junctions_len,
+    uint8_t *heights, size_t heights_len, size_t member, size_t at, uint8_t width, uint8_t height,
+    const uint8_t *values, size_t values_len, size_t *place);
 
 /* ---- Shortest paths ---- */
 

@@ -1,7 +1,7 @@
 # The Rust as judge. Included by the repository's Makefile, at whose root these run.
 #   make diff            both sides on the same inputs, about two minutes
 #   make diff FULL=1     with the exhaustive sweeps and a million lists of calls; minutes more on two quiet processors
-#   make soak            lists of calls on sound cells alone
+#   make soak            lists of calls on sound cells, on drawn ones and on sound sets alone
 #   make slips           believable wrong programs in the port's place, each to be caught by the family that claims it
 #   make bench           times of both sides, as the table of docs/BENCHMARKS.md
 #   make vectors         writes the vectors file anew, from the Rust's answers

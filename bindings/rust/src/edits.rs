@@ -100,7 +100,7 @@ impl Cell {
 }
 
 /// At least so many entries.
-fn grow<T: Clone + Default>(list: &mut Vec<T>, n: usize) {
+pub(crate) fn grow<T: Clone + Default>(list: &mut Vec<T>, n: usize) {
     if list.len() < n { list.resize(n, T::default()); }
 }
 

@@ -94,6 +94,23 @@ pub(crate) struct Words {
     pub ref_count: u32,
 }
 
+/// A member's entry in a set: its cell's own words, and how many entries its parts of the five lists have.
+#[repr(C)]
+#[derive(Clone, Copy, Debug, Default, PartialEq, Eq)]
+pub(crate) struct Entry {
+    pub words: Words,
+    pub sizes: [u32; 5],
+}
+
+/// A node that a crossing walk visits: its member, by the order of joining, and its place there.
+#[repr(C)]
+#[derive(Clone, Copy, Debug, Default, PartialEq, Eq, Hash)]
+#[allow(missing_docs)]
+pub struct Location {
+    pub member: u32,
+    pub place: u32,
+}
+
 // The archive sees words: the layouts have to be these.
 const _: () = {
     assert!(std::mem::size_of::<Node>() == 13 * 4 && std::mem::align_of::<Node>() == 4);
@@ -101,5 +118,7 @@ const _: () = {
     assert!(std::mem::size_of::<Junction>() == 6 * 4 && std::mem::align_of::<Junction>() == 4);
     assert!(std::mem::size_of::<Ref>() == 4 * 2 && std::mem::align_of::<Ref>() == 2);
     assert!(std::mem::size_of::<Words>() == 15 * 4 && std::mem::align_of::<Words>() == 4);
+    assert!(std::mem::size_of::<Entry>() == 20 * 4 && std::mem::align_of::<Entry>() == 4);
+    assert!(std::mem::size_of::<Location>() == 2 * 4 && std::mem::align_of::<Location>() == 4);
     assert!(cfg!(target_arch = "x86_64"));
 };

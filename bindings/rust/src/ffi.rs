@@ -1,5 +1,5 @@
 //! The archive's C functions (include/bofrashem.h says what each does). A slice is pointer and length.
-use crate::entries::{Junction, Link, Node, Ref, Words};
+use crate::entries::{Entry, Junction, Link, Location, Node, Ref, Words};
 
 // The wrapper reads entries and single steps itself and calls no `get`; all functions are declared, so that this is the header.
 #[allow(dead_code)]
@@ -222,7 +222,7 @@ extern "C" {
         end: &mut [u32; 3], count: &mut usize, place: &mut usize,
     ) -> u32;
     pub(crate) fn ynd_set_join(
-        count: &mut usize, members: *mut [u32; 20], members_len: usize, nodes: *mut Node, nodes_len: usize,
+        count: &mut usize, members: *mut Entry, members_len: usize, nodes: *mut Node, nodes_len: usize,
         links: *mut Link, links_len: usize, junctions: *mut Junction, junctions_len: usize, heights: *mut u8,
         heights_len: usize, refs: *mut Ref, refs_len: usize, ynd: &Words, new_nodes: *const Node,
         new_nodes_len: usize, new_links: *const Link, new_links_len: usize, new_junctions: *const Junction,
@@ -230,24 +230,170 @@ extern "C" {
         new_refs_len: usize, sizes: &[usize; 5], place: &mut usize,
     ) -> u32;
     pub(crate) fn ynd_set_leave(
-        members: *mut [u32; 20], members_len: usize, nodes: *mut Node, nodes_len: usize, links: *mut Link,
+        members: *mut Entry, members_len: usize, nodes: *mut Node, nodes_len: usize, links: *mut Link,
         links_len: usize, junctions: *mut Junction, junctions_len: usize, heights: *mut u8, heights_len: usize,
         refs: *mut Ref, refs_len: usize, area: u16, count: &mut usize, place: &mut usize,
     ) -> u32;
     pub(crate) fn ynd_set_renumber(
-        members: *mut [u32; 20], members_len: usize, nodes: *mut Node, nodes_len: usize, links: *mut Link,
+        members: *mut Entry, members_len: usize, nodes: *mut Node, nodes_len: usize, links: *mut Link,
         links_len: usize, junctions: *const Junction, junctions_len: usize, heights: *const u8, heights_len: usize,
         refs: *mut Ref, refs_len: usize, scratch: *mut u32, scratch_len: usize, places: *mut u32, places_len: usize,
         member: usize, place: &mut usize,
     ) -> u32;
     pub(crate) fn ynd_set_crossing_walk(
-        members: *const [u32; 20], members_len: usize, nodes: *const Node, nodes_len: usize, links: *const Link,
+        members: *const Entry, members_len: usize, nodes: *const Node, nodes_len: usize, links: *const Link,
         links_len: usize, member: usize, start: usize, choices: *const u8, choices_len: usize,
-        visited: *mut [u32; 2], visited_len: usize, end: &mut [u32; 3], count: &mut usize, place: &mut usize,
+        visited: *mut Location, visited_len: usize, end: &mut [u32; 3], count: &mut usize, place: &mut usize,
     ) -> u32;
     pub(crate) fn ynd_set_sound(
-        members: *const [u32; 20], members_len: usize, nodes: *const Node, nodes_len: usize, links: *const Link,
+        members: *const Entry, members_len: usize, nodes: *const Node, nodes_len: usize, links: *const Link,
         links_len: usize, refs: *const Ref, refs_len: usize, scratch: *mut u32, scratch_len: usize, sound: &mut bool,
+        place: &mut usize,
+    ) -> u32;
+    pub(crate) fn ynd_set_member_of_area(
+        members: *const Entry, members_len: usize, nodes: *const Node, nodes_len: usize, area: u16, found: &mut bool,
+        member: &mut usize,
+    );
+    pub(crate) fn ynd_set_follow_round(
+        members: *const Entry, members_len: usize, nodes: *const Node, nodes_len: usize, links: *const Link,
+        links_len: usize, version: u16, area: u16, member: usize, start: u16, choices: *const u8, choices_len: usize,
+        visited: *mut Location, visited_len: usize, end: &mut [u32; 3], count: &mut usize, place: &mut usize,
+    ) -> u32;
+    pub(crate) fn ynd_set_hand_back(
+        members: *const Entry, members_len: usize, nodes: *const Node, nodes_len: usize, links: *const Link,
+        links_len: usize, junctions: *const Junction, junctions_len: usize, heights: *const u8, heights_len: usize,
+        refs: *const Ref, refs_len: usize, area: u16, ynd: &mut Words, to_nodes: *mut Node, to_nodes_len: usize,
+        to_links: *mut Link, to_links_len: usize, to_junctions: *mut Junction, to_junctions_len: usize,
+        to_heights: *mut u8, to_heights_len: usize, to_refs: *mut Ref, to_refs_len: usize, place: &mut usize,
+    ) -> u32;
+    pub(crate) fn ynd_member_write(
+        members: *const Entry, members_len: usize, nodes: *const Node, nodes_len: usize, links: *const Link,
+        links_len: usize, junctions: *const Junction, junctions_len: usize, heights: *const u8, heights_len: usize,
+        refs: *const Ref, refs_len: usize, member: usize, section: *mut u8, section_len: usize, length: &mut usize,
+        place: &mut usize,
+    ) -> u32;
+    pub(crate) fn ynd_member_write_then_read(
+        members: *mut Entry, members_len: usize, nodes: *mut Node, nodes_len: usize, links: *mut Link,
+        links_len: usize, junctions: *mut Junction, junctions_len: usize, heights: *mut u8, heights_len: usize,
+        refs: *mut Ref, refs_len: usize, member: usize, section: *mut u8, section_len: usize, length: &mut usize,
+        place: &mut usize,
+    ) -> u32;
+    pub(crate) fn ynd_member_shown_node(
+        members: *const Entry, members_len: usize, nodes: *const Node, nodes_len: usize, links: *const Link,
+        links_len: usize, junctions: *const Junction, junctions_len: usize, refs: *const Ref, refs_len: usize,
+        member: usize, at: usize, shown: &mut [usize; 19], place: &mut usize,
+    ) -> u32;
+    pub(crate) fn ynd_member_shown_junction(
+        members: *const Entry, members_len: usize, junctions: *const Junction, junctions_len: usize, member: usize,
+        at: usize, shown: &mut [u32; 6], place: &mut usize,
+    ) -> u32;
+    pub(crate) fn ynd_member_shown_values(
+        members: *const Entry, members_len: usize, junctions: *const Junction, junctions_len: usize,
+        heights: *const u8, heights_len: usize, member: usize, at: usize, values: *mut u8, values_len: usize,
+        count: &mut usize, place: &mut usize,
+    ) -> u32;
+    pub(crate) fn ynd_member_shown_link(
+        members: *const Entry, members_len: usize, nodes: *const Node, nodes_len: usize, links: *const Link,
+        links_len: usize, member: usize, at: usize, choice: u8, shown: &mut [u8; 5], place: &mut usize,
+    ) -> u32;
+    pub(crate) fn ynd_member_node(
+        members: *const Entry, members_len: usize, nodes: *const Node, nodes_len: usize, member: usize, node_id: u16,
+        found: &mut bool, at: &mut usize, place: &mut usize,
+    ) -> u32;
+    pub(crate) fn ynd_member_junction_of(
+        members: *const Entry, members_len: usize, nodes: *const Node, nodes_len: usize, refs: *const Ref,
+        refs_len: usize, member: usize, area_id: u16, node_id: u16, found: &mut bool, at: &mut usize,
+        place: &mut usize,
+    ) -> u32;
+    pub(crate) fn ynd_member_area(
+        members: *const Entry, members_len: usize, nodes: *const Node, nodes_len: usize, member: usize,
+        found: &mut bool, area: &mut u32, place: &mut usize,
+    ) -> u32;
+    pub(crate) fn ynd_member_add_node(
+        members: *mut Entry, members_len: usize, nodes: *mut Node, nodes_len: usize, member: usize, area_id: u16,
+        x: f32, y: f32, z: f32, place: &mut usize,
+    ) -> u32;
+    pub(crate) fn ynd_member_add_link(
+        members: *mut Entry, members_len: usize, nodes: *mut Node, nodes_len: usize, links: *mut Link,
+        links_len: usize, member: usize, at: usize, link: &Link, place: &mut usize,
+    ) -> u32;
+    pub(crate) fn ynd_member_add_ref(
+        members: *mut Entry, members_len: usize, refs: *mut Ref, refs_len: usize, member: usize, added: &Ref,
+        place: &mut usize,
+    ) -> u32;
+    pub(crate) fn ynd_member_add_junction(
+        members: *mut Entry, members_len: usize, junctions: *mut Junction, junctions_len: usize, heights: *mut u8,
+        heights_len: usize, member: usize, junction: &Junction, values: *const u8, values_len: usize,
+        place: &mut usize,
+    ) -> u32;
+    pub(crate) fn ynd_member_get_cell(
+        members: *const Entry, members_len: usize, member: usize, ynd: &mut Words, place: &mut usize,
+    ) -> u32;
+    pub(crate) fn ynd_member_get_node(
+        members: *const Entry, members_len: usize, nodes: *const Node, nodes_len: usize, member: usize, at: usize,
+        node: &mut Node, place: &mut usize,
+    ) -> u32;
+    pub(crate) fn ynd_member_get_link(
+        members: *const Entry, members_len: usize, nodes: *const Node, nodes_len: usize, links: *const Link,
+        links_len: usize, member: usize, at: usize, k: usize, link: &mut Link, place: &mut usize,
+    ) -> u32;
+    pub(crate) fn ynd_member_get_ref(
+        members: *const Entry, members_len: usize, refs: *const Ref, refs_len: usize, member: usize, at: usize,
+        taken: &mut Ref, place: &mut usize,
+    ) -> u32;
+    pub(crate) fn ynd_member_get_junction(
+        members: *const Entry, members_len: usize, junctions: *const Junction, junctions_len: usize, member: usize,
+        at: usize, junction: &mut Junction, place: &mut usize,
+    ) -> u32;
+    pub(crate) fn ynd_member_get_height(
+        members: *const Entry, members_len: usize, junctions: *const Junction, junctions_len: usize,
+        heights: *const u8, heights_len: usize, member: usize, at: usize, k: usize, value: &mut u8,
+        place: &mut usize,
+    ) -> u32;
+    pub(crate) fn ynd_member_put_node(
+        members: *const Entry, members_len: usize, nodes: *mut Node, nodes_len: usize, member: usize, at: usize,
+        node: &Node, place: &mut usize,
+    ) -> u32;
+    pub(crate) fn ynd_member_set_position(
+        members: *const Entry, members_len: usize, nodes: *mut Node, nodes_len: usize, member: usize, at: usize,
+        x: f32, y: f32, z: f32, place: &mut usize,
+    ) -> u32;
+    pub(crate) fn ynd_member_put_link(
+        members: *const Entry, members_len: usize, nodes: *const Node, nodes_len: usize, links: *mut Link,
+        links_len: usize, member: usize, at: usize, k: usize, link: &Link, place: &mut usize,
+    ) -> u32;
+    pub(crate) fn ynd_member_put_ref(
+        members: *const Entry, members_len: usize, refs: *mut Ref, refs_len: usize, member: usize, at: usize,
+        put: &Ref, place: &mut usize,
+    ) -> u32;
+    pub(crate) fn ynd_member_put_junction(
+        members: *const Entry, members_len: usize, junctions: *mut Junction, junctions_len: usize, member: usize,
+        at: usize, junction: &Junction, place: &mut usize,
+    ) -> u32;
+    pub(crate) fn ynd_member_put_height(
+        members: *const Entry, members_len: usize, junctions: *const Junction, junctions_len: usize,
+        heights: *mut u8, heights_len: usize, member: usize, at: usize, k: usize, value: u8, place: &mut usize,
+    ) -> u32;
+    pub(crate) fn ynd_member_put_words(
+        members: *mut Entry, members_len: usize, member: usize, vft: u32, vehicle_node_count: u32,
+        ped_node_count: u32, unknowns: &[u32; 7], place: &mut usize,
+    ) -> u32;
+    pub(crate) fn ynd_member_truncate_nodes(
+        members: *mut Entry, members_len: usize, member: usize, count: usize, place: &mut usize,
+    ) -> u32;
+    pub(crate) fn ynd_member_truncate_junctions(
+        members: *mut Entry, members_len: usize, member: usize, count: usize, place: &mut usize,
+    ) -> u32;
+    pub(crate) fn ynd_member_truncate_refs(
+        members: *mut Entry, members_len: usize, member: usize, count: usize, place: &mut usize,
+    ) -> u32;
+    pub(crate) fn ynd_member_put_links(
+        members: *mut Entry, members_len: usize, nodes: *mut Node, nodes_len: usize, links: *mut Link,
+        links_len: usize, member: usize, at: usize, given: *const Link, given_len: usize, place: &mut usize,
+    ) -> u32;
+    pub(crate) fn ynd_member_put_heightmap(
+        members: *mut Entry, members_len: usize, junctions: *mut Junction, junctions_len: usize, heights: *mut u8,
+        heights_len: usize, member: usize, at: usize, width: u8, height: u8, values: *const u8, values_len: usize,
         place: &mut usize,
     ) -> u32;
     pub(crate) fn ynd_sound(

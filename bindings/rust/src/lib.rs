@@ -1,7 +1,8 @@
 //! Path node cells, read, renumbered, edited, written and walked by a library whose every function is proved to meet its contract.
 //!
-//! A [`Cell`] owns its memory and lends it to the library's calls. A refusal is a [`Refusal`] and changes nothing. The calls that
-//! need no cell (steps, grid, lengths, file names) are in [`numbers`].
+//! A [`Cell`] owns its memory and lends it to the library's calls; a [`Yard`] owns a set of cells whose walks cross. A
+//! refusal is a [`Refusal`] and changes nothing. The calls that need no cell (steps, grid, lengths, file names) are in
+//! [`numbers`].
 //!
 //! ```no_run
 //! # fn main() -> Result<(), Box<dyn std::error::Error>> {
@@ -21,6 +22,8 @@ mod edits;
 mod entries;
 mod ffi;
 mod fields;
+mod member;
+mod member_edits;
 pub mod numbers;
 mod paths;
 mod reach;
@@ -28,12 +31,16 @@ mod refusal;
 mod rounds;
 mod stores;
 mod walks;
+mod yard;
 
 pub use cell::{count, Cell, Counts};
-pub use entries::{Junction, Link, Node, Ref};
+pub use entries::{Junction, Link, Location, Node, Ref};
 pub use fields::special_is_ped;
+pub use member::Member;
+pub use member_edits::MemberMut;
 pub use paths::Path;
 pub use reach::NearNode;
 pub use refusal::Refusal;
 pub use rounds::{Round, VersionedRound};
 pub use walks::{End, SeenJunction, SeenLink, SeenNode, Walk};
+pub use yard::{CrossingWalk, Yard};

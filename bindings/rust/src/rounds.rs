@@ -57,7 +57,7 @@ impl Round {
 
 impl VersionedRound {
     /// The version's number, and the area or 0.
-    fn version(&self) -> (u16, u16) { self.area.map_or((1, 0), |area| (2, area)) }
+    pub(crate) fn version(&self) -> (u16, u16) { self.area.map_or((1, 0), |area| (2, area)) }
 
     /// Reads a round file of either version. Refused, in this order: 15 its first five bytes aren't the mark and
     /// version 1 or 2; 16 it has under 9 bytes, or not 9 plus its count (in version 2: 11).

@@ -61,17 +61,57 @@ pub struct SeenLink {
     pub length: u8,
 }
 
-impl Walk {
-    /// The end's words, and the places, as many as were visited.
-    pub(crate) fn of(end: [u32; 3], mut visited: Vec<u32>, count: usize) -> Walk {
-        visited.truncate(count);
-        let end = match end {
+impl End {
+    /// An end by its words.
+    pub(crate) fn of(end: [u32; 3]) -> End {
+        match end {
             [0, ..] => End::Done,
             [1, ..] => End::NoLink,
             [2, area, number] => End::Left(area as u16, number as u16),
             _ => End::NoNode,
-        };
-        Walk { end, visited }
+        }
+    }
+}
+
+impl Walk {
+    /// The end's words, and the places, as many as were visited.
+    pub(crate) fn of(end: [u32; 3], mut visited: Vec<u32>, count: usize) -> Walk {
+        visited.truncate(count);
+        Walk { end: End::of(end), visited }
+    }
+}
+
+impl SeenNode {
+    pub(crate) fn of(s: [usize; 19]) -> SeenNode {
+        SeenNode {
+            area_id: s[0] as u16,
+            street_name: s[1] as u32,
+            position: [s[2], s[3], s[4]].map(|x| x as u32),
+            flags: [s[5], s[6], s[7], s[8], s[9], s[10]].map(|x| x as u8),
+            unused0: s[11] as u32,
+            unused1: s[12] as u32,
+            unused2: s[13] as u32,
+            unused3: s[14] as u32,
+            unused4: s[15] as u16,
+            link_count: s[16],
+            junction: (s[17] == 1).then_some(s[18]),
+        }
+    }
+}
+
+impl SeenJunction {
+    /// How many values it has.
+    pub(crate) fn size(s: [u32; 6]) -> usize { s[4] as usize * s[5] as usize }
+
+    pub(crate) fn of(s: [u32; 6], values: Vec<u8>) -> SeenJunction {
+        SeenJunction { corner: [s[0], s[1]], min_z: s[2], max_z: s[3], width: s[4] as u8, height: s[5] as u8, values }
+    }
+}
+
+impl SeenLink {
+    /// None where nothing was found.
+    pub(crate) fn of(s: [u8; 5]) -> Option<SeenLink> {
+        (s[0] == 1).then_some(SeenLink { flags: [s[1], s[2], s[3]], length: s[4] })
     }
 }
 
@@ -110,26 +150,14 @@ impl Cell {
                 self.junctions.len(), self.refs.as_ptr(), self.refs.len(), at, &mut s, place,
             )
         })?;
-        Ok(SeenNode {
-            area_id: s[0] as u16,
-            street_name: s[1] as u32,
-            position: [s[2], s[3], s[4]].map(|x| x as u32),
-            flags: [s[5], s[6], s[7], s[8], s[9], s[10]].map(|x| x as u8),
-            unused0: s[11] as u32,
-            unused1: s[12] as u32,
-            unused2: s[13] as u32,
-            unused3: s[14] as u32,
-            unused4: s[15] as u16,
-            link_count: s[16],
-            junction: (s[17] == 1).then_some(s[18]),
-        })
+        Ok(SeenNode::of(s))
     }
 
     /// What a walk shows of the junction at a place. Refused: 13.
     pub fn shown_junction(&self, at: usize) -> Result<SeenJunction, Refusal> {
         let (mut s, mut n) = ([0; 6], 0);
         answered(|place| unsafe { ffi::ynd_shown_junction(&self.words, self.junctions.as_ptr(), self.junctions.len(), at, &mut s, place) })?;
-        let mut values = vec![0; s[4] as usize * s[5] as usize];
+        let mut values = vec![0; SeenJunction::size(s)];
         answered(|place| unsafe {
             ffi::ynd_shown_values(
                 &self.words, self.junctions.as_ptr(), self.junctions.len(), self.heights.as_ptr(), self.heights.len(), at, values.as_mut_ptr(),
@@ -137,7 +165,7 @@ impl Cell {
             )
         })?;
         values.truncate(n);
-        Ok(SeenJunction { corner: [s[0], s[1]], min_z: s[2], max_z: s[3], width: s[4] as u8, height: s[5] as u8, values })
+        Ok(SeenJunction::of(s, values))
     }
 
     /// What a walk shows of the link that a byte chooses at a place; none where there is no such link. Refused: 13.
@@ -146,6 +174,6 @@ impl Cell {
         answered(|place| unsafe {
             ffi::ynd_shown_link(&self.words, self.nodes.as_ptr(), self.nodes.len(), self.links.as_ptr(), self.links.len(), at, choice, &mut s, place)
         })?;
-        Ok((s[0] == 1).then_some(SeenLink { flags: [s[1], s[2], s[3]], length: s[4] }))
+        Ok(SeenLink::of(s))
     }
 }

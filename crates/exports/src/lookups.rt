@@ -11,7 +11,7 @@ use numbers::refusal::Refusal;
 
 // Put in line, so that what was found goes straight to the caller and not through memory.
 #[inline(always)]
-fn tell_found<T: Copy>(
+pub(crate) fn tell_found<T: Copy>(
     r: Result<Option<T>, Refusal>,
     found: &mut bool,
     at: &mut T,

@@ -37,7 +37,7 @@ fn version_area(version: Version) -> u16
     }
 }
 
-fn version_of(number: u16, area: u16) -> Result<Version, Refusal>
+pub(crate) fn version_of(number: u16, area: u16) -> Result<Version, Refusal>
     ensures { result ≡ version_of number area }
 {
     match number {

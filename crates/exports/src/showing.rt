@@ -22,7 +22,7 @@ fn place_or_zero(p: Option<usize>) -> usize
     p.unwrap_or(0)
 }
 
-fn seen_words(n: SeenNode) -> [usize; 19]
+pub(crate) fn seen_words(n: SeenNode) -> [usize; 19]
     ensures { result ≡ seen_words n }
 {
     let p = n.position;
@@ -71,7 +71,7 @@ pub extern "C" fn ynd_shown_node(
     tell_as(r, seen_words, shown, place)
 }
 
-fn seen_junction_words(j: SeenJunction) -> [u32; 6]
+pub(crate) fn seen_junction_words(j: SeenJunction) -> [u32; 6]
     ensures { result ≡ seen_junction_words j }
 {
     [j.x, j.y, j.min_z, j.max_z, j.width as u32, j.height as u32]
@@ -121,7 +121,7 @@ pub extern "C" fn ynd_shown_values(
     tell(r, count, place)
 }
 
-fn seen_link_words(link: Option<SeenLink>) -> [u8; 5]
+pub(crate) fn seen_link_words(link: Option<SeenLink>) -> [u8; 5]
     ensures { result ≡ seen_link_words link }
 {
     match link {

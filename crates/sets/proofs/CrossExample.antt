@@ -28,27 +28,27 @@ use Rattle.numbers.specs.declared.refusal.Refusal.TheVariants.{TooShort, NoSuchP
 use Rattle.numbers.specs.declared.refusal.Lent.TheVariants as lacking
 
 -- a member of two nodes and two links, in parts of so many entries
-abbrev entry : ℕ → ℕ → List ℕ
+abbrev pub entry : ℕ → ℕ → List ℕ
 entry nodes links = 8 ∷ 0 ∷ 0 ∷ 1 ∷ 2 ∷ 3 ∷ 4 ∷ 5 ∷ 6 ∷ 7 ∷ 2 ∷ 2 ∷ 0 ∷ 0 ∷ 0 ∷ nodes ∷ links ∷ 0 ∷ 0 ∷ 0 ∷ []
 
 -- a node of this area and number, with one link, from here
-abbrev node : ℕ → ℕ → ℕ → List ℕ
+abbrev pub node : ℕ → ℕ → ℕ → List ℕ
 node area number start = (area + number * 65536) ∷ 1 ∷ 2 ∷ 3 ∷ 4 ∷ 5 ∷ 65536 ∷ start ∷ []
 
-abbrev link : ℕ → ℕ → List ℕ
+abbrev pub link : ℕ → ℕ → List ℕ
 link area number = area ∷ number ∷ 5 ∷ 6 ∷ []
 
-abbrev walked : List (List ℕ) → List (List ℕ) → List (List ℕ) → CellSet
+abbrev pub walked : List (List ℕ) → List (List ℕ) → List (List ℕ) → CellSet
 walked members nodes links = cell_set members nodes links [] [] []
 
 -- Area 5, with an entry of its nodes to spare: nodes 7 and 3, with links to 9 of area 6 and out of the set. Area 6:
 -- nodes 4 and 9, with links to the number k of area 5 and to 3 of it. An entry of nodes behind them all.
-abbrev two_cells : ℕ → CellSet
+abbrev pub two_cells : ℕ → CellSet
 two_cells k = walked (entry 3 2 ∷ entry 2 2 ∷ [])
     (node 5 7 0 ∷ node 5 3 1 ∷ node 5 99 0 ∷ node 6 4 0 ∷ node 6 9 1 ∷ node 9 9 9 ∷ [])
     (link 6 9 ∷ link 8 1 ∷ link 5 k ∷ link 5 3 ∷ [])
 
-abbrev lent : List (List ℕ)
+abbrev pub lent : List (List ℕ)
 lent = (70 ∷ 71 ∷ []) ∷ (72 ∷ 73 ∷ []) ∷ (74 ∷ 75 ∷ []) ∷ (76 ∷ 77 ∷ []) ∷ []
 
 -- from node 7 into area 6, back to node 3, and out: four choices, of which the last is not used
@@ -99,7 +99,7 @@ list_short = refl
 -- ---- of two members of one area
 
 -- area 5 twice, both with a node 7 first; area 6 links to it
-abbrev twice : CellSet
+abbrev pub twice : CellSet
 twice = walked (entry 2 2 ∷ entry 2 2 ∷ entry 2 2 ∷ [])
     (node 5 7 0 ∷ node 5 3 0 ∷ node 5 7 0 ∷ node 5 4 1 ∷ node 6 1 0 ∷ node 6 2 0 ∷ [])
     (link 6 1 ∷ link 5 3 ∷ link 5 3 ∷ link 5 4 ∷ link 5 7 ∷ link 5 4 ∷ [])

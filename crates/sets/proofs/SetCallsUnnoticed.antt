@@ -17,7 +17,7 @@ use Rattle.walks.specs.Claim.{places, SameWalk}
 use Rattle.walks.specs.declared.walk.End.{End}
 use Rattle.walks.proofs.Routes.{same_walk}
 use Rattle.walks.proofs.CallLists.{move_id}
-use Rattle.sets.specs.Members.{cell_at}
+use Rattle.sets.specs.Members.{cell_at, areas}
 use Rattle.sets.specs.Crossing.{Location, location, crossing}
 use Rattle.sets.specs.SetSound.{set_sound}
 use Rattle.sets.specs.MemberList.{cells_of}
@@ -152,6 +152,8 @@ module _ (y : CellSet) (u : Usable y) (read : (i : ℕ) → i < length y.members
     same_causes = may_be_used z after.as_usable ∙ sym (may_be_used y u);
     still_there = λ q st. both (λ ds f. Stands (cells_of ds) (f q)) (claim.still_there q st);
     same_member = λ q. both (λ ds f. (f q).member ≡ q.member) (claim.same_member q);
+    still_sound = both (λ ds f. set_sound (cells_of ds) ≡ true) claim.still_sound;
+    same_areas = both (λ ds f. areas (cells_of ds) ≡ areas (cells_of ms)) claim.same_areas;
     same_walks = walks_same;
     same_answers = answers_same;
     same_visits = λ choices q st visited later e end n d.
@@ -237,12 +239,14 @@ module _ (y : CellSet) (cause : Refusal) (no : decided (set_causes y) ≡ Err ca
       (λ i. (crossed_by (decided (cross_causes y q (length (places t)) (e i))) t later).answer)
       ∙ answer_by_law (decided (cross_causes y q (length (places t)) (length visited))) t visited later
 
-  idle_unnoticed : (ks : List SetCall) → CallsUnnoticed y ks
-  idle_unnoticed ks = record {
+  idle_unnoticed : set_sound (cells_in y) ≡ true → (ks : List SetCall) → CallsUnnoticed y ks
+  idle_unnoticed s ks = record {
     same_members = ap (λ (w : CellSet). length w.members) r;
     same_causes = ap (λ (w : CellSet). decided (set_causes w)) r;
     still_there = λ q st. unmoved (λ w f. Stands (cells_in w) (f q)) st;
     same_member = λ q. unmoved (λ w f. (f q).member ≡ q.member) refl;
+    still_sound = unmoved (λ w f. set_sound (cells_in w) ≡ true) s;
+    same_areas = unmoved (λ w f. areas (cells_in w) ≡ areas (cells_in y)) refl;
     same_walks = same;
     same_answers = answers;
     same_visits = λ choices q st visited later e end n d.
@@ -283,4 +287,4 @@ calls_unnoticed y read s ks = go (decided (set_causes y)) refl
   where
     go : (a : Answer) → decided (set_causes y) ≡ a → CallsUnnoticed y ks
     go (Ok tt) e = used_unnoticed y (usable y e) read s ks
-    go (Err cause) e = idle_unnoticed y cause e ks
+    go (Err cause) e = idle_unnoticed y cause e s ks

@@ -18,7 +18,7 @@ use Rattle.sets.specs.SetCalls.{SetCall, run_in, moved_in}
 use Rattle.sets.specs.SetClaim.{CellAsRead, SetUnnoticed, SetUnnoticedTheorem}
 use Rattle.sets.proofs.SetLists.{every_all}
 use Rattle.sets.proofs.SetMemory.{cell_at_law}
-use Rattle.sets.proofs.SetRuns.{Alike, Fit, run_alike, run_numbers}
+use Rattle.sets.proofs.SetRuns.{Alike, Fit, run_alike, run_fit, run_numbers}
 use Rattle.sets.proofs.CrossingAlike.{Held, same_over, answers_alike, run_held}
 use Rattle.std.specs.Prelude.{Ok}
 
@@ -38,6 +38,8 @@ unnoticed ms h l calls =
       same_members = many;
       still_there = a.inside;
       same_member = a.same_member;
+      still_sound = (run_fit ms calls h).is_sound;
+      same_areas = a.same_areas;
       same_walks = λ choices s st. same_walk f (crossing (cells_of ms) choices s) (crossing (cells_of ds) choices (f s)) (a.same_walks choices s st);
       same_answers = λ choices s st. answers_alike ms ds f l lies over choices s st (a.inside s st)
           (same_walk f (crossing (cells_of ms) choices s) (crossing (cells_of ds) choices (f s)) (a.same_walks choices s st));

@@ -20,14 +20,14 @@ use Rattle.cells.proofs.WritingBack.WrittenBack.{write_read_same}
 use Rattle.walks.specs.Calls.{Call, renumbering, write_read, is_done}
 use Rattle.walks.proofs.NewWalks.{move}
 use Rattle.walks.proofs.CallLists.{move_id, move_move}
-use Rattle.sets.specs.Members.{no_cell, cell_at}
+use Rattle.sets.specs.Members.{no_cell, cell_at, areas}
 use Rattle.sets.specs.Crossing.{Location, crossing}
 use Rattle.sets.specs.SetSound.{set_sound}
 use Rattle.sets.specs.MemberList.{member_at, cells_of, member_causes, unless}
 use Rattle.sets.specs.SetRenumber.{renumber_cells, members_after, SetRenumbered, renumbered_in, not_renumbered, renumber_in, both_in, not_written, write_read_in}
 use Rattle.sets.specs.SetCalls.{SetCall, after_in, run_in, renumbers_in, moves_to, moved_in, any_renumbers_in}
 use Rattle.sets.specs.SetClaim.{Stands}
-use Rattle.sets.proofs.RenumberedSet.{Numbered, same_length, same_nodes, crossing_same, stands_on, set_sound_law, numbered_own, numbered_all}
+use Rattle.sets.proofs.RenumberedSet.{Numbered, same_length, areas_same, same_nodes, crossing_same, stands_on, set_sound_law, numbered_own, numbered_all}
 use Rattle.sets.proofs.KeptSet.{set_kept}
 use Rattle.sets.proofs.SetMemory.{member_there, cell_at_law, cells_stay, cells_renumbered}
 use Rattle.std.specs.Prelude.{Ok, Err}
@@ -39,17 +39,19 @@ use Rattle.numbers.specs.Refusals.{Answer}
 pub record Alike (cs ds : List Cell) (f : Location → Location) : Type 0 where
   pub same_count : length ds ≡ length cs
   pub same_member : (t : Location) → (f t).member ≡ t.member
+  pub same_areas : areas ds ≡ areas cs
   pub same_nodes : (i : ℕ) → i < length cs → length (cell_at ds i).nodes ≡ length (cell_at cs i).nodes
   pub inside : (t : Location) → Stands cs t → Stands ds (f t)
   pub same_walks : (choices : List ℕ) (t : Location) → Stands cs t → crossing ds choices (f t) ≡ move f (crossing cs choices t)
 
 pub alike_refl : (cs : List Cell) → Alike cs cs (λ t. t)
-alike_refl cs = record { same_count = refl; same_member = λ t. refl; same_nodes = λ i li. refl; inside = λ t h. h; same_walks = λ bs t h. sym (move_id (crossing cs bs t)) }
+alike_refl cs = record { same_count = refl; same_member = λ t. refl; same_areas = refl; same_nodes = λ i li. refl; inside = λ t h. h; same_walks = λ bs t h. sym (move_id (crossing cs bs t)) }
 
 pub alike_trans : {cs ds es : List Cell} {f g : Location → Location} → Alike cs ds f → Alike ds es g → Alike cs es (λ t. g (f t))
 alike_trans {cs} {ds} {es} {f} {g} a b = record {
   same_count = b.same_count ∙ a.same_count;
   same_member = λ t. b.same_member (f t) ∙ a.same_member t;
+  same_areas = b.same_areas ∙ a.same_areas;
   same_nodes = λ i li. b.same_nodes i (rw a.same_count li) ∙ a.same_nodes i li;
   inside = λ t h. b.inside (f t) (a.inside t h);
   same_walks = λ bs t h. b.same_walks bs (f t) (a.inside t h) ∙ (ap (move g) (a.same_walks bs t h) ∙ move_move f g (crossing cs bs t));
@@ -78,6 +80,7 @@ renumbered cs j lj few h = record {
   alike = record {
     same_count = same_length cs j lj h.is_sound;
     same_member = λ t. refl;
+    same_areas = areas_same cs j lj h.is_sound;
     same_nodes = same_nodes cs j lj h.is_sound;
     inside = stands_on cs j lj h.is_sound;
     same_walks = crossing_same cs j lj h.is_sound;
@@ -128,6 +131,11 @@ pub run_alike : (ms : List Memory) (ks : List SetCall) → Fit (cells_of ms) →
 unfolding run_in moved_in
 run_alike ms [] h = alike_refl (cells_of ms)
 run_alike ms (k ∷ ks) h = let s = step ms k h in alike_trans s.alike (run_alike (after_in ms k) ks s.fit)
+
+pub run_fit : (ms : List Memory) (ks : List SetCall) → Fit (cells_of ms) → Fit (cells_of (run_in ms ks))
+unfolding run_in
+run_fit ms [] h = h
+run_fit ms (k ∷ ks) h = run_fit (after_in ms k) ks (step ms k h).fit
 
 run_numbered : (ms : List Memory) (ks : List SetCall) → Fit (cells_of ms) → (i : ℕ) → i < length (cells_of ms) → Numbered (cells_of ms) i → Numbered (cells_of (run_in ms ks)) i
 unfolding run_in

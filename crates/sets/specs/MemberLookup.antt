@@ -18,8 +18,9 @@ use Rattle.walks.specs.Shown.{ValuesLeft, values_left, shown_node, shown_junctio
 use Rattle.sets.specs.MemberList.{unless}
 use Rattle.sets.specs.CellSet.{CellSet}
 use Rattle.sets.specs.SetStored.{member_in, ask_causes}
-use Rattle.std.specs.Prelude.{Option, Result, Ok, Err}
+use Rattle.std.specs.Prelude.{Option, Result, Ok, Err, Some, None}
 use Rattle.numbers.specs.declared.refusal.Refusal.{Refusal}
+use Rattle.numbers.specs.declared.refusal.Refusal.TheVariants.{NoSuchPlace}
 
 -- 13, 14, 7 of the set; else as the cell's own call
 unfoldable pub ask_member : {A : Type 0} → CellSet → ℕ → (Refusal → A) → (Memory → A) → A
@@ -32,6 +33,15 @@ area_id_member y j = ask_member y j Err (λ m. area_id_call m.ynd m.nodes)
 
 abbrev pub node_member : CellSet → ℕ → ℕ → Place
 node_member y j k = ask_member y j Err (λ m. node_call m.ynd m.nodes k)
+
+-- where a walk starts that names its start by a number: 13 if no node has it
+abbrev pub there : Place → Result ℕ Refusal
+there (Ok (Some p)) = Ok p
+there (Ok None) = Err NoSuchPlace
+there (Err cause) = Err cause
+
+abbrev pub start_in_member : CellSet → ℕ → ℕ → Result ℕ Refusal
+start_in_member y j k = there (node_member y j k)
 
 abbrev pub junction_of_member : CellSet → ℕ → ℕ → ℕ → Place
 junction_of_member y j a k = ask_member y j Err (λ m. junction_of_call m.ynd m.nodes m.refs a k)

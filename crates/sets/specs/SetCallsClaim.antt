@@ -6,7 +6,7 @@ use Rattle.numbers.specs.Refusals.{decided}
 use Rattle.cells.specs.Cell.{Cell, node_at}
 use Rattle.walks.specs.Claim.{SameWalk}
 use Rattle.walks.specs.declared.walk.End.{End}
-use Rattle.sets.specs.Members.{cell_at}
+use Rattle.sets.specs.Members.{cell_at, areas}
 use Rattle.sets.specs.Crossing.{Location, location, crossing}
 use Rattle.sets.specs.SetSound.{set_sound}
 use Rattle.sets.specs.MemberList.{cells_of}
@@ -42,6 +42,9 @@ pub record CallsUnnoticed (y : CellSet) (calls : List SetCall) : Type 0 where
   -- The node first at s is still in the set, in the same member.
   pub still_there : (s : Location) → Stands (cells_in y) s → Stands (cells_in (run_set y calls)) (moved_on y calls s)
   pub same_member : (s : Location) → (moved_on y calls s).member ≡ s.member
+  -- the set is as sound, and its members have the areas that they had
+  pub still_sound : set_sound (cells_in (run_set y calls)) ≡ true
+  pub same_areas : areas (cells_in (run_set y calls)) ≡ areas (cells_in y)
   -- "every crossing walk from the same node as first shown, its visits moved as in demand 3"
   pub same_walks : (choices : List ℕ) (s : Location) → Stands (cells_in y) s
       → SameWalk (moved_on y calls) (crossing (cells_in y) choices s)

@@ -6,7 +6,7 @@ use Rattle.cells.specs.Cell.{Cell, node_at}
 use Rattle.cells.specs.CellOf.{cell_of}
 use Rattle.cells.specs.FileCell.{file_cell}
 use Rattle.walks.specs.Claim.{SameWalk}
-use Rattle.sets.specs.Members.{cell_at}
+use Rattle.sets.specs.Members.{cell_at, areas}
 use Rattle.sets.specs.Crossing.{Location, crossing}
 use Rattle.sets.specs.SetSound.{set_sound}
 use Rattle.sets.specs.MemberList.{member_at, cells_of}
@@ -45,6 +45,9 @@ pub record SetUnnoticed (ms : List Memory) (calls : List SetCall) : Type 0 where
   -- The node first at s is still in the set, in the same member.
   pub still_there : (s : Location) → Stands (cells_of ms) s → Stands (cells_of (run_in ms calls)) (moved_in ms calls s)
   pub same_member : (s : Location) → (moved_in ms calls s).member ≡ s.member
+  -- the set is as sound, and its members have the areas that they had
+  pub still_sound : set_sound (cells_of (run_in ms calls)) ≡ true
+  pub same_areas : areas (cells_of (run_in ms calls)) ≡ areas (cells_of ms)
   -- "every crossing walk from the same node as first shown, its visits moved as in demand 3"
   pub same_walks : (choices : List ℕ) (s : Location) → Stands (cells_of ms) s
       → SameWalk (moved_in ms calls) (crossing (cells_of ms) choices s)

@@ -6,6 +6,7 @@ use Rattle.numbers.specs.Refusals.{Cause, when}
 use Rattle.cells.specs.Memory.{Memory, memory}
 use Rattle.cells.specs.NodeWords.{first_area}
 use Rattle.cells.specs.Lookup.{first_with, is_some}
+use Rattle.cells.specs.LookupCall.{place_of}
 use Rattle.cells.specs.declared.ynd.Ynd.{Ynd}
 use Rattle.sets.specs.Members.{map_from}
 use Rattle.sets.specs.MemberList.{over_set}
@@ -21,8 +22,7 @@ use Rattle.sets.specs.declared.parts.Kind.{Kind}
 use Rattle.sets.specs.declared.parts.Kind.TheVariants as kind
 
 abbrev pub named_of : Found ℕ → Option ℕ
-named_of (some i) = Some i
-named_of none = None
+named_of o = place_of o
 
 -- where the parts of the member j start: behind those of the members before it
 abbrev pub starts_of : List (List ℕ) → ℕ → Counts

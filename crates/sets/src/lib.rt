@@ -21,7 +21,7 @@ mod lists;
 pub mod lookup_member;
 mod member;
 mod moves;
-mod named;
+pub mod named;
 mod parts;
 pub mod renumber;
 mod room;

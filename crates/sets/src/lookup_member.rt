@@ -2,7 +2,7 @@
 ghost use Rattle.std.specs.Prelude.{◌≡◌, List, ℕ};
 ghost use Rattle.sets.specs.CellSet.{cell_set};
 ghost use Rattle.sets.specs.Lent.{Lies};
-ghost use Rattle.sets.specs.MemberLookup.{area_id_member, node_member, junction_of_member};
+ghost use Rattle.sets.specs.MemberLookup.{area_id_member, node_member, junction_of_member, start_in_member};
 
 use crate::entry::MemberWords;
 use crate::member::{held, open_member};
@@ -74,4 +74,45 @@ pub fn junction_of_member(
         area_id,
         node_id,
     )
+}
+
+// `node_member`, where the links are lent too.
+fn node_in(
+    members: &[MemberWords],
+    nodes: &[NodeWords],
+    links: &[LinkWords],
+    member: usize,
+    node_id: u16,
+) -> Result<Option<usize>, Refusal>
+    ensures { (junctions refs : List (List ℕ)) (heights : List ℕ)
+        → Lies 17 members.now junctions → Lies 18 members.now heights
+        → Lies 19 members.now refs
+        → result ≡ node_member (cell_set members.now nodes.now links.now junctions heights refs)
+        member node_id }
+{
+    let mut lens = held(members);
+    lens.nodes = nodes.len();
+    lens.links = links.len();
+    let p = open_member(members, lens, member)?;
+    node(p.ynd, &nodes[p.a.nodes..p.e.nodes], node_id)
+}
+
+// Where a walk starts in the member that names its start by a number: 13 if no node has it.
+pub fn start_in_member(
+    members: &[MemberWords],
+    nodes: &[NodeWords],
+    links: &[LinkWords],
+    member: usize,
+    node_id: u16,
+) -> Result<usize, Refusal>
+    ensures { (junctions refs : List (List ℕ)) (heights : List ℕ)
+        → Lies 17 members.now junctions → Lies 18 members.now heights
+        → Lies 19 members.now refs
+        → result ≡ start_in_member (cell_set members.now nodes.now links.now junctions heights refs)
+        member node_id }
+{
+    match node_in(members, nodes, links, member, node_id)? {
+        Some(place) => Ok(place),
+        None => Err(Refusal::NoSuchPlace),
+    }
 }

@@ -1,8 +1,11 @@
 // Which member has an area, the first joined of several. Nothing is asked of the set: parts are cut where the list
 // ends.
-ghost use Rattle.std.specs.Prelude.{◌≡◌, ◌≤◌, length, take, drop};
+ghost use Rattle.std.specs.Prelude.{◌≡◌, ◌≤◌, List, ℕ, length, take, drop};
 ghost use Rattle.cells.specs.Lookup.{first_with};
+ghost use Rattle.cells.specs.LookupCall.{place_of};
 ghost use Rattle.cells.specs.NodeWords.{first_area};
+ghost use Rattle.sets.specs.CellSet.{cell_set};
+ghost use Rattle.sets.specs.Leave.{first_of_area};
 ghost use Rattle.sets.specs.SetParts.{named_of, part_end, areas_of};
 
 use crate::entry::{MemberWords, word_at};
@@ -46,4 +49,12 @@ pub(crate) fn member_with(members: &[MemberWords], nodes: &[NodeWords], area: u1
         start = part_end(start, room, nodes.len());
     }
     None
+}
+
+// The place of the member with this area among the members, whatever the lists that are not lent.
+pub fn member_of_area(members: &[MemberWords], nodes: &[NodeWords], area: u16) -> Option<usize>
+    ensures { (links junctions refs : List (List ℕ)) (heights : List ℕ) → result
+        ≡ place_of (first_of_area (cell_set members.now nodes.now links junctions heights refs) area) }
+{
+    member_with(members, nodes, area)
 }

@@ -1,6 +1,7 @@
 // The cell of a small file: a walk in it, and whether it is sound.
 use crate::parts::{after, agrees, answer_at, first, length_at, upto, upto_mut};
 use crate::room::{Cell, SmallRoom};
+use crate::round_files::version_of;
 use numbers::refusal::Refusal;
 use records::bytes::{byte_at, u16_at};
 use walks::walk::{End, Walked};
@@ -68,6 +69,16 @@ pub fn walk(b: &[u8]) -> bool {
 pub fn follow(b: &[u8]) -> bool {
     gone(b, |cell, start, choices, visited| {
         rounds::follow::follow_round(cell.ynd, cell.nodes, cell.links, start, choices, visited)
+    })
+}
+
+// The same of a round of either version. 0 the version, 2 its area; then as for a walk.
+pub fn follow_version(b: &[u8]) -> bool {
+    let version = version_of(u16_at(b, 0), u16_at(b, 2));
+    gone(after(b, 4), |cell, start, choices, visited| {
+        rounds::follow::follow_version(
+            cell.ynd, cell.nodes, cell.links, version, start, choices, visited,
+        )
     })
 }
 

@@ -3,6 +3,7 @@
 #![tactic(auto)]
 
 mod cell;
+mod crossing;
 mod edits;
 mod files;
 mod grid;

@@ -71,6 +71,9 @@ fn agrees(kind: u8, body: &[u8]) -> bool {
         19 => crate::cell::follow(body),
         20 => crate::round_files::long(body),
         21 => crate::shortest::path(body),
+        22 => crate::crossing::crossings(body),
+        23 => crate::round_files::version_file(body),
+        24 => crate::cell::follow_version(body),
         _ => false,
     }
 }

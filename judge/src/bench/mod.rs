@@ -4,6 +4,7 @@ mod numbers;
 mod paths;
 mod reach;
 mod rounds;
+mod sets;
 
 use std::hint::black_box;
 use std::time::{Duration, Instant};
@@ -51,12 +52,12 @@ pub fn bench(only: Option<String>) {
     println!("| Call | Nodes | Rust, ns | Port, ns | Ratio | Goal |");
     println!("|---|---|---|---|---|---|");
     let rows = numbers::rows(&wanted).into_iter().chain(cells::rows(&wanted)).chain(reach::rows(&wanted))
-        .chain(rounds::rows(&wanted)).chain(paths::rows(&wanted));
+        .chain(rounds::rows(&wanted)).chain(paths::rows(&wanted)).chain(sets::rows(&wanted));
     for row in rows { println!("{}", row.line()); }
     println!();
     print!("Nanoseconds a node, or a call for steps, grid and lengths; the fastest of {TURNS} turns, ");
     println!("each side in turn. Inputs are made once.\n{NOTES}");
-    println!("{}\n{}\n{}", reach::NOTE, rounds::NOTE, paths::NOTE);
+    println!("{}\n{}\n{}\n{}", reach::NOTE, rounds::NOTE, paths::NOTE, sets::NOTE);
 }
 
 const TURNS: usize = 41;

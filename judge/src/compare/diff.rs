@@ -3,7 +3,7 @@ use super::numbers::{area, cell_for_position, file_name, grid_cell, lane_offset,
 use super::numbers::{next_to_square, position, steps_of};
 use super::run::Run;
 use super::{access, agree, cells, far, files, large, page, paths, posts, programs, reach, records, rounds};
-use super::{scripts, sets, soak, stores, versions};
+use super::{drawn, scripts, sets, soak, stores, versions};
 use super::{Mismatch, MODEL};
 use crate::inputs::{self, floats, limits, memories, names, rng::Rng, shrink, squares};
 use crate::model::length;
@@ -59,7 +59,10 @@ pub fn soak(seed: u64, count: u64) {
 }
 
 fn lists(run: &Run, count: u64) {
-    run.counted("lists of calls on sound cells", count, inputs::files::sound, soak::check, shrink::smaller_file)
+    run.counted("lists of calls on sound cells", count, inputs::files::sound, soak::check, shrink::smaller_file);
+    sets::lists(run, count);
+    run.counted("lists of calls on drawn cells", count / 2, inputs::drawn::drawing, drawn::check,
+        inputs::drawn::smaller);
 }
 
 fn numbers(run: &Run, seconds: f64, pairs: u64) {

@@ -154,12 +154,29 @@ pub const FAMILIES: &[Family] = &[
         (Yes(Follow), 50_000), (No(Follow, 19), 30_000), (At(Follow, 13, 0), 10_000), (At(Follow, 7, 0), 300),
         (At(Follow, 7, 1), 200), (At(Follow, 7, 8), 10_000), (At(Follow, 14, 0), 300), (Edge(Empty), 500),
     ]),
-    cells("sets of cells", "up to nine small cells that name one another: joining, crossing walks, renumbering, leaving", &[
-        (Yes(Set), 50_000), (No(Set, 13), 5_000), (At(Set, 14, 0), 200), (No(Set, 18), 2_000), (At(Set, 7, 0), 200),
-        (At(Set, 7, 1), 200), (At(Set, 7, 6), 200), (At(Set, 7, 7), 200), (At(Set, 7, 8), 2_000), (At(Set, 7, 10), 100),
+    cells("sets of cells", "up to nine small cells that name one another: every call on the set and on a member, rounds", &[
+        (Yes(Set), 50_000), (No(Set, 13), 5_000), (At(Set, 14, 0), 200), (No(Set, 15), 20_000), (No(Set, 18), 2_000),
+        (No(Set, 19), 5_000), (At(Set, 7, 0), 200), (At(Set, 7, 1), 200), (At(Set, 7, 6), 200), (At(Set, 7, 7), 200),
+        (At(Set, 7, 8), 2_000), (At(Set, 7, 10), 100),
         (Edge(Sound), 2_000), (Edge(Unsound), 2_000), (Edge(Done), 5_000), (Edge(NoLink), 5_000), (Edge(Left), 2_000),
         (Edge(NoNode), 500), (Edge(Followed), 5_000), (Edge(Moved), 5_000), (Edge(Backwards), 2_000),
-        (Edge(Watched), 5_000),
+        (Edge(Watched), 5_000), (Yes(Edit), 20_000), (No(Edit, 12), 1_000), (No(Edit, 13), 20_000),
+        (No(Edit, 14), 5_000), (At(Edit, 7, 0), 5_000), (At(Edit, 7, 1), 2_000), (At(Edit, 7, 2), 2_000), (At(Edit, 7, 3), 2_000),
+        (At(Edit, 7, 4), 2_000), (Yes(Write), 10_000), (No(Write, 8), 30), (No(Write, 13), 5_000),
+        (No(Write, 14), 1_000),
+        (At(Write, 7, 5), 2_000), (Yes(WriteRead), 1_500), (No(WriteRead, 8), 3), (No(WriteRead, 14), 200),
+        (At(WriteRead, 7, 5), 300), (Yes(Lookup), 10_000), (At(Lookup, 7, 0), 500), (Yes(Entry), 10_000),
+        (No(Entry, 13), 20_000), (Yes(Shown), 10_000), (No(Shown, 13), 20_000),
+    ]),
+    cells("full sets", "65,536 nodes together and just under: what joins, nodes more with room and without", &[
+        (Yes(Set), 15), (At(Set, 14, 0), 7), (Yes(Edit), 10), (At(Edit, 14, 0), 30), (At(Edit, 7, 0), 3),
+        (Edge(MostNodes), 6),
+    ]),
+    cells("lists of calls on sound sets", "T-09 as it is stated", &[
+        (Edge(Sound), 15_000), (Edge(Moved), 3_000), (Edge(Done), 10_000), (Edge(NoLink), 10_000), (Edge(Left), 100),
+        (Edge(Followed), 10_000), (Yes(Renumber), 5_000), (No(Renumber, 13), 500), (At(Renumber, 7, 6), 1_000),
+        (At(Renumber, 7, 7), 1_000), (Yes(WriteRead), 5_000), (No(WriteRead, 13), 500), (At(WriteRead, 7, 5), 1_000),
+        (Yes(Set), 50_000), (At(Set, 7, 8), 10_000),
     ]),
     cells("bytes that don't count", "files, half of them damaged, with other bytes where none count: T-14's agreement", &[
         (Yes(Read), 20_000), (No(Read, 1), 100), (No(Read, 3), 2_000), (No(Read, 4), 500), (No(Read, 5), 200),
@@ -186,6 +203,11 @@ pub const FAMILIES: &[Family] = &[
         (Edge(Left), 10_000), (Edge(Followed), 100_000), (At(Renumber, 7, 6), 3_000), (At(Renumber, 7, 7), 1_000),
         (At(WriteRead, 7, 5), 3_000), (At(Walk, 7, 8), 10_000), (Edge(Island), 7_000), (Edge(Claimed), 3_000),
     ]),
+    cells("lists of calls on drawn cells", "calls of every kind, each to mean its sentence; then demand 3", &[
+        (Yes(Edit), 50_000), (No(Edit, 13), 1_000), (No(Edit, 12), 100), (Edge(Sound), 3_000), (Edge(Undrawn), 1_000),
+        (Edge(Moved), 300), (Edge(Followed), 10_000), (Yes(WriteRead), 1_000), (No(WriteRead, 8), 10),
+        (Yes(Walk), 10_000),
+    ]),
     cells("scripts", "random edits and calls, then written by all sides", &[
         (Yes(Edit), 50_000), (No(Edit, 13), 1_000), (No(Edit, 12), 500), (At(Edit, 7, 0), 200), (At(Edit, 7, 1), 200),
         (At(Edit, 7, 2), 100), (At(Edit, 7, 3), 100), (At(Edit, 7, 4), 100), (At(Edit, 7, 5), 500),
@@ -202,6 +224,11 @@ pub const FAMILIES: &[Family] = &[
     programs("vectors", "the vectors file", &[]),
     programs("printround, frames", "each edge of the frame, and the repository's example", &[
         (Edge(Damaged), 10), (No(Program, 15), 4), (Edge(Done), 1),
+    ]),
+    programs("printround, limits", "the sizes lent and one entry more, the longest text, refusals that are rare", &[
+        (Yes(Program), 3), (No(Program, 4), 1), (No(Program, 5), 1), (At(Program, 6, 1), 1), (At(Program, 7, 0), 1),
+        (At(Program, 7, 1), 1), (At(Program, 7, 2), 2), (At(Program, 7, 3), 1), (At(Program, 7, 4), 1),
+        (At(Program, 7, 8), 2), (Edge(Done), 3),
     ]),
     programs("printround", "sections with round files of both versions, whole and damaged", &[
         (Yes(Program), 500), (No(Program, 3), 20), (No(Program, 13), 50), (No(Program, 15), 20), (No(Program, 16), 50),

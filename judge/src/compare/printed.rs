@@ -7,10 +7,12 @@ use super::{same, Verdict, MODEL, PORT, RUST};
 use crate::inputs::files::{sound, valid};
 use crate::inputs::rng::Rng;
 use crate::model::agree::counting;
-use crate::model::cell::ISLAND;
+use crate::model::cell::{Junction, Link, Node, ISLAND};
 use crate::model::printed::{printed, HEAD_TWO, MOST_INPUT};
 use crate::model::read::read;
+use crate::model::records::{put_junction, put_link, put_node, ADDRESS_AT, COUNT_AT, COUNT_WIDTH, ROOT, WIDTHS};
 use crate::model::rounds::HEAD;
+use crate::model::sections::{put_le, SYSTEM};
 use std::fs;
 
 /// Random inputs in a short run and in a full one.
@@ -20,6 +22,7 @@ const MOST_SECTION: usize = 60_000;
 
 pub fn printround(run: &Run) {
     run.list("printround, frames", &frames(), print);
+    run.list("printround, limits", &limits(), print);
     run.counted("printround", INPUTS[run.full as usize], input, print, smaller);
 }
 
@@ -35,6 +38,81 @@ fn frames() -> Vec<(String, Vec<u8>)> {
     out.push(("a section of 4,294,967,295".into(), stated(u32::MAX, 20)));
     out.push(("the example".into(), fs::read("crates/printround/stdin").unwrap_or_default()));
     out
+}
+
+/// A round file of version 1 behind a section, in its frame.
+fn with_round(section: &[u8], start: u16, choices: &[u8]) -> Vec<u8> {
+    let numbers = [start, choices.len() as u16].map(u16::to_le_bytes).concat();
+    [&(section.len() as u32).to_le_bytes()[..], section, &HEAD, &numbers, choices].concat()
+}
+
+/// The arrays of nodes, links, junctions, values and refs, one behind the other after the root.
+fn laid(arrays: [Vec<u8>; 5]) -> Vec<u8> {
+    let mut system = vec![0; ROOT];
+    for (i, array) in arrays.iter().enumerate() {
+        let (at, n) = (SYSTEM + system.len() as u64, array.len() as u64 / WIDTHS[i]);
+        put_le(&mut system, ADDRESS_AT[i], 8, at);
+        put_le(&mut system, COUNT_AT[i], COUNT_WIDTH[i], n);
+        system.extend(array);
+    }
+    system
+}
+
+/// So many nodes, each of which has these links.
+fn nodes(n: usize, links: usize) -> Vec<u8> {
+    let mut out = vec![0; 40 * n];
+    let node = Node { links: vec![Link::default(); links], ..Node::default() };
+    for b in out.chunks_mut(40) { put_node(b, &node, 0); }
+    out
+}
+
+/// So many junctions, each of which has the first values of the heightmap.
+fn junctions(n: usize, width: u8, height: u8) -> Vec<u8> {
+    let mut out = vec![0; 12 * n];
+    let junction = Junction { width, height, ..Junction::default() };
+    for b in out.chunks_mut(12) { put_junction(b, &junction, 0); }
+    out
+}
+
+/// Two nodes of an island that lead to each other, with numbers and steps of five digits, the steps below zero.
+fn there_and_back() -> Vec<u8> {
+    let numbers: [u16; 2] = [65_535, 60_000];
+    let (mut nodes, mut links) = (vec![0; 80], vec![0; 16]);
+    for (i, number) in numbers.into_iter().enumerate() {
+        let link = Link { area_id: 65_535, node_id: numbers[1 - i], ..Link::default() };
+        let position = [-8_192.0f32, -8_191.75, -1_024.0].map(f32::to_bits);
+        let node = Node { area_id: 65_535, node_id: number, position, links: vec![link], ..Node::default() };
+        put_node(&mut nodes[40 * i..][..40], &node, i);
+        put_link(&mut links[8 * i..][..8], &link);
+    }
+    laid([nodes, links, vec![], vec![], vec![]])
+}
+
+/// The sizes that are lent, and one entry more; the longest text; the refusals that random sections seldom meet. An
+/// input is too short for 8,193 links or 65,537 values of a heightmap, but not for that many in ranges that overlap.
+fn limits() -> Vec<(String, Vec<u8>)> {
+    let no = Vec::new;
+    let mut out = Vec::new();
+    for n in [1_024, 1_025] { out.push((format!("{n} nodes"), laid([nodes(n, 0), no(), no(), no(), no()]))); }
+    for (n, each) in [(264, 31), (8_192 / 8, 8), (265, 31)] {
+        out.push((format!("{n} nodes of {each} links"), laid([nodes(n, each), vec![0; 8 * each], no(), no(), no()])));
+    }
+    for n in [256, 257, 4_096, 4_097] {
+        out.push((format!("{n} junctions"), laid([no(), no(), junctions(n, 0, 0), no(), no()])));
+    }
+    for n in [16, 17] {
+        let arrays = [no(), no(), junctions(n, 64, 64), vec![7; 4_096], no()];
+        out.push((format!("{n} junctions of 64 by 64"), laid(arrays)));
+    }
+    for n in [1_024, 1_025] { out.push((format!("{n} refs"), laid([no(), no(), no(), no(), vec![0; 8 * n]]))); }
+    out.push(("links that are not there".into(), laid([nodes(2, 1), no(), no(), no(), no()])));
+    out.push(("values that are not there".into(), laid([no(), no(), junctions(2, 1, 1), no(), no()])));
+    let mut all: Vec<_> = out.into_iter().map(|(what, section)| (what, with_round(&section, 0, &[0]))).collect();
+    let back = there_and_back();
+    for n in [0, 16_382, 16_383, 16_384, 65_536 - 13 - back.len()] {
+        all.push((format!("there and back, {n} links"), with_round(&back, 65_535, &vec![0; n])));
+    }
+    all
 }
 
 /// A section and a round file, both mostly good, and the frame too.

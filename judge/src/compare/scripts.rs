@@ -56,7 +56,7 @@ fn written(memory: &Memory, cell: &Cell, ynd: &Ynd, r: &mut Rng) -> Verdict {
 
 /// The call on the port's memory. Renumbering, writing and walks are first compared by themselves, with all that is
 /// lent to them.
-fn on_port(m: &mut Memory, op: &Op, r: &mut Rng) -> Result<Answer<()>, Mismatch> {
+pub fn on_port(m: &mut Memory, op: &Op, r: &mut Rng) -> Result<Answer<()>, Mismatch> {
     Ok(match op {
         Op::AddNode { area_id, position } => m.add_node(*area_id, *position),
         Op::SetPosition { place, position } => m.set_position(*place, *position),

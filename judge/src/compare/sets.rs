@@ -1,13 +1,16 @@
 //! Sets of cells, against T-09's sentences: cells join, walks cross, members are renumbered, cells leave.
+use super::{full_sets, members, set_lists};
 use super::run::Run;
 use super::seen::{self, met, met_if, Call, Met};
 use super::{same, Mismatch, Verdict, MODEL, PORT};
 use crate::inputs::rng::Rng;
 use crate::model::cell::{Cell, Junction, Link, Node, Ref};
-use crate::model::sets::{crossing, join, leave, member_for, renumber_member, sound};
+use crate::model::sets::{crossing, follow, join, leave, member_for, renumber_member, sound};
+use crate::model::walk::End;
 use crate::model::{refuse_if, Answer, Refused};
 use crate::port::memory::Memory;
 use crate::port::sets::Set;
+use crate::port::walks::Walked;
 
 /// Sets of a short run and of a full one.
 const SETS: [u64; 2] = [20_000, 400_000];
@@ -18,10 +21,16 @@ const AREAS: [u16; 12] = [5, 1_029, 6, 7, 489, 1_513, 100, 0, 2_053, 31, 32, 9];
 
 pub fn families(run: &Run) {
     run.counted("sets of cells", SETS[run.full as usize], |r| r.next(), whole, |_| Vec::new());
+    run.list("full sets", &full_sets::cases(), full_sets::check);
+}
+
+/// Lists of calls on sound sets alone, so many.
+pub fn lists(run: &Run, count: u64) {
+    run.counted("lists of calls on sound sets", count, |r| r.next(), set_lists::check, |_| Vec::new());
 }
 
 /// A small cell, most of whose links lead to nodes of its own or of the cells before it.
-fn cell(r: &mut Rng, area: u16, set: &[Cell]) -> Cell {
+pub fn cell(r: &mut Rng, area: u16, set: &[Cell]) -> Cell {
     let n = if r.once_in(8) { 0 } else { 1 + r.below(4) };
     let mut nodes: Vec<Node> = (0..n).map(|i| Node {
         area_id: area, node_id: if r.once_in(3) { i as u16 } else { 10 + 3 * i as u16 }, street_name: r.u32(),
@@ -55,7 +64,7 @@ fn cell(r: &mut Rng, area: u16, set: &[Cell]) -> Cell {
 fn whole(seed: &u64) -> Verdict {
     let r = &mut Rng::new(*seed);
     let mut set: Vec<Cell> = Vec::new();
-    let lent = if r.once_in(6) { [6, 8, 4, 9, 2] } else { [60, 200, 40, 90, 40] };
+    let lent = if r.once_in(6) { [6, 8, 4, 9, 2] } else { [60, 1_500, 40, 90, 40] };
     let places = if r.once_in(6) { 3 } else { 10 };
     let mut port = Set::rubbish(r, places, lent);
     let most = if r.once_in(5) { 11 } else { 1 + r.below(5) };
@@ -67,7 +76,10 @@ fn whole(seed: &u64) -> Verdict {
     for _ in 0..3 {
         soundness(r, &set, &port)?;
         walks(r, &set, &port)?;
+        rounds(r, &set, &port)?;
         renumbers(r, &mut set, &mut port)?;
+        members::looks(r, &port)?;
+        for _ in 0..4 { members::edits(r, &mut set, &mut port)?; }
     }
     leaves(r, &mut set, &mut port)?;
     walks(r, &set, &port)
@@ -80,6 +92,7 @@ fn joins(r: &mut Rng, set: &mut Vec<Cell>, port: &mut Set, c: &Cell) -> Verdict 
     let m = Memory::of(r, c, c.counts());
     let mut sizes = c.counts().map(|n| n + r.below(3));
     if r.once_in(12) { sizes[0] = sizes[0].saturating_sub(2); }
+    if r.once_in(3) { sizes[1] += 300; }
     let (used, lent, counts) = (port.used(), port.lent(), c.counts());
     let mut want = join(set, c);
     if want.is_ok() {
@@ -98,13 +111,16 @@ fn joins(r: &mut Rng, set: &mut Vec<Cell>, port: &mut Set, c: &Cell) -> Verdict 
 fn soundness(r: &mut Rng, set: &[Cell], port: &Set) -> Verdict {
     let short = r.once_in(8);
     let mut scratch = vec![KEPT; if short { SCRATCH - 1 } else { SCRATCH }];
+    let before = port.clone();
     let have = port.sound(&mut scratch);
+    same("a set that is judged", MODEL, &before, PORT, port)?;
     let want = if short { Err(Refused(7, 6)) } else { Ok(sound(set)) };
     if let Ok(yes) = &want { met(if *yes { Met::Sound } else { Met::Unsound }); }
     same("soundness of the set", MODEL, &want, PORT, &have)
 }
 
 fn walks(r: &mut Rng, set: &[Cell], port: &Set) -> Verdict {
+    let before = port.clone();
     for _ in 0..4 {
         let i = r.below(set.len() + 1);
         let start = (i, r.below(set.get(i).map_or(0, |c| c.nodes.len()) + 1));
@@ -112,25 +128,56 @@ fn walks(r: &mut Rng, set: &[Cell], port: &Set) -> Verdict {
         let room = if r.once_in(4) { r.below(choices.len() + 1) } else { choices.len() + 1 };
         walk(set, port, start, &choices, room)?;
     }
-    Ok(())
+    same("a set that is walked", MODEL, &before, PORT, port)
 }
 
 fn walk(set: &[Cell], port: &Set, start: (usize, usize), choices: &[u8], room: usize) -> Verdict {
-    let whole = crossing(set, start, choices);
+    let walked = |visited: &mut [[u32; 2]]| port.crossing(start, choices, visited);
+    crossed("a crossing walk", crossing(set, start, choices), room, walked)
+}
+
+/// A walk's answer and the list that it fills, with room for so many.
+fn crossed(
+    what: &'static str, whole: Answer<(End, Vec<(usize, usize)>)>, room: usize,
+    walked: impl FnOnce(&mut [[u32; 2]]) -> Walked,
+) -> Verdict {
     let want = whole.and_then(|(end, at)| refuse_if(at.len() > room, 7, 8).map(|()| (end, at)));
     let mut visited = vec![[KEPT; 2]; room];
-    let (have, kept) = port.crossing(start, choices, &mut visited);
+    let (have, kept) = walked(&mut visited);
     seen::note(Call::Set, &have);
     if let Ok((end, at)) = &want {
         seen::note_end(end);
-        met_if(at.iter().any(|(i, _)| *i != start.0), Met::Followed);
+        met_if(at.iter().any(|(i, _)| *i != at[0].0), Met::Followed);
     }
     let mut list: Vec<[u32; 2]> =
         want.as_ref().map_or(Vec::new(), |(_, at)| at.iter().map(|&(i, p)| [i as u32, p as u32]).collect());
     list.resize(room, [KEPT; 2]);
-    same("a crossing walk", MODEL, &want.map(|(end, at)| (end, at.len())), PORT, &have)?;
+    same(what, MODEL, &want.map(|(end, at)| (end, at.len())), PORT, &have)?;
     same("its locations", MODEL, &list, PORT, &visited)?;
     same("what it leaves", MODEL, &true, PORT, &kept)
+}
+
+/// Rounds of both versions, of a member's area, of one with the island's bit turned, and of none.
+fn rounds(r: &mut Rng, set: &[Cell], port: &Set) -> Verdict {
+    for _ in 0..4 {
+        let i = r.below(set.len() + 1);
+        let own = set.get(r.below(set.len() + 1)).map_or(701, |c| c.area());
+        let area = if r.once_in(3) { None } else { Some(if r.once_in(4) { own ^ 1_024 } else { own }) };
+        let first = area.map_or(Some(i), |a| set.iter().position(|c| c.area() == a));
+        let found = port.member_of_area(area.unwrap_or(own));
+        let member = set.iter().position(|c| c.area() == area.unwrap_or(own));
+        same("the member of an area", MODEL, &(member, true), PORT, &found)?;
+        let nodes = first.and_then(|k| set.get(k)).map_or(&[][..], |c| &c.nodes[..]);
+        let start = if nodes.is_empty() || r.once_in(6) { r.below(30) as u16 } else { r.pick(nodes).node_id };
+        let choices: Vec<u8> = (0..r.below(9)).map(|_| r.below(2) as u8).collect();
+        let room = if r.once_in(4) { r.below(choices.len() + 1) } else { choices.len() + 1 };
+        let named = area.map_or((1, 7), |a| (2, a));
+        let walked = |visited: &mut [[u32; 2]]| port.follow(named, i, start, &choices, visited);
+        crossed("a round in a set", follow(set, area, i, start, &choices), room, walked)?;
+    }
+    let version = r.pick(&[0, 3, 256, 65_535]);
+    let walked = |visited: &mut [[u32; 2]]| port.follow((version, 5), 0, 0, &[], visited);
+    crossed("a round of no version", Err(Refused(15, 0)), 1, walked)
 }
 
 /// Renumbers a member; in a sound set every crossing walk from the same node then goes the same way.
@@ -191,6 +238,7 @@ fn refused(e: Refused) -> Mismatch {
 
 fn leaves(r: &mut Rng, set: &mut Vec<Cell>, port: &mut Set) -> Verdict {
     let area = if set.is_empty() || r.once_in(4) { r.pick(&AREAS) } else { set[r.below(set.len())].area() };
+    members::hands_back(r, set, port, area)?;
     let before = port.clone();
     let want: Answer<()> = leave(set, area);
     let have = port.leave(area);

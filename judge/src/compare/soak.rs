@@ -3,21 +3,26 @@
 use super::scratch::with_scratch;
 use super::seen::{self, Call, Met};
 use super::cells::claims;
+use super::drawn::settled;
 use super::{memory, same, Verdict, MODEL, PORT};
 use crate::inputs::files::File;
 use crate::inputs::rng::Rng;
 use crate::model::cell::{Cell, Junction};
 use crate::model::walk::{is_sound, walk, Seen, Walk};
-use crate::model::{read, room, write, Answer};
+use crate::model::{read, renumber, room, write, Answer};
 use crate::port::memory::Memory;
 
 /// The cell as first read, the memory as the calls left it, and where each node first read now stands.
 struct List<'a> {
     first: &'a Cell,
+    /// The cell as document 01 has it after the calls.
+    now: Cell,
     memory: Memory,
     /// By place: which node stands there, named by its first place.
     order: Vec<usize>,
     renumbered: bool,
+    /// A write-then-read was accepted.
+    settled: bool,
 }
 
 pub fn check(f: &File) -> Verdict {
@@ -30,9 +35,14 @@ pub fn check(f: &File) -> Verdict {
     let lent = first.counts().map(|n| n + r.below(4));
     let mut memory = Memory::rubbish(r, lent);
     same("reading's answer", PORT, &memory.read(&f.system, &f.graphics), MODEL, &Ok(()))?;
+    listed(&first, memory, r)
+}
+
+/// A list of calls on a sound cell in its memory, drawn or as read, and the walks before and after.
+pub fn listed(first: &Cell, memory: Memory, r: &mut Rng) -> Verdict {
     let at_first = memory.clone();
     let order = (0..first.nodes.len()).collect();
-    let mut list = List { first: &first, memory, order, renumbered: false };
+    let mut list = List { first, now: first.clone(), memory, order, renumbered: false, settled: false };
     for _ in 0..r.below(8) { if r.once_in(2) { list.renumber(r)? } else { list.write_then_read(r)? } }
     if list.order.iter().enumerate().any(|(now, &p)| now != p) { seen::met(Met::Moved); }
     list.numbers()?;
@@ -64,23 +74,27 @@ impl List<'_> {
         same("new places", PORT, &after, MODEL, &expected)?;
         self.order = by_new.iter().map(|&old| self.order[old]).collect();
         self.renumbered = true;
+        renumber::renumber(&mut self.now, 65_536, n).expect("room for it");
         Ok(())
     }
 
     fn write_then_read(&mut self, r: &mut Rng) -> Verdict {
-        let full = write::layout(self.first.counts()).1;
+        let written = write::written(&self.now).map(|bytes| bytes.len());
+        let full = written.unwrap_or(1_200);
         let any = r.below(full + 60);
         let length = r.pick(&[full, full, full, full + 1, full + 40, full - 1, 1_151, 0, any]);
         let section = r.bytes(length);
         let (before, mut after) = (self.memory.clone(), section.clone());
         let answer = self.memory.write_then_read(&mut after);
-        let model = room(5, &[full], &[length]).map(|_| full);
+        let model = written.and_then(|full| room(5, &[full], &[length]).map(|_| full));
         seen::note(Call::WriteRead, &model);
         same("write-then-read's answer", PORT, &answer, MODEL, &model)?;
         let kept = if model.is_ok() { full } else { 0 };
         same("the section's later bytes", PORT, &&after[kept..], MODEL, &&section[kept..])?;
-        if model.is_err() { memory::unchanged("refused write-then-read", &before, &self.memory)?; }
-        Ok(())
+        if model.is_err() { return memory::unchanged("refused write-then-read", &before, &self.memory); }
+        self.settled = true;
+        self.now = settled(&self.now);
+        same("the cell after write-then-read", PORT, &self.memory.cell(), MODEL, &self.now)
     }
 
     /// The cell is still sound, and after a renumbering each number is its place.
@@ -97,6 +111,7 @@ impl List<'_> {
         let n = self.order.len();
         let mut moved = vec![0; n];
         for (now, &p) in self.order.iter().enumerate() { moved[p] = now; }
+        let after = if self.settled { settled(self.first) } else { self.first.clone() };
         for k in 0..2 * n.min(9) {
             let start = if n <= 9 { k / 2 } else { r.below(n) };
             let choices = choices(self.first, start, r);
@@ -109,7 +124,8 @@ impl List<'_> {
             let then = room(8, &[count], &[visited]).map(|_| shown);
             seen::note(Call::Walk, &then);
             same("a walk at first", PORT, &walked(at_first, start, &choices, visited)?, MODEL, &then)?;
-            let now = then.map(|w| Walk { places: w.places.iter().map(|&p| moved[p]).collect(), ..w });
+            let now = then.map(|_| walk(&after, start, &choices).expect("a node"))
+                .map(|w| Walk { places: w.places.iter().map(|&p| moved[p]).collect(), ..w });
             same("a walk after calls", PORT, &walked(&self.memory, moved[start], &choices, visited)?, MODEL, &now)?;
         }
         same("a walk from no place", PORT, &walked(&self.memory, n + r.below(3), &[0], r.below(3))?, MODEL,

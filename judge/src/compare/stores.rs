@@ -6,7 +6,7 @@ use super::seen::{self, Call};
 use super::{same, Verdict, MODEL, PORT, RUST};
 use crate::inputs::rng::Rng;
 use crate::inputs::stores::{Store, Stores};
-use crate::model::cell::Link;
+use crate::model::cell::{Cell, Link};
 use crate::model::{read, refuse_if, room, Answer, MOST_LINKS, MOST_NODES};
 use crate::port::memory::Memory;
 use crate::port::words::{link_range, link_words, value_range};
@@ -42,7 +42,7 @@ fn one(memory: &mut Memory, store: &Store) -> Result<Answer<()>, super::Mismatch
     Ok(port)
 }
 
-fn on_port(m: &mut Memory, store: &Store) -> Answer<()> {
+pub fn on_port(m: &mut Memory, store: &Store) -> Answer<()> {
     match store {
         Store::Vft(v) => m.set_vft(*v),
         Store::KindCount { peds, count } => m.set_kind_count(*peds, *count),
@@ -114,6 +114,25 @@ fn mapped(mut m: Memory, place: usize, size: [u8; 2], values: &[u8]) -> Answer<M
     m.junctions[place][5] = at as u32;
     for (to, v) in m.heights[at..].iter_mut().zip(values) { *to = *v; }
     Ok(m)
+}
+
+/// What an accepted store means for the cell; of the calls that other families have, nothing.
+pub fn on_cell(cell: &mut Cell, store: &Store) {
+    match store.clone() {
+        Store::Vft(v) => cell.vft = v,
+        Store::KindCount { peds: false, count } => cell.vehicle_node_count = count,
+        Store::KindCount { peds: true, count } => cell.ped_node_count = count,
+        Store::Unknowns(u) => cell.unknowns = u,
+        Store::Truncate { list: 0, count } => cell.nodes.truncate(count),
+        Store::Truncate { list: 2, count } => cell.junctions.truncate(count),
+        Store::Truncate { count, .. } => cell.refs.truncate(count),
+        Store::Links { place, links } => cell.nodes[place].links = links,
+        Store::Heightmap { place, size: [width, height], values } => {
+            let j = &mut cell.junctions[place];
+            (j.width, j.height, j.values) = (width, height, values);
+        }
+        Store::AddNode(_) | Store::AddLink { .. } | Store::AddJunction(_) | Store::Renumber | Store::WriteRead => {}
+    }
 }
 
 fn on_rust(ynd: &mut Ynd, store: &Store) {

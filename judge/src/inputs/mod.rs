@@ -1,5 +1,6 @@
 //! Inputs, made from a seed.
 pub mod damage;
+pub mod drawn;
 pub mod far;
 pub mod files;
 pub mod floats;

@@ -48,7 +48,7 @@ pub fn script(r: &mut Rng) -> Script {
     Script { file, lent, ops }
 }
 
-fn op(r: &mut Rng, cell: &Cell, sizes: [usize; 5]) -> Op {
+pub fn op(r: &mut Rng, cell: &Cell, sizes: [usize; 5]) -> Op {
     let place = r.below(sizes[0] + 2);
     match r.below(22) {
         0..=2 => Op::AddNode { area_id: area(r, cell), position: floats::position(r) },

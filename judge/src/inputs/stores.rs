@@ -41,7 +41,7 @@ pub fn stores(r: &mut Rng) -> Stores {
     Stores { file, lent, stores: (0..many).map(|_| store(r, &cell)).collect() }
 }
 
-fn store(r: &mut Rng, cell: &Cell) -> Store {
+pub fn store(r: &mut Rng, cell: &Cell) -> Store {
     let place = r.below(cell.nodes.len() + 2);
     match r.below(16) {
         0..=4 => { let n = count(r); Store::Links { place, links: (0..n).map(|_| link(r, cell)).collect() } }

@@ -2,7 +2,7 @@
 use super::cell::{Cell, Link};
 use super::renumber::renumber;
 use super::walk::{is_sound, End};
-use super::{refuse_if, Answer, MOST_NODES};
+use super::{refuse_if, Answer, Refused, MOST_NODES};
 
 pub const MOST_MEMBERS: usize = 9;
 
@@ -48,6 +48,19 @@ pub fn renumber_member(set: &mut [Cell], j: usize, scratch: usize, places: usize
         }
     }
     Ok(new)
+}
+
+/// T-11 in a set: a round that says its area starts in the member of that area, the first joined (19 if none has it);
+/// one that says none starts in the member named. 13 where that isn't there, or none of its nodes has the number.
+pub fn follow(
+    set: &[Cell], area: Option<u16>, member: usize, start: u16, choices: &[u8],
+) -> Answer<(End, Vec<(usize, usize)>)> {
+    let i = match area {
+        Some(a) => set.iter().position(|c| c.area() == a).ok_or(Refused(19, 0))?,
+        None => member,
+    };
+    let p = set.get(i).and_then(|c| c.node(start)).ok_or(Refused(13, 0))?;
+    crossing(set, (i, p), choices)
 }
 
 /// The end and the locations visited; 13 where the member or the place isn't there.

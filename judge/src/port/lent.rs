@@ -15,8 +15,10 @@ pub trait Entry: Copy + PartialEq + Debug {
 impl Entry for u8 { const GUARD: u8 = 0xC3; }
 impl Entry for u32 { const GUARD: u32 = 0xC3C3_5A5A; }
 impl Entry for [u16; 4] { const GUARD: [u16; 4] = [0xC3C3; 4]; }
+impl Entry for [u32; 2] { const GUARD: [u32; 2] = [0xC3C3_5A5A; 2]; }
 impl Entry for [u32; 6] { const GUARD: [u32; 6] = [0xC3C3_5A5A; 6]; }
 impl Entry for [u32; 13] { const GUARD: [u32; 13] = [0xC3C3_5A5A; 13]; }
+impl Entry for [u32; 20] { const GUARD: [u32; 20] = [0xC3C3_5A5A; 20]; }
 
 /// A list between guards.
 #[derive(Clone)]

@@ -32,7 +32,7 @@ pub fn new() -> Words {
 /// A lookup's answer, and whether what was lent for it stayed where nothing was found.
 pub type Found<T> = (Answer<Option<T>>, bool);
 
-fn found<T: PartialEq>(number: u32, place: usize, found: bool, at: T, kept: T) -> Found<T> {
+pub(super) fn found<T: PartialEq>(number: u32, place: usize, found: bool, at: T, kept: T) -> Found<T> {
     let stayed = at == kept;
     (answer(number, place, found.then_some(at)), (number == 0 && found) || stayed)
 }

@@ -6,6 +6,8 @@ pub mod edits;
 pub mod entries;
 pub mod lent;
 pub mod lookups;
+pub mod member_edits;
+pub mod members;
 pub mod memory;
 pub mod numbers;
 pub mod paths;

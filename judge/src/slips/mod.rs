@@ -13,6 +13,7 @@ pub mod renumbering;
 pub mod rounds;
 pub mod run;
 pub mod sections;
+pub mod sets;
 pub mod table;
 pub mod vectors;
 pub mod walks;

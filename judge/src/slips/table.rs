@@ -21,6 +21,8 @@ pub enum Slip {
     LengthFirst, CountFromLength, HighByteFirst, AnyVersion, SevenFirst, WholeMemory, MostWritten, StartAsPlace,
     FirstWithNumber, ThirteenLast, FewestLinks, LeavingLink, SelfUnreachable, SumWithoutLast,
     LinkFirst, RefusedEdit, PutTakesRange, PutInSteps, SevenBeforeTwelve, Limit254,
+    OthersLeft, HereMember, RoomBehind, TotalForgotten, NextTouched, RefusedMember, CellFirst, HandedBehind,
+    MemberMainland,
     KeptStreet, KeptLinkCount, KeptLength, KeptRef, KeptJunction, KeptValue, KeptPlace, KeptCount, KeptSection,
     VectorHeights, VectorCorner, VectorSize, FileLinks, TooLong, PairsGrid,
 }
@@ -38,6 +40,7 @@ const VECTORS: &str = "vectors";
 const LIMITS: &str = "files around limits";
 const ROUND_FILES: &str = "round files";
 const ROUNDS: &str = "rounds followed";
+const SETS: &str = "sets of cells";
 
 pub const SLIPS: &[(Slip, &str, &str, &str)] = &[
     (FlooredSteps, "floored-steps", "steps", "negative steps are floored, not cut"),
@@ -159,6 +162,15 @@ pub const SLIPS: &[(Slip, &str, &str, &str)] = &[
     (PutInSteps, "put-in-steps", SCRIPTS, "put_node stores a raw position in steps"),
     (SevenBeforeTwelve, "seven-before-twelve", SCRIPTS, "add_junction asks 7 before 12"),
     (Limit254, "limit-254", "scripts around limits", "14 comes at 254 links"),
+    (OthersLeft, "others-left", SETS, "renumbering a member leaves the others' links"),
+    (HereMember, "here-member", SETS, "a crossing walk tells its start's member everywhere"),
+    (RoomBehind, "room-behind", SETS, "a node more goes behind a full part"),
+    (TotalForgotten, "total-forgotten", "full sets", "65,536 nodes together aren't asked for a node more"),
+    (NextTouched, "next-touched", SETS, "an accepted edit changes the next member's words"),
+    (RefusedMember, "refused-member", SETS, "a refused edit has changed the member's words"),
+    (CellFirst, "cell-first", SETS, "a member's place is asked before the set's causes"),
+    (HandedBehind, "handed-behind", SETS, "handing back clears the entry behind the cell"),
+    (MemberMainland, "member-mainland", SETS, "a member's area loses the island's bit"),
     (KeptStreet, "kept-street", LISTS, "an accepted call changes a street"),
     (KeptLinkCount, "kept-link-count", LISTS, "an accepted call changes a link count"),
     (KeptLength, "kept-length", LISTS, "an accepted call changes a link's length"),

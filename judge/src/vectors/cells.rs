@@ -49,6 +49,13 @@ pub fn add(to: &mut Records) {
     }
 }
 
+/// T-10: the same with five different tags a node.
+pub fn tags(to: &mut Records) {
+    let mut cell = three();
+    for n in &mut cell.nodes { n.unused = [1, 2, 3, 4, 5].map(|k| 0x1111 * k + u32::from(n.node_id)); }
+    file(to, &alone(&cell), ALL);
+}
+
 fn zeros(n: usize) -> File { File { system: vec![0; n], graphics: Vec::new(), aux: 0 } }
 
 /// Document 01's numbers 7, 3 (ped), 9, each with a link to 3.

@@ -9,12 +9,13 @@ mod numbers;
 mod paths;
 mod reach;
 mod rounds;
+mod sets;
 mod walks;
 
 use std::fs;
 
-/// What the program takes at most.
-const MOST: usize = 65_536;
+/// What the file may have at most: the program reads any length, and a checkout should stay small.
+const MOST: usize = 81_920;
 
 #[derive(Default)]
 pub struct Records {
@@ -71,7 +72,11 @@ pub fn write(path: &str) {
     rounds::add(&mut records);
     paths::add(&mut records);
     cells::add(&mut records);
+    // behind the random files of kind 9, so that it takes no room from them
+    sets::add(&mut records);
     records.keep(KEPT);
+    rounds::versions(&mut records);
+    cells::tags(&mut records);
     assert!(records.bytes.len() <= MOST, "{} bytes of vectors", records.bytes.len());
     fs::write(path, &records.bytes).expect("the vectors file");
     let said = format!("{} of {} vectors agree\n", records.count, records.count);

@@ -1,0 +1,144 @@
+// Entries of a set's member taken out by place, and its own words (T-09).
+ghost use Rattle.std.specs.Prelude.{◌≡◌, List, ℕ};
+ghost use Rattle.cells.specs.Words.{node_words, link_words, ref_words, junction_words};
+ghost use Rattle.sets.specs.CellSet.{cell_set};
+ghost use Rattle.sets.specs.Lent.{Lies};
+ghost use Rattle.sets.specs.MemberLookup.{ynd_member, get_node_member, get_link_member};
+ghost use Rattle.sets.specs.MemberLookup.{get_ref_member, get_junction_member, get_height_member};
+ghost use Rattle.exports.specs.Cells.{ynd_words};
+ghost use Rattle.exports.specs.Found.{told, told_of, value_told};
+
+use crate::answers::{tell, tell_as};
+use crate::words::ynd_words;
+use cells::junction::JunctionWords;
+use cells::junction_ref::ref_words;
+use cells::link::LinkWords;
+use cells::node::NodeWords;
+
+// The member's own words and counts.
+#[unsafe(no_mangle)]
+pub extern "C" fn ynd_member_get_cell(
+    members: &[[u32; 20]],
+    member: usize,
+    ynd: &mut [u32; 15],
+    place: &mut usize,
+) -> u32
+    ensures { (nodes links junctions refs : List (List ℕ)) (heights : List ℕ)
+        → Lies 15 members.now nodes → Lies 16 members.now links
+        → Lies 17 members.now junctions → Lies 18 members.now heights
+        → Lies 19 members.now refs
+        → told result place.new ynd.new
+        ≡ told_of (ynd_member (cell_set members.now nodes links junctions heights refs) member) ynd_words ynd.old }
+{
+    let r = sets::get_member::ynd_member(members, member);
+    tell_as(r, ynd_words, ynd, place)
+}
+
+// The node at a place of the member.
+#[unsafe(no_mangle)]
+pub extern "C" fn ynd_member_get_node(
+    members: &[[u32; 20]],
+    nodes: &[NodeWords],
+    member: usize,
+    at: usize,
+    node: &mut NodeWords,
+    place: &mut usize,
+) -> u32
+    ensures { (links junctions refs : List (List ℕ)) (heights : List ℕ)
+        → Lies 16 members.now links → Lies 17 members.now junctions
+        → Lies 18 members.now heights → Lies 19 members.now refs
+        → told result place.new node.new
+        ≡ told_of (get_node_member (cell_set members.now nodes.now links junctions heights refs) member at)
+        node_words node.old }
+{
+    let r = sets::get_member::get_node_member(members, nodes, member, at);
+    tell_as(r, NodeWords::from, node, place)
+}
+
+// Link k of the node at a place.
+#[unsafe(no_mangle)]
+pub extern "C" fn ynd_member_get_link(
+    members: &[[u32; 20]],
+    nodes: &[NodeWords],
+    links: &[[u16; 4]],
+    member: usize,
+    at: usize,
+    k: usize,
+    link: &mut [u16; 4],
+    place: &mut usize,
+) -> u32
+    ensures { (junctions refs : List (List ℕ)) (heights : List ℕ)
+        → Lies 17 members.now junctions → Lies 18 members.now heights
+        → Lies 19 members.now refs
+        → told result place.new link.new
+        ≡ told_of (get_link_member (cell_set members.now nodes.now links.now junctions heights refs) member
+        at k) link_words link.old }
+{
+    let r = sets::get_member::get_link_member(members, nodes, links, member, at, k);
+    tell_as(r, LinkWords::from, link, place)
+}
+
+// The ref at a place: area, number, junction, unk0.
+#[unsafe(no_mangle)]
+pub extern "C" fn ynd_member_get_ref(
+    members: &[[u32; 20]],
+    refs: &[[u16; 4]],
+    member: usize,
+    at: usize,
+    taken: &mut [u16; 4],
+    place: &mut usize,
+) -> u32
+    ensures { (nodes links junctions : List (List ℕ)) (heights : List ℕ)
+        → Lies 15 members.now nodes → Lies 16 members.now links
+        → Lies 17 members.now junctions → Lies 18 members.now heights
+        → told result place.new taken.new
+        ≡ told_of (get_ref_member (cell_set members.now nodes links junctions heights refs.now) member at)
+        ref_words taken.old }
+{
+    let r = sets::get_member::get_ref_member(members, refs, member, at);
+    tell_as(r, ref_words, taken, place)
+}
+
+// The junction at a place.
+#[unsafe(no_mangle)]
+pub extern "C" fn ynd_member_get_junction(
+    members: &[[u32; 20]],
+    junctions: &[[u32; 6]],
+    member: usize,
+    at: usize,
+    junction: &mut [u32; 6],
+    place: &mut usize,
+) -> u32
+    ensures { (nodes links refs : List (List ℕ)) (heights : List ℕ)
+        → Lies 15 members.now nodes → Lies 16 members.now links
+        → Lies 18 members.now heights → Lies 19 members.now refs
+        → told result place.new junction.new
+        ≡ told_of (get_junction_member (cell_set members.now nodes links junctions.now heights refs) member at)
+        junction_words junction.old }
+{
+    let r = sets::get_member::get_junction_member(members, junctions, member, at);
+    tell_as(r, JunctionWords::from, junction, place)
+}
+
+// Value k of the junction at a place.
+#[unsafe(no_mangle)]
+pub extern "C" fn ynd_member_get_height(
+    members: &[[u32; 20]],
+    junctions: &[[u32; 6]],
+    heights: &[u8],
+    member: usize,
+    at: usize,
+    k: usize,
+    value: &mut u8,
+    place: &mut usize,
+) -> u32
+    ensures { (nodes links refs : List (List ℕ))
+        → Lies 15 members.now nodes → Lies 16 members.now links
+        → Lies 19 members.now refs
+        → told result place.new value.new
+        ≡ value_told (get_height_member (cell_set members.now nodes links junctions.now heights.now refs) member
+        at k) value.old }
+{
+    let r = sets::get_member::get_height_member(members, junctions, heights, member, at, k);
+    tell(r, value, place)
+}

@@ -1,0 +1,121 @@
+// Edits of the junctions and heightmaps of a set's member (T-09).
+ghost use Rattle.std.specs.Prelude.{◌≡◌, List, ℕ};
+ghost use Rattle.cells.specs.Add.{add_junction};
+ghost use Rattle.cells.specs.Edit.{put_junction, put_height};
+ghost use Rattle.cells.specs.PutHeightmap.{put_heightmap};
+ghost use Rattle.cells.specs.Words.{to_junction};
+ghost use Rattle.sets.specs.CellSet.{cell_set};
+ghost use Rattle.sets.specs.Lent.{Lies};
+ghost use Rattle.sets.specs.MemberEdit.{edit_member, heights_left, junctions_left};
+ghost use Rattle.exports.specs.Found.{told};
+ghost use Rattle.exports.specs.SetTold.{edit_told};
+
+use crate::answers::answer;
+use cells::junction::PathJunction;
+
+// A junction behind all others of the member, its values behind all others.
+#[unsafe(no_mangle)]
+pub extern "C" fn ynd_member_add_junction(
+    members: &mut [[u32; 20]],
+    junctions: &mut [[u32; 6]],
+    heights: &mut [u8],
+    member: usize,
+    junction: &[u32; 6],
+    values: &[u8],
+    place: &mut usize,
+) -> u32
+    ensures { (nodes links refs : List (List ℕ))
+        → Lies 15 members.old nodes → Lies 16 members.old links
+        → Lies 19 members.old refs
+        → told result place.new (cell_set members.new nodes links junctions.new heights.new refs)
+        ≡ edit_told (edit_member (cell_set members.old nodes links junctions.old heights.old refs) member
+        (λ m. add_junction m (to_junction junction.now) values.now)) }
+{
+    let r = sets::edit_junctions::add_junction_member(
+        members,
+        junctions,
+        heights,
+        member,
+        PathJunction::from(*junction),
+        values,
+    );
+    answer(r, place)
+}
+
+// The heightmap of the junction at a place is the given one.
+#[unsafe(no_mangle)]
+pub extern "C" fn ynd_member_put_heightmap(
+    members: &mut [[u32; 20]],
+    junctions: &mut [[u32; 6]],
+    heights: &mut [u8],
+    member: usize,
+    at: usize,
+    width: u8,
+    height: u8,
+    values: &[u8],
+    place: &mut usize,
+) -> u32
+    ensures { (nodes links refs : List (List ℕ))
+        → Lies 15 members.old nodes → Lies 16 members.old links
+        → Lies 19 members.old refs
+        → told result place.new (cell_set members.new nodes links junctions.new heights.new refs)
+        ≡ edit_told (edit_member (cell_set members.old nodes links junctions.old heights.old refs) member
+        (λ m. put_heightmap m at width height values.now)) }
+{
+    let r = sets::edit_junctions::put_heightmap_member(
+        members, junctions, heights, member, at, width, height, values,
+    );
+    answer(r, place)
+}
+
+// Stores every field but where the heightmap starts. It keeps as many values.
+#[unsafe(no_mangle)]
+pub extern "C" fn ynd_member_put_junction(
+    members: &[[u32; 20]],
+    junctions: &mut [[u32; 6]],
+    member: usize,
+    at: usize,
+    junction: &[u32; 6],
+    place: &mut usize,
+) -> u32
+    ensures { (nodes links refs : List (List ℕ)) (heights : List ℕ)
+        → Lies 15 members.now nodes → Lies 16 members.now links
+        → Lies 18 members.now heights → Lies 19 members.now refs
+        → told result place.new (cell_set members.now nodes links junctions.new heights refs)
+        ≡ edit_told (edit_member (cell_set members.now nodes links junctions.old heights refs) member
+        (λ m. junctions_left m (put_junction m.ynd m.junctions at (to_junction junction.now)))) }
+{
+    let r = sets::edit_junctions::put_junction_member(
+        members,
+        junctions,
+        member,
+        at,
+        PathJunction::from(*junction),
+    );
+    answer(r, place)
+}
+
+// Value k of the junction at a place.
+#[unsafe(no_mangle)]
+pub extern "C" fn ynd_member_put_height(
+    members: &[[u32; 20]],
+    junctions: &[[u32; 6]],
+    heights: &mut [u8],
+    member: usize,
+    at: usize,
+    k: usize,
+    value: u8,
+    place: &mut usize,
+) -> u32
+    ensures { (nodes links refs : List (List ℕ))
+        → Lies 15 members.now nodes → Lies 16 members.now links
+        → Lies 19 members.now refs
+        → told result place.new (cell_set members.now nodes links junctions.now heights.new refs)
+        ≡ edit_told (edit_member (cell_set members.now nodes links junctions.now heights.old refs) member
+        (λ m. heights_left m (put_height m.ynd m.junctions m.heights at k value))) }
+{
+    let r = sets::edit_junctions::put_height_member(
+        members, junctions, heights, member, at, k, value,
+    );
+    answer(r, place)
+}

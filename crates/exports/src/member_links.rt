@@ -1,0 +1,97 @@
+// Edits of the links of a set's member (T-09).
+ghost use Rattle.std.specs.Prelude.{◌≡◌, List, ℕ};
+ghost use Rattle.cells.specs.AddLink.{add_link};
+ghost use Rattle.cells.specs.Edit.{put_link};
+ghost use Rattle.cells.specs.PutLinks.{put_links};
+ghost use Rattle.cells.specs.Words.{to_link};
+ghost use Rattle.sets.specs.CellSet.{cell_set};
+ghost use Rattle.sets.specs.Lent.{Lies};
+ghost use Rattle.sets.specs.MemberEdit.{edit_member, links_left};
+ghost use Rattle.exports.specs.Found.{told};
+ghost use Rattle.exports.specs.SetTold.{edit_told};
+
+use crate::answers::answer;
+use cells::link::PathLink;
+use cells::node::NodeWords;
+
+// A link behind those of the node at a place of the member.
+#[unsafe(no_mangle)]
+pub extern "C" fn ynd_member_add_link(
+    members: &mut [[u32; 20]],
+    nodes: &mut [NodeWords],
+    links: &mut [[u16; 4]],
+    member: usize,
+    at: usize,
+    link: &[u16; 4],
+    place: &mut usize,
+) -> u32
+    ensures { (junctions refs : List (List ℕ)) (heights : List ℕ)
+        → Lies 17 members.old junctions → Lies 18 members.old heights
+        → Lies 19 members.old refs
+        → told result place.new (cell_set members.new nodes.new links.new junctions heights refs)
+        ≡ edit_told (edit_member (cell_set members.old nodes.old links.old junctions heights refs) member
+        (λ m. add_link m at (to_link link.now))) }
+{
+    let r = sets::edit_links::add_link_member(
+        members,
+        nodes,
+        links,
+        member,
+        at,
+        PathLink::from(*link),
+    );
+    answer(r, place)
+}
+
+// The links of the node at a place are the given ones.
+#[unsafe(no_mangle)]
+pub extern "C" fn ynd_member_put_links(
+    members: &mut [[u32; 20]],
+    nodes: &mut [NodeWords],
+    links: &mut [[u16; 4]],
+    member: usize,
+    at: usize,
+    given: &[[u16; 4]],
+    place: &mut usize,
+) -> u32
+    ensures { (junctions refs : List (List ℕ)) (heights : List ℕ)
+        → Lies 17 members.old junctions → Lies 18 members.old heights
+        → Lies 19 members.old refs
+        → told result place.new (cell_set members.new nodes.new links.new junctions heights refs)
+        ≡ edit_told (edit_member (cell_set members.old nodes.old links.old junctions heights refs) member
+        (λ m. put_links m at given.now)) }
+{
+    let r = sets::edit_links::put_links_member(members, nodes, links, member, at, given);
+    answer(r, place)
+}
+
+// Link k of the node at a place.
+#[unsafe(no_mangle)]
+pub extern "C" fn ynd_member_put_link(
+    members: &[[u32; 20]],
+    nodes: &[NodeWords],
+    links: &mut [[u16; 4]],
+    member: usize,
+    at: usize,
+    k: usize,
+    link: &[u16; 4],
+    place: &mut usize,
+) -> u32
+    ensures { (junctions refs : List (List ℕ)) (heights : List ℕ)
+        → Lies 17 members.now junctions → Lies 18 members.now heights
+        → Lies 19 members.now refs
+        → told result place.new (cell_set members.now nodes.now links.new junctions heights refs)
+        ≡ edit_told (edit_member (cell_set members.now nodes.now links.old junctions heights refs) member
+        (λ m. links_left m (put_link m.ynd m.nodes m.links at k (to_link link.now)))) }
+{
+    let r = sets::edit_links::put_link_member(
+        members,
+        nodes,
+        links,
+        member,
+        at,
+        k,
+        PathLink::from(*link),
+    );
+    answer(r, place)
+}

@@ -1,0 +1,81 @@
+// Edits of the nodes of a set's member (T-09). Each holds for all lists that a call isn't lent and that hold the
+// members' parts: they stay as they are.
+ghost use Rattle.std.specs.Prelude.{◌≡◌, List, ℕ};
+ghost use Rattle.cells.specs.Edit.{put_node, set_position};
+ghost use Rattle.cells.specs.Words.{to_node};
+ghost use Rattle.sets.specs.CellSet.{cell_set};
+ghost use Rattle.sets.specs.Lent.{Lies};
+ghost use Rattle.sets.specs.MemberEdit.{add_node_member, edit_member, nodes_left};
+ghost use Rattle.exports.specs.Found.{told};
+ghost use Rattle.exports.specs.SetTold.{edit_told};
+
+use crate::answers::answer;
+use cells::node::{NodeWords, PathNode};
+use numbers::math::Vec3;
+
+// A node without links behind all others of the member; its number is its place.
+#[unsafe(no_mangle)]
+pub extern "C" fn ynd_member_add_node(
+    members: &mut [[u32; 20]],
+    nodes: &mut [NodeWords],
+    member: usize,
+    area_id: u16,
+    x: f32,
+    y: f32,
+    z: f32,
+    place: &mut usize,
+) -> u32
+    ensures { (links junctions refs : List (List ℕ)) (heights : List ℕ)
+        → Lies 16 members.old links → Lies 17 members.old junctions
+        → Lies 18 members.old heights → Lies 19 members.old refs
+        → told result place.new (cell_set members.new nodes.new links junctions heights refs)
+        ≡ edit_told (add_node_member (cell_set members.old nodes.old links junctions heights refs) member area_id
+        (record { x = x; y = y; z = z })) }
+{
+    let r = sets::edit_nodes::add_node_member(members, nodes, member, area_id, Vec3 { x, y, z });
+    answer(r, place)
+}
+
+// Stores every field but where the node's links are.
+#[unsafe(no_mangle)]
+pub extern "C" fn ynd_member_put_node(
+    members: &[[u32; 20]],
+    nodes: &mut [NodeWords],
+    member: usize,
+    at: usize,
+    node: &NodeWords,
+    place: &mut usize,
+) -> u32
+    ensures { (links junctions refs : List (List ℕ)) (heights : List ℕ)
+        → Lies 16 members.now links → Lies 17 members.now junctions
+        → Lies 18 members.now heights → Lies 19 members.now refs
+        → told result place.new (cell_set members.now nodes.new links junctions heights refs)
+        ≡ edit_told (edit_member (cell_set members.now nodes.old links junctions heights refs) member
+        (λ m. nodes_left m (put_node m.ynd m.nodes at (to_node node.now)))) }
+{
+    let r = sets::edit_nodes::put_node_member(members, nodes, member, at, PathNode::from(*node));
+    answer(r, place)
+}
+
+// The position is stored in whole steps.
+#[unsafe(no_mangle)]
+pub extern "C" fn ynd_member_set_position(
+    members: &[[u32; 20]],
+    nodes: &mut [NodeWords],
+    member: usize,
+    at: usize,
+    x: f32,
+    y: f32,
+    z: f32,
+    place: &mut usize,
+) -> u32
+    ensures { (links junctions refs : List (List ℕ)) (heights : List ℕ)
+        → Lies 16 members.now links → Lies 17 members.now junctions
+        → Lies 18 members.now heights → Lies 19 members.now refs
+        → told result place.new (cell_set members.now nodes.new links junctions heights refs)
+        ≡ edit_told (edit_member (cell_set members.now nodes.old links junctions heights refs) member
+        (λ m. nodes_left m (set_position m.ynd m.nodes at (record { x = x; y = y; z = z })))) }
+{
+    let r = sets::edit_nodes::set_position_member(members, nodes, member, at, Vec3 { x, y, z });
+    answer(r, place)
+}

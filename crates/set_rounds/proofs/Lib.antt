@@ -1,0 +1,3 @@
+pub mod FollowLaws
+pub mod RoundsUnnoticed
+pub mod Example
