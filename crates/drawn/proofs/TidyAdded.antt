@@ -1,0 +1,257 @@
+-- Adding an entry leaves a tidy cell tidy, accepted or refused.
+-- Assumes nothing but that the arguments fit their types.
+use Prim.Native.Nat.{ℕ, ◌+◌, ◌-◌, ◌*◌, ◌≤◌, ◌<◌}
+use native.Mathlib.Omega.{arith}
+use mathlib.Core.Path.{◌≡◌, refl, ap, sym, ◌∙◌}
+use mathlib.Core.List.{List, [], ◌∷◌, ◌++◌, map}
+use lib.Dec.{ltb}
+use lib.ListN.{length, get_or, set, take, drop, length-append, length-map, length-drop, length-set, get_or-append}
+use lib.Seq.{length-take-le, get_or-set_same, get_or-set_other}
+use borrow.Author.Tests.{eq-eqb, ne_eqb, lt-ltb, le-ltb, lt-leb, le-leb, ltb-true, ltb-false}
+use Rattle.numbers.specs.declared.refusal.Lent.TheVariants as lent
+use Rattle.numbers.specs.Positions.{quantised, dequantised}
+use Rattle.numbers.specs.declared.math.Vec3.{Vec3}
+use Rattle.records.specs.Put.{put}
+use Rattle.records.proofs.Puts.{length_put}
+use Rattle.records.specs.declared.junction_ref.NodeJunctionRef.{NodeJunctionRef}
+use Rattle.cells.specs.declared.link.PathLink.{PathLink}
+use Rattle.cells.specs.declared.junction.PathJunction.{PathJunction}
+use Rattle.cells.specs.NodeWords.{link_start, link_count, value_start, value_count}
+use Rattle.cells.specs.NodeAccess.{new_node}
+use Rattle.cells.specs.Words.{node_words, link_words, junction_words, ref_words}
+use Rattle.cells.specs.Memory.{over_limit, Memory, memory}
+use Rattle.cells.specs.Edit.{start_at, held_in}
+use Rattle.cells.specs.Add.{with_counts, more_nodes, more_links, more_refs, more_junctions, room_for}
+use Rattle.cells.specs.Add.{room_for_junction, add_node, add_ref, add_junction}
+use Rattle.cells.specs.AddLink.{held_at, behind, at_in, inserted, ranged, shifted, nodes_after, room_for_link}
+use Rattle.cells.specs.AddLink.{add_link}
+use Rattle.cells.proofs.Sequences.Tests.{by_test}
+use Rattle.cells.proofs.Editing.AddLaws.{room_inside, junction_room}
+use Rattle.cells.proofs.Editing.Inserted.{front_long, accepted, behind_bound, held_few}
+use Rattle.drawn.specs.Tidy.{LinksApart, Tidy}
+use Rattle.drawn.proofs.SeparateLaws.{one_more, inserted_ranges}
+use Rattle.drawn.proofs.Accepted.{by_answer}
+use Rattle.drawn.proofs.TidyStored.{size_start, size_count}
+use Rattle.cells.proofs.Editing.CellStored.{held_at_law}
+
+-- ---- a node
+
+new_start : (area n : ℕ) (p : Vec3) → link_start (node_words (new_node area n p)) ≡ 0
+unfolding node_words new_node
+new_start area n p = refl
+
+new_count : (area n : ℕ) (p : Vec3) → link_count (node_words (new_node area n p)) ≡ 0
+unfolding node_words new_node
+new_count area n p = refl
+
+pub add_node_tidy : (m : Memory) → Tidy m → (area : ℕ) (at : Vec3) → Tidy (add_node m area at).memory
+unfolding add_node with_counts
+add_node_tidy m h area at =
+    let n = m.ynd.node_count in
+    let l = m.ynd.link_count in
+    let to = dequantised (quantised at) in
+    let w = node_words (new_node area n to) in
+    let nodes = set m.nodes n w in
+    by_answer Tidy (room_for (over_limit m.ynd) 65536 n (length m.nodes) lent.Nodes) m
+    (memory (more_nodes m.ynd) nodes m.links m.junctions m.heights m.refs) h (λ e.
+    let r = room_inside (over_limit m.ynd) 65536 n (length m.nodes) lent.Nodes e in
+    let own = get_or-set_same m.nodes n w [] r.1 in
+    let other : (q : ℕ) → q < n → get_or nodes q [] ≡ get_or m.nodes q [] = λ q lt. get_or-set_other m.nodes n q w []
+    (λ z. absurd (omega (arith, z))) in
+    record {
+      few_nodes = omega (arith, r.0);
+      few_junctions = h.few_junctions;
+      nodes_lie = omega (arith, r.1, length-set m.nodes n w);
+      links_lie = h.links_lie;
+      junctions_lie = h.junctions_lie;
+      values_lie = h.values_lie;
+      refs_lie = h.refs_lie;
+      links_apart = one_more (λ q. link_start (get_or m.nodes q [])) (λ q. link_count (get_or m.nodes q []))
+          (λ q. link_start (get_or nodes q [])) (λ q. link_count (get_or nodes q [])) n l l
+          (λ q lt. ap link_start (other q lt)) (λ q lt. ap link_count (other q lt))
+          (omega (arith, ap link_start own, new_start area n to))
+          (λ some. absurd (omega (arith, ap link_count own, new_count area n to)))
+          (omega (arith, ap link_count own, new_count area n to))
+          h.links_apart;
+      values_apart = h.values_apart;
+    })
+
+-- ---- a ref
+
+pub add_ref_tidy : (m : Memory) → Tidy m → (r : NodeJunctionRef) → Tidy (add_ref m r).memory
+unfolding add_ref with_counts
+add_ref_tidy m h r =
+    let n = m.ynd.ref_count in
+    by_answer Tidy (room_for (over_limit m.ynd) 4294967295 n (length m.refs) lent.Refs) m
+    (memory (more_refs m.ynd) m.nodes m.links m.junctions m.heights (set m.refs n (ref_words r))) h (λ e.
+    let k = room_inside (over_limit m.ynd) 4294967295 n (length m.refs) lent.Refs e in
+    record {
+      few_nodes = h.few_nodes;
+      few_junctions = h.few_junctions;
+      nodes_lie = h.nodes_lie;
+      links_lie = h.links_lie;
+      junctions_lie = h.junctions_lie;
+      values_lie = h.values_lie;
+      refs_lie = omega (arith, k.1, length-set m.refs n (ref_words r));
+      links_apart = h.links_apart;
+      values_apart = h.values_apart;
+    })
+
+-- ---- a junction
+
+pub add_junction_tidy : (m : Memory) → Tidy m → (j : PathJunction) (values : List ℕ) → j.width < 256 → j.height < 256
+    → Tidy (add_junction m j values).memory
+unfolding add_junction with_counts
+add_junction_tidy m h j values hw hh =
+    let n = m.ynd.junction_count in
+    let v = m.ynd.heightmap_count in
+    let w = junction_words (start_at j v) in
+    let junctions = set m.junctions n w in
+    by_answer Tidy (room_for_junction (over_limit m.ynd) n v (j.width * j.height) (length values) (length m.junctions)
+    (length m.heights)) m
+    (memory (more_junctions m.ynd (length values)) m.nodes m.links junctions (put m.heights v values) m.refs) h (λ e.
+    let r = junction_room (over_limit m.ynd) n v (j.width * j.height) (length values) (length m.junctions)
+    (length m.heights) e in
+    let own = get_or-set_same m.junctions n w [] r.junctions_fit in
+    let other : (q : ℕ) → q < n → get_or junctions q []
+    ≡ get_or m.junctions q [] = λ q lt. get_or-set_other m.junctions n q w [] (λ z. absurd (omega (arith, z))) in
+    let start : value_start (get_or junctions n []) ≡ v = ap value_start own ∙ size_start j v in
+    let count : value_count (get_or junctions n []) ≡ length values = ap value_count own ∙ size_count j v hw hh
+    ∙ sym r.sized in
+    record {
+      few_nodes = h.few_nodes;
+      few_junctions = omega (arith, r.few);
+      nodes_lie = h.nodes_lie;
+      links_lie = h.links_lie;
+      junctions_lie = omega (arith, r.junctions_fit, length-set m.junctions n w);
+      values_lie = omega (arith, r.heights_fit, length_put m.heights v values r.heights_fit);
+      refs_lie = h.refs_lie;
+      links_apart = h.links_apart;
+      values_apart = one_more (λ q. value_start (get_or m.junctions q []))
+          (λ q. value_count (get_or m.junctions q [])) (λ q. value_start (get_or junctions q []))
+          (λ q. value_count (get_or junctions q [])) n v (v + length values)
+          (λ q lt. ap value_start (other q lt)) (λ q lt. ap value_count (other q lt))
+          (let z : value_start (get_or junctions n []) < 4294967296 = omega (arith, start, r.values_few) in z)
+          (λ some. start)
+          (let z : v + length values ≡ v + value_count (get_or junctions n []) = ap (λ (x : ℕ). v + x)
+          (sym count) in z)
+          h.values_apart;
+    })
+
+-- ---- a link
+
+pub ranged_count : (s c : ℕ) (w : List ℕ) → c < 256 → link_count (ranged s c w) ≡ c
+unfolding ranged
+ranged_count s c w h = omega arith
+
+pub ranged_start : (s c : ℕ) (w : List ℕ) → link_start (ranged s c w) ≡ s
+unfolding ranged
+ranged_start s c w = refl
+
+module _ (at l : ℕ) (w : List ℕ) where
+  shifted_before : link_start w < at → shifted at l w ≡ w
+  unfolding shifted
+  shifted_before lt = rw (lt-ltb (link_start w) at lt)
+
+  shifted_outside : l ≤ link_start w → shifted at l w ≡ w
+  unfolding shifted
+  shifted_outside le = by_test (ltb (link_start w) at) (λ t. rw t) (λ f. rw (f, le-leb l (link_start w) le))
+
+  shifted_later : at ≤ link_start w → link_start w < l → shifted at l w ≡ ranged (link_start w + 1) (link_count w) w
+  unfolding shifted
+  shifted_later le lt = rw (le-ltb (link_start w) at le, lt-leb l (link_start w) lt)
+
+  shifted_count : link_count (shifted at l w) ≡ link_count w
+  shifted_count = by_test (ltb (link_start w) at)
+      (λ t. ap link_count (shifted_before (ltb-true _ _ t)))
+      (λ f. by_test (ltb (link_start w) l)
+      (λ t. ap link_count (shifted_later (ltb-false _ _ f) (ltb-true _ _ t)) ∙ ranged_count (link_start w + 1)
+      (link_count w) w (omega arith))
+      (λ g. ap link_count (shifted_outside (ltb-false _ _ g))))
+
+behind_none : (s e l : ℕ) → e ≡ 0 → behind s e l ≡ l
+unfolding behind
+behind_none s e l z = rw (eq-eqb e 0 z)
+
+behind_some : (s e l : ℕ) → 0 < e → behind s e l ≡ s + e
+unfolding behind
+behind_some s e l lt = rw (ne_eqb e 0 (λ z. absurd (omega (arith, z))))
+
+module _ (n l p : ℕ) (nodes : List (List ℕ)) (place : p < n) (nodes-fit : n ≤ length nodes) where
+  abbrev at : ℕ
+  at = at_in nodes p l
+
+  abbrev after : List (List ℕ)
+  after = map (shifted at l) (take n nodes) ++ drop n nodes
+
+  moved_long : length (map (shifted at l) (take n nodes)) ≡ n
+  moved_long = length-map (take n nodes) (shifted at l) ∙ length-take-le n nodes nodes-fit
+
+  word_own : get_or (nodes_after n l p nodes) p [] ≡ ranged (at - held_at nodes p l) (held_at nodes p l + 1)
+      (get_or nodes p [])
+  unfolding nodes_after
+  word_own = get_or-set_same after p (ranged (at - held_at nodes p l) (held_at nodes p l + 1) (get_or nodes p [])) []
+      (omega (arith, length-append (map (shifted at l) (take n nodes)) (drop n nodes), moved_long))
+
+  word_other : (q : ℕ) → q < n → (q ≡ p → ⊥) → get_or (nodes_after n l p nodes) q [] ≡ shifted at l (get_or nodes q [])
+  unfolding nodes_after
+  word_other q lt ne =
+      get_or-set_other after p q (ranged (at - held_at nodes p l) (held_at nodes p l + 1) (get_or nodes p [])) [] ne
+      ∙ get_or-append (map (shifted at l) (take n nodes)) (drop n nodes) [] q (omega (arith, moved_long))
+      ∙ held_at_law (shifted at l) n nodes q [] [] lt nodes-fit
+
+  pub after_long : length (nodes_after n l p nodes) ≡ length nodes
+  unfolding nodes_after
+  after_long = length-set after p (ranged (at - held_at nodes p l) (held_at nodes p l + 1) (get_or nodes p []))
+      ∙ length-append (map (shifted at l) (take n nodes)) (drop n nodes)
+      ∙ omega (arith, moved_long, length-drop n nodes)
+
+  links_after_law : l < 4294967295 → held_at nodes p l < 255 → LinksApart n l nodes → LinksApart n (l + 1)
+      (nodes_after n l p nodes)
+  unfolding held_in
+  links_after_law few less h =
+      let s : ℕ → ℕ = λ q. link_start (get_or nodes q []) in
+      let e = held_at nodes p l in
+      inserted_ranges s (λ q. link_count (get_or nodes q []))
+      (λ q. link_start (get_or (nodes_after n l p nodes) q []))
+      (λ q. link_count (get_or (nodes_after n l p nodes) q [])) n l p at e
+      place few refl (behind_none (s p) e l) (behind_some (s p) e l)
+      (ap link_start word_own ∙ ranged_start (at - e) (e + 1) (get_or nodes p []))
+      (ap link_count word_own ∙ ranged_count (at - e) (e + 1) (get_or nodes p []) (omega arith))
+      (λ q lt ne. ap link_count (word_other q lt ne) ∙ shifted_count at l (get_or nodes q []))
+      (λ q lt ne k. ap link_start (word_other q lt ne ∙ shifted_before at l (get_or nodes q []) k))
+      (λ q lt ne k. ap link_start (word_other q lt ne ∙ shifted_outside at l (get_or nodes q []) k))
+      (λ q lt ne a b. ap link_start (word_other q lt ne ∙ shifted_later at l (get_or nodes q []) a b) ∙ ranged_start
+      (s q + 1) (link_count (get_or nodes q [])) (get_or nodes q []))
+      h
+
+pub inserted_long : {A : Type 0} (at l : ℕ) (x : A) (xs : List A) (d : A) → at ≤ l → l < length xs → length
+    (inserted at l x xs) ≡ length xs
+unfolding inserted
+inserted_long at l x xs d inside fits =
+    length-append (take at (take l xs) ++ (x ∷ drop at (take l xs))) (drop (l + 1) xs) ∙ omega
+    (arith, front_long at l x xs d inside fits, length-drop (l + 1) xs)
+
+pub add_link_tidy : (m : Memory) → Tidy m → (p : ℕ) (x : PathLink) → Tidy (add_link m p x).memory
+unfolding add_link with_counts
+add_link_tidy m h p x =
+    let n = m.ynd.node_count in
+    let l = m.ynd.link_count in
+    let e = held_at m.nodes p l in
+    let at = at_in m.nodes p l in
+    by_answer Tidy (room_for_link (over_limit m.ynd) n l p e (length m.nodes) (length m.links)) m
+    (memory (more_links m.ynd) (nodes_after n l p m.nodes)
+    (inserted at l (link_words x) m.links) m.junctions m.heights m.refs) h (λ d.
+    let r = accepted (over_limit m.ynd) n l p e (length m.nodes) (length m.links) d in
+    let inside = (behind_bound (link_start (get_or m.nodes p [])) e l (held_few m.nodes p l)).0 in
+    record {
+      few_nodes = h.few_nodes;
+      few_junctions = h.few_junctions;
+      nodes_lie = omega (arith, h.nodes_lie, after_long n l p m.nodes r.place r.nodes_fit);
+      links_lie = omega (arith, r.links_fit, inserted_long at l (link_words x) m.links [] inside r.links_fit);
+      junctions_lie = h.junctions_lie;
+      values_lie = h.values_lie;
+      refs_lie = h.refs_lie;
+      links_apart = links_after_law n l p m.nodes r.place r.nodes_fit r.few r.one_more h.links_apart;
+      values_apart = h.values_apart;
+    })

@@ -1,0 +1,357 @@
+-- Write-then-read of any made cell leaves it settled: coordinates in whole steps, of flags5 the low three bits. It is
+-- so from then on.
+use Prim.Native.Nat.{ℕ, suc, ◌%◌, ◌≤◌, ◌<◌, ◌^◌}
+use native.Mathlib.Omega.{arith}
+use mathlib.Core.Path.{◌≡◌, refl, sym, ap, ◌∙◌}
+use mathlib.Core.Bool.{Bool, true, false}
+use mathlib.Core.List.{List, [], ◌∷◌, map}
+use lib.Dec.{T, eqb}
+use lib.ListN.{length, take}
+use lib.IntN.{ℤ, pos, negsuc}
+use lib.Ieee.{Float, binary32, fits, of_bits, to_bits}
+use lib.Ieee.Bits.{of_bits-to_bits}
+use lib.Ieee.Fits.{round-fits}
+use borrow.Author.Tests.{eq-eqb, eqb-true, ltb-true}
+use Rattle.std.specs.Prelude.{Result, Ok, Err}
+use Rattle.numbers.specs.Refusals.{Answer}
+use Rattle.numbers.specs.declared.refusal.Refusal.{Refusal}
+use Rattle.numbers.specs.Steps.{step_of, unstep}
+use Rattle.numbers.proofs.StepLaws.{round_trip, step_in}
+use Rattle.numbers.proofs.Refusing.{not_refused}
+use Rattle.records.specs.Sections.{bytes_of}
+use Rattle.records.specs.declared.root.Root.{Root}
+use Rattle.cells.specs.Lists.{every}
+use Rattle.cells.specs.Checks.{root_read, sizes_check, arrays_found}
+use Rattle.cells.specs.Memory.{Memory, unless}
+use Rattle.cells.specs.Read.{if_found, read_arrays, read_of}
+use Rattle.cells.specs.Cell.{NodeMarks, Node, Junction, Cell}
+use Rattle.cells.specs.CellOf.{link_of, ref_of, node_with, junction_with, nodes_of, junctions_of, refs_of, cell_of}
+use Rattle.cells.specs.FileCell.{cell_from, cell_by, file_cell}
+use Rattle.cells.specs.Blocks.{refs_block, heights_block, junctions_block, links_block, nodes_block, blocks, root_for}
+use Rattle.cells.specs.Blocks.{written}
+use Rattle.cells.specs.Write.{held, write_call}
+use Rattle.cells.specs.WriteRead.{if_read, if_written, write_read_of}
+use Rattle.cells.proofs.WritingBack.KeptCells.{kept_step, is_word, kept}
+use Rattle.cells.proofs.Sequences.Tests.{and_left, and_right, every_map}
+use Rattle.cells.proofs.Reading.ReadLaws.{small}
+use Rattle.cells.proofs.Reading.FileRead.{read_cell}
+use Rattle.cells.proofs.WritingBack.BlocksBack.{refs_back}
+use Rattle.cells.proofs.WritingBack.WrittenBack.{Told, write_told, write_read_same}
+use Rattle.cells.proofs.WritingBack.SectionBack.{seven_of, stored_root, root_read_law, nodes_here, links_here}
+use Rattle.cells.proofs.WritingBack.SectionBack.{junctions_here, heights_here, refs_here}
+use Rattle.cells.proofs.WritingBack.SectionBack.{array_back}
+use Rattle.cells.proofs.WritingBack.AsRead.{whole_map}
+use Rattle.drawn.specs.Settled.{settled_step, settled_marks, settled_node, settled_junction, settled}
+use Rattle.drawn.specs.Made.{fitted_node, fitted_junction, fitted, stored_node, stored_junction}
+use Rattle.drawn.proofs.FittedCells.{both, fitted_parts, fitted_all, all_kept}
+use Rattle.drawn.proofs.TidyAsRead.{tidy_as_read, tidy_writes_alike}
+use Rattle.drawn.specs.Made.{Made}
+use Rattle.drawn.proofs.BlocksSettled.{nodes_settled, junctions_settled}
+use Rattle.drawn.specs.Made.{stored}
+use Rattle.drawn.proofs.SettledWalks.{map_map}
+
+-- ---- the section that was written, read
+
+whole : (n : ℕ) → is_word n ≡ true → n % 4294967296 ≡ n
+whole n t = let h : n < 4294967296 = ltb-true n 4294967296 t in omega arith
+
+seven_back : (u : List ℕ) → length u ≡ 7 → every is_word u ≡ true → seven_of u ≡ u
+unfolding every
+seven_back [] e t = absurd (omega arith)
+seven_back (a ∷ []) e t = absurd (omega arith)
+seven_back (a ∷ b ∷ []) e t = absurd (omega arith)
+seven_back (a ∷ b ∷ c ∷ []) e t = absurd (omega arith)
+seven_back (a ∷ b ∷ c ∷ d ∷ []) e t = absurd (omega arith)
+seven_back (a ∷ b ∷ c ∷ d ∷ f ∷ []) e t = absurd (omega arith)
+seven_back (a ∷ b ∷ c ∷ d ∷ f ∷ g ∷ []) e t = absurd (omega arith)
+seven_back (a ∷ b ∷ c ∷ d ∷ f ∷ g ∷ h ∷ []) e t =
+    let t₁ = and_right (is_word a) _ t in
+    let t₂ = and_right (is_word b) _ t₁ in
+    let t₃ = and_right (is_word c) _ t₂ in
+    let t₄ = and_right (is_word d) _ t₃ in
+    let t₅ = and_right (is_word f) _ t₄ in
+    let t₆ = and_right (is_word g) _ t₅ in
+    λ i. whole a (and_left _ _ t) i ∷ whole b (and_left _ _ t₁) i ∷ whole c (and_left _ _ t₂) i ∷ whole d
+    (and_left _ _ t₃) i ∷ whole f (and_left _ _ t₄) i ∷ whole g (and_left _ _ t₅) i ∷ whole h
+    (and_left _ _ t₆) i ∷ []
+seven_back (a ∷ b ∷ c ∷ d ∷ f ∷ g ∷ h ∷ k ∷ l) e t = absurd (omega arith)
+
+-- the cell whose lists are h, each whole
+abbrev whole_of : Memory → Cell
+whole_of h = record {
+  nodes = map (node_with (map link_of h.links)) h.nodes;
+  junctions = map (junction_with h.heights) h.junctions;
+  refs = map ref_of h.refs;
+  vehicles = h.ynd.vehicle_node_count;
+  peds = h.ynd.ped_node_count;
+  vft = h.ynd.vft;
+  words = h.ynd.unknowns;
+}
+
+module _ (h : Memory) (told : Told h) (small : length (written h) ≤ 16777216) (t : fitted (whole_of h) ≡ true)
+    (maps : every whole_map (whole_of h).junctions ≡ true) where
+  abbrev root : Root
+  root = root_for h (map length (blocks h))
+
+  from_blocks : cell_from (stored_root root) (nodes_block h.links h.nodes) (links_block h.links h.nodes)
+      (junctions_block h.heights h.junctions) (heights_block h.heights h.junctions) (refs_block h.refs) ≡ settled
+      (whole_of h)
+  unfolding cell_from root_for settled
+  from_blocks =
+      let f = fitted_parts (whole_of h) t in
+      let t₁ = and_right (is_word h.ynd.vehicle_node_count) _ f.root in
+      let t₂ = and_right (is_word h.ynd.ped_node_count) _ t₁ in
+      let t₃ = and_right (is_word h.ynd.vft) _ t₂ in
+      λ i. record {
+        nodes = (nodes_settled h.links h.nodes told.nodes_told f.nodes ∙ sym
+            (map_map settled_node (node_with (map link_of h.links)) h.nodes)) i;
+        junctions = (junctions_settled h.heights h.junctions told.junctions_told f.junctions maps ∙ sym
+            (map_map settled_junction (junction_with h.heights) h.junctions)) i;
+        refs = refs_back h.refs f.refs i;
+        vehicles = whole h.ynd.vehicle_node_count (and_left _ _ f.root) i;
+        peds = whole h.ynd.ped_node_count (and_left _ _ t₁) i;
+        vft = whole h.ynd.vft (and_left _ _ t₂) i;
+        words = seven_back h.ynd.unknowns (eqb-true (length h.ynd.unknowns) 7 (and_left _ _ t₃))
+            (and_right (eqb (length h.ynd.unknowns) 7) _ t₃) i;
+      }
+
+  section_settled : file_cell (written h) [] ≡ settled (whole_of h)
+  unfolding file_cell cell_by
+  section_settled =
+      let r = told.refs_told in
+      let w = written h in
+      ap (λ (r : Root). cell_by r w []) (root_read_law h r small)
+      ∙ (λ i. cell_from (stored_root root)
+      (array_back root.nodes root.node_count 40 w (nodes_block h.links h.nodes) (nodes_here h r small) i)
+      (array_back root.links root.link_count 8 w (links_block h.links h.nodes) (links_here h r small) i)
+      (array_back root.junctions root.junction_count 12 w (junctions_block h.heights h.junctions)
+      (junctions_here h r small) i)
+      (array_back root.heightmap root.heightmap_count 1 w (heights_block h.heights h.junctions)
+      (heights_here h r small) i)
+      (array_back root.refs root.ref_count 8 w (refs_block h.refs) (refs_here h r small) i))
+      ∙ from_blocks
+
+-- ---- the call
+
+-- an accepted reading is of at most 16,777,216 bytes
+read_few : (s g : List ℕ) (m : Memory) → (read_of s g m).answer ≡ (Ok tt) → length s ≤ 16777216
+unfolding read_of
+read_few s g m e = go (sizes_check (length s) (length g)) refl e
+  where
+    go : (c : Answer) → sizes_check (length s) (length g) ≡ c
+        → (unless c m (if_found (arrays_found (root_read s) (length s) (length g)) m λ n l j h r. read_arrays
+        (root_read s) (bytes_of n s g) (bytes_of l s g) (bytes_of j s g) (bytes_of h s g)
+        (bytes_of r s g) m)).answer ≡ (Ok tt)
+        → length s ≤ 16777216
+    go (Err a) d t = let z : ◌≡◌ {A = ℕ} 0 1 = cc in absurd (omega arith)
+    go (Ok tt) d t = (small (length s) (length g) d).0
+
+whole_held : (m : Memory) → whole_of (held m) ≡ cell_of m
+unfolding held cell_of nodes_of junctions_of refs_of
+whole_held m = refl
+
+-- an accepted write-then-read leaves the cell settled
+pub write_read_settles : (m : Memory) → Made m → (s : List ℕ) (n : ℕ) → (write_read_of m s).answer ≡ Ok n → cell_of
+    (write_read_of m s).memory ≡ settled (cell_of m)
+unfolding write_read_of write_call
+write_read_settles m h s n w = go (write_call m s).answer refl w
+  where
+    t : List ℕ
+    t = (write_call m s).section
+
+    back : (k : ℕ) → take k t ≡ written (held m) → Told (held m) → (c : Answer) → (read_of (take k t) [] m).answer ≡ c
+        → (if_read k t c (read_of (take k t) [] m).memory m s).answer ≡ Ok n
+        → cell_of (if_read k t c (read_of (take k t) [] m).memory m s).memory ≡ settled (cell_of m)
+    back k b told (Err x) e u = not_refused u
+    back k b told (Ok tt) e u =
+        read_cell (take k t) [] m e ∙ ap (λ (x : List ℕ). file_cell x []) b
+        ∙ section_settled (held m) told
+        (let q : length (written (held m)) ≤ 16777216 = omega
+        (arith, read_few (take k t) [] m e, ap length b) in q)
+        (ap fitted (whole_held m) ∙ h.fits)
+        (ap (λ (c : Cell). every whole_map c.junctions) (whole_held m) ∙ (tidy_as_read m h.tidy).maps_whole)
+        ∙ ap settled (whole_held m)
+
+    go : (a : Result ℕ Refusal) → (write_call m s).answer ≡ a → (if_written a t m s).answer ≡ Ok n → cell_of
+        (if_written a t m s).memory ≡ settled (cell_of m)
+    go (Err x) e u = not_refused u
+    go (Ok k) e u = let w = write_told m s k e in back k w.bytes w.told (read_of (take k t) [] m).answer refl u
+
+-- it is accepted exactly as writing is
+pub written_settles : (m : Memory) → Made m → (s : List ℕ) (n : ℕ) → (write_call m s).answer ≡ Ok n
+    → ((write_read_of m s).answer ≡ Ok n) × (cell_of (write_read_of m s).memory ≡ settled (cell_of m))
+written_settles m h s n e = let a = (tidy_writes_alike m h.tidy s).0 ∙ e in (a, write_read_settles m h s n a)
+
+-- ---- once settled, settled
+
+unstep_fits : (k : ℕ) (z : ℤ) → T (fits binary32 (unstep k z))
+unfolding unstep
+unstep_fits k (pos n) = round-fits binary32 false n (2 ^ k)
+unstep_fits k (negsuc n) = round-fits binary32 true (suc n) (2 ^ k)
+
+-- a stored coordinate, stored again
+step_again : (k : ℕ) (x : Float) → k ≤ 5 → settled_step k (to_bits binary32 (unstep k (step_of k x)))
+    ≡ to_bits binary32 (unstep k (step_of k x))
+step_again k x h =
+    ap (λ (y : Float). to_bits binary32 (unstep k (step_of k y)))
+    (of_bits-to_bits binary32 (unstep k (step_of k x)) (unstep_fits k (step_of k x)))
+    ∙ ap (λ (z : ℤ). to_bits binary32 (unstep k z)) (round_trip k (step_of k x) h (step_in k x))
+
+pub step_stored : (k : ℕ) (x : Float) → k ≤ 5 → kept_step k (to_bits binary32 (unstep k (step_of k x))) ≡ true
+unfolding kept_step
+step_stored k x h = eq-eqb _ _ (step_again k x h)
+
+pub step_twice : (k b : ℕ) → k ≤ 5 → settled_step k (settled_step k b) ≡ settled_step k b
+step_twice k b h = step_again k (of_bits binary32 b) h
+
+step_kept : (k b : ℕ) → k ≤ 5 → kept_step k (settled_step k b) ≡ true
+unfolding kept_step
+step_kept k b h = eq-eqb _ _ (step_twice k b h)
+
+pub two : 2 ≤ 5
+two = omega arith
+
+pub five : 5 ≤ 5
+five = omega arith
+
+every_made : {A B : Type 0} (f : B → Bool) (g : A → B) → ((x : A) → f (g x) ≡ true) → (l : List A) → every f (map g l)
+    ≡ true
+unfolding every
+every_made f g e [] = refl
+every_made f g e (x ∷ xs) = both (f (g x)) (every f (map g xs)) (e x) (every_made f g e xs)
+
+pub settled_stored : (c : Cell) → stored (settled c) ≡ true
+unfolding stored settled
+settled_stored c = both _ _ (every_made stored_node settled_node node c.nodes)
+    (every_made stored_junction settled_junction junction c.junctions)
+  where
+    node : (n : Node) → stored_node (settled_node n) ≡ true
+    node n =
+        both _ _ (step_kept 2 n.body.position.x two)
+        (both _ _ (step_kept 2 n.body.position.y two) (both _ _ (step_kept 5 n.body.position.z five)
+        (eq-eqb (n.body.marks.flags5 % 8 % 8) (n.body.marks.flags5 % 8) (omega arith))))
+
+    junction : (j : Junction) → stored_junction (settled_junction j) ≡ true
+    junction j = both _ _ (step_kept 2 j.x two)
+        (both _ _ (step_kept 2 j.y two) (both _ _ (step_kept 5 j.low five) (step_kept 5 j.high five)))
+
+pub settled_fitted : (c : Cell) → fitted c ≡ true → fitted (settled c) ≡ true
+unfolding settled
+settled_fitted c t =
+    let f = fitted_parts c t in
+    fitted_all (settled c) (record {
+      nodes = every_map fitted_node settled_node fitted_node (λ n a. a) c.nodes f.nodes;
+      junctions = every_map fitted_junction settled_junction fitted_junction (λ j a. a) c.junctions f.junctions;
+      refs = f.refs;
+      root = f.root;
+    })
+
+pub settled_whole : (c : Cell) → every whole_map c.junctions ≡ true → every whole_map (settled c).junctions ≡ true
+unfolding settled
+settled_whole c t = every_map whole_map settled_junction whole_map (λ j a. a) c.junctions t
+
+-- storing keeps a settled cell
+pub settled_kept : (m : Memory) → Made m → kept (settled (cell_of m)) ≡ true
+settled_kept m h = all_kept (settled (cell_of m)) (settled_fitted (cell_of m) h.fits) (settled_stored (cell_of m))
+    (settled_whole (cell_of m) (tidy_as_read m h.tidy).maps_whole)
+
+pub settled_twice : (c : Cell) → settled (settled c) ≡ settled c
+unfolding settled
+settled_twice c = λ i. record {
+  nodes = (map_map settled_node settled_node c.nodes ∙ each
+      (λ n. settled_node (settled_node n)) settled_node node c.nodes) i;
+  junctions = (map_map settled_junction settled_junction c.junctions ∙ each
+      (λ j. settled_junction (settled_junction j)) settled_junction junction c.junctions) i;
+  refs = c.refs;
+  vehicles = c.vehicles;
+  peds = c.peds;
+  vft = c.vft;
+  words = c.words;
+}
+  where
+    each : {A B : Type 0} (f g : A → B) → ((x : A) → f x ≡ g x) → (l : List A) → map f l ≡ map g l
+    each f g e [] = refl
+    each f g e (x ∷ xs) = λ i. e x i ∷ each f g e xs i
+
+    flags : (f : ℕ) → f % 8 % 8 ≡ f % 8
+    flags f = omega arith
+
+    marks : (k : NodeMarks) → settled_marks (settled_marks k) ≡ settled_marks k
+    marks k = λ i. record {
+      street = k.street;
+      flags0 = k.flags0;
+      flags1 = k.flags1;
+      flags2 = k.flags2;
+      flags3 = k.flags3;
+      flags4 = k.flags4;
+      flags5 = flags k.flags5 i;
+      unused0 = k.unused0;
+      unused1 = k.unused1;
+      unused2 = k.unused2;
+      unused3 = k.unused3;
+      unused4 = k.unused4;
+    }
+
+    node : (n : Node) → settled_node (settled_node n) ≡ settled_node n
+    node n = λ i. record {
+      area = n.area;
+      number = n.number;
+      links = n.links;
+      body = record {
+        position = record {
+          x = step_twice 2 n.body.position.x two i;
+          y = step_twice 2 n.body.position.y two i;
+          z =
+              step_twice 5 n.body.position.z five i;
+        };
+        marks = marks n.body.marks i;
+      };
+    }
+
+    junction : (j : Junction) → settled_junction (settled_junction j) ≡ settled_junction j
+    junction j = λ i. record {
+      x = step_twice 2 j.x two i;
+      y = step_twice 2 j.y two i;
+      low = step_twice 5 j.low five i;
+      high = step_twice 5 j.high five i;
+      width = j.width;
+      height = j.height;
+      values = j.values;
+    }
+
+-- ---- what was written, by itself
+
+read_back : (m : Memory) (s : List ℕ) (n : ℕ) → (write_call m s).answer ≡ Ok n → (write_read_of m s).answer ≡ Ok n
+    → ((read_of (take n (write_call m s).section) [] m).answer ≡ (Ok tt))
+    × ((write_read_of m s).memory ≡ (read_of (take n (write_call m s).section) [] m).memory)
+unfolding write_read_of
+read_back m s n e w = go (read_of (take n t) [] m).answer refl
+    (ap (λ (a : Result ℕ Refusal). (if_written a t m s).answer) (sym e) ∙ w)
+    (ap (λ (a : Result ℕ Refusal). (if_written a t m s).memory) e)
+  where
+    t : List ℕ
+    t = (write_call m s).section
+
+    go : (c : Answer) → (read_of (take n t) [] m).answer ≡ c
+        → (if_read n t c (read_of (take n t) [] m).memory m s).answer ≡ Ok n
+        → (if_written (write_call m s).answer t m s).memory
+        ≡ (if_read n t c (read_of (take n t) [] m).memory m s).memory
+        → ((read_of (take n t) [] m).answer ≡ (Ok tt))
+        × ((if_written (write_call m s).answer t m s).memory ≡ (read_of (take n t) [] m).memory)
+    go (Ok tt) d u v = (d, v)
+    go (Err x) d u v = not_refused u
+
+-- the section that an accepted writing of a made cell leaves is, by document 01, the settled cell: whoever reads it,
+-- into whatever memory
+pub section_means : (m : Memory) → Made m → (s : List ℕ) (n : ℕ) → (write_call m s).answer ≡ Ok n → file_cell
+    (take n (write_call m s).section) [] ≡ settled (cell_of m)
+section_means m h s n e =
+    let w = written_settles m h s n e in
+    let r = read_back m s n e w.0 in
+    sym (read_cell (take n (write_call m s).section) [] m r.0) ∙ ap cell_of (sym r.1) ∙ w.1
+
+-- once accepted, no later write-then-read changes the cell
+pub write_read_stable : (m : Memory) → Made m → (s : List ℕ) (n : ℕ) → (write_read_of m s).answer ≡ Ok n
+    → (t : List ℕ) → cell_of (write_read_of (write_read_of m s).memory t).memory ≡ cell_of (write_read_of m s).memory
+write_read_stable m h s n e t = write_read_same (write_read_of m s).memory t
+    (ap kept (write_read_settles m h s n e) ∙ settled_kept m h)

@@ -1,0 +1,9 @@
+pub mod Separate
+pub mod Tidy
+pub mod Changes
+pub mod Fits
+pub mod Made
+pub mod Settled
+pub mod Settling
+pub mod Meaning
+pub mod Claim

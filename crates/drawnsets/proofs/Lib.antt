@@ -1,0 +1,5 @@
+pub mod MadeLists
+pub mod MemberMade
+pub mod SetMade
+pub mod SetDemand
+pub mod SetExample

@@ -1,0 +1,132 @@
+-- T-09's sentence for sets of drawn cells; and what is handed back. Assumes nothing.
+use Prim.Native.Nat.{ℕ, ◌+◌, ◌≤◌, ◌<◌}
+use native.Mathlib.Omega.{arith}
+use mathlib.Core.Path.{◌≡◌, refl, ap, sym, ◌∙◌, subst}
+use mathlib.Core.List.{List, []}
+use mathlib.Core.Option.{Option, none, some}
+use lib.ListN.{length, get_or, take, drop, length-map, length-append, get_or-append}
+use lib.Seq.{get_or-take, length-take-le}
+use Rattle.std.specs.Prelude.{Ok}
+use Rattle.numbers.proofs.Refusing.{not_refused}
+use Rattle.cells.specs.Memory.{Memory}
+use Rattle.cells.specs.CellOf.{cell_of}
+use Rattle.cells.proofs.WritingBack.KeptCells.{kept}
+use Rattle.walks.proofs.Routes.{same_walk}
+use Rattle.walks.proofs.WalksAlike.{nodes_long}
+use Rattle.sets.specs.Members.{no_cell}
+use Rattle.sets.specs.Crossing.{crossing}
+use Rattle.sets.specs.MemberList.{member_at, cells_of, over_set}
+use Rattle.sets.specs.SetCalls.{SetCall, run_in, moved_in}
+use Rattle.sets.specs.SetClaim.{SetUnnoticed}
+use Rattle.sets.proofs.SetLists.{every_all}
+use Rattle.sets.proofs.SetMemory.{cell_at_law}
+use Rattle.sets.proofs.SetRuns.{Alike, Fit, run_alike, run_fit, run_numbers}
+use Rattle.sets.proofs.CrossingAlike.{Held, same_over, answers_alike, run_held}
+use Rattle.sets.specs.CellSet.{CellSet}
+use Rattle.sets.specs.Join.{stored}
+use Rattle.sets.specs.Leave.{first_of_area, leave_causes}
+use Rattle.sets.specs.HandBack.{copied, leaver_of, leaver, hand_causes, hand_back}
+use Rattle.sets.proofs.HandBackLaws.{copied_cell}
+use Rattle.cells.proofs.Editing.AddLaws.{done_memory}
+use Rattle.drawn.specs.Made.{Made, fitted}
+use Rattle.drawn.proofs.FrontTidy.{front_tidy}
+use Rattle.drawn.proofs.DrawnDemand.{made_lies, made_kept}
+use Rattle.drawnsets.specs.AllMade.{AllMade}
+use Rattle.drawnsets.specs.Claim.{MadeSetUnnoticed, HandedMade}
+use Rattle.drawnsets.proofs.SetMade.{first_there}
+
+-- as in sets SetDemand
+unnoticed : (ms : List Memory) → Fit (cells_of ms) → Held ms → (calls : List SetCall) → SetUnnoticed ms calls
+unnoticed ms h l calls =
+    let ds = run_in ms calls in
+    let f = moved_in ms calls in
+    let a : Alike (cells_of ms) (cells_of ds) f = run_alike ms calls h in
+    let many : length ds ≡ length ms = sym (length-map ds cell_of) ∙ a.same_count ∙ length-map ms cell_of in
+    let lies : Held ds = run_held ms calls l in
+    let over : over_set ds ≡ over_set ms = same_over ms ds l lies many (λ i li.
+    sym (nodes_long (member_at ds i) (lies i (rw many li)))
+    ∙ (rw (cell_at_law ds i, cell_at_law ms i) at (a.same_nodes i (rw length-map li)))
+    ∙ nodes_long (member_at ms i) (l i li)) in
+    record {
+      same_members = many;
+      still_there = a.inside;
+      same_member = a.same_member;
+      still_sound = (run_fit ms calls h).is_sound;
+      same_areas = a.same_areas;
+      same_walks = λ choices s st.
+          same_walk f (crossing (cells_of ms) choices s) (crossing (cells_of ds) choices (f s))
+          (a.same_walks choices s st);
+      same_answers = λ choices s st. answers_alike ms ds f l lies over choices s st (a.inside s st)
+          (same_walk f (crossing (cells_of ms) choices s) (crossing (cells_of ds) choices (f s))
+          (a.same_walks choices s st));
+      numbered = λ i li. run_numbers ms calls h i (rw length-map li);
+    }
+
+pub made_set_unnoticed : MadeSetUnnoticed
+made_set_unnoticed ms made is-stored s calls =
+    unnoticed ms
+    (record {
+      is_sound = s;
+      is_kept = every_all kept (cells_of ms) no_cell (λ i lt.
+          let inside = rw length-map at lt in
+          ap kept (cell_at_law ms i) ∙ made_kept (member_at ms i) (made i inside) (is-stored i inside));
+    })
+    (λ i lt. made_lies (member_at ms i) (made i lt).tidy)
+    calls
+
+-- ---- handed back
+
+module _ {A : Type 0} (n : ℕ) (from to : List A) (fits : n ≤ length from) where
+  copied_front : (q : ℕ) (d : A) → q < n → get_or (stored 0 (take n from) to) q d ≡ get_or from q d
+  unfolding stored
+  copied_front q d lt =
+      get_or-append (take n from) (drop (0 + length (take n from)) to) d q (omega (arith, length-take-le n from fits))
+      ∙ get_or-take n from q d lt
+
+  copied_long : n ≤ length (stored 0 (take n from) to)
+  unfolding stored
+  copied_long = omega (
+    arith,
+    length-append (take n from) (drop (0 + length (take n from)) to),
+    length-take-le n from fits,
+  )
+
+copied_made : (from m : Memory) → Made from → Made (copied from m)
+unfolding copied
+copied_made from m h =
+    let t = h.tidy in
+    let v = from.ynd in
+    record {
+      tidy = front_tidy from t _ _ _ _ _
+          (λ q lt. copied_front v.node_count from.nodes m.nodes t.nodes_lie q [] lt)
+          (λ q lt. copied_front v.junction_count from.junctions m.junctions t.junctions_lie q [] lt)
+          (copied_long v.node_count from.nodes m.nodes t.nodes_lie)
+          (copied_long v.link_count from.links m.links t.links_lie)
+          (copied_long v.junction_count from.junctions m.junctions t.junctions_lie)
+          (copied_long v.heightmap_count from.heights m.heights t.values_lie)
+          (copied_long v.ref_count from.refs m.refs t.refs_lie);
+      fits = ap fitted (copied_cell from m (record {
+        nodes_fit = t.nodes_lie;
+        links_fit = t.links_lie;
+        junctions_fit = t.junctions_lie;
+        heights_fit = t.values_lie;
+        refs_fit = t.refs_lie;
+      })) ∙ h.fits;
+    }
+
+-- an accepted call copies the member that the area names
+module _ (y : CellSet) (h : AllMade y) (area : ℕ) (lent : Memory) where
+  handed_of : (o : Option ℕ) → first_of_area y area ≡ o → hand_causes y area lent ≡ (Ok tt) → Made (leaver_of o y)
+  unfolding hand_causes leave_causes
+  handed_of (some j) f e = h j (first_there y area j f)
+  handed_of none f e = not_refused (rw f at e)
+
+  handed : (hand_back y area lent).answer ≡ (Ok tt) → Made (hand_back y area lent).memory
+  unfolding hand_back leaver
+  handed e =
+      let d = done_memory (hand_causes y area lent) lent (copied (leaver_of (first_of_area y area) y) lent) e in
+      subst Made (sym d.1)
+      (copied_made (leaver_of (first_of_area y area) y) lent (handed_of (first_of_area y area) refl d.0))
+
+pub handed_made : HandedMade
+handed_made = handed

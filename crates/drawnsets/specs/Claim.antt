@@ -1,0 +1,40 @@
+-- Every cell of a set that calls can make: what is claimed. Laws: proofs/SetMade.
+use Rattle.std.specs.Prelude.{ℕ, ◌<◌, ◌≡◌, true, List, [], length}
+use Rattle.std.specs.Prelude.{Ok}
+use Rattle.cells.specs.Memory.{Memory}
+use Rattle.cells.specs.CellOf.{cell_of}
+use Rattle.sets.specs.MemberList.{member_at, cells_of}
+use Rattle.sets.specs.CellSet.{CellSet, cell_set}
+use Rattle.sets.specs.HandBack.{hand_back}
+use Rattle.sets.specs.SetSound.{set_sound}
+use Rattle.sets.specs.SetCalls.{SetCall}
+use Rattle.sets.specs.SetClaim.{SetUnnoticed}
+use Rattle.drawn.specs.Made.{Made, stored}
+use Rattle.drawnsets.specs.SetChanges.{SetChange, run}
+use Rattle.drawnsets.specs.AllMade.{MadeList, AllMade, AllFit}
+
+-- Whatever calls a set went through, accepted or refused: if its members were made cells, they are. With the laws of
+-- drawn, each member is walked, written and edited as such a cell.
+abbrev pub MembersMade : Type 0
+MembersMade = (y : CellSet) → AllMade y → (ks : List SetChange) → AllFit ks → AllMade (run y ks)
+
+-- So from a set without members, in any five lists.
+abbrev pub SetDrawn : Type 0
+SetDrawn =
+    (nodes links junctions : List (List ℕ)) (heights : List ℕ) (refs : List (List ℕ)) (ks : List SetChange) → AllFit ks
+    → AllMade (run (cell_set [] nodes links junctions heights refs) ks)
+
+-- T-09's sentence of drawn members: for a sound set whose members are made cells with stored coordinates and flags5,
+-- every list of renumberings and write-then-read calls on any of them. `SetUnnoticedTheorem` of sets is this for
+-- cells as
+-- read.
+abbrev pub MadeSetUnnoticed : Type 0
+MadeSetUnnoticed =
+    (ms : List Memory) → MadeList ms → ((i : ℕ) → i < length ms → stored (cell_of (member_at ms i)) ≡ true)
+    → set_sound (cells_of ms) ≡ true → (calls : List SetCall) → SetUnnoticed ms calls
+
+-- What is handed back before a member leaves is a made cell, in the lists lent for it.
+abbrev pub HandedMade : Type 0
+HandedMade =
+    (y : CellSet) → AllMade y → (area : ℕ) (lent : Memory) → (hand_back y area lent).answer ≡ (Ok tt)
+    → Made (hand_back y area lent).memory

@@ -1,0 +1,3 @@
+pub mod SetChanges
+pub mod AllMade
+pub mod Claim

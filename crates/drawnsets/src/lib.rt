@@ -1,0 +1,2 @@
+// Members of a set that calls can make: definitions and laws only, no code.
+#![tactic(auto)]
