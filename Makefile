@@ -30,3 +30,4 @@ samples:
 
 -include judge/judge.mk
 include handheld.mk
+include tools/bofrashem/tool.mk

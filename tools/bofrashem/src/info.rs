@@ -1,0 +1,224 @@
+//! `info` and `check`.
+use crate::cli;
+use crate::container::VERSION;
+use crate::fault::{shown, Fault, Trouble};
+use crate::input::{Input, Opened};
+use crate::nodes::{self, Kinds};
+use crate::sound;
+use crate::Told;
+use bofrashem::{count, numbers, Counts};
+use serde_json::{json, Value};
+use std::fmt::Write;
+use std::path::Path;
+
+/// What is said of a yard's area.
+struct Area {
+    area: u32,
+    island: bool,
+    grid: [u32; 2],
+    bounds: [f32; 4],
+    file_name: Option<String>,
+    outside: usize,
+}
+
+struct Info {
+    counts: Counts,
+    kinds: Kinds,
+    area: Option<Area>,
+    /// The area that the file's name names.
+    named: Option<u32>,
+    sound: bool,
+    reason: Option<sound::Reason>,
+}
+
+pub fn info(args: &cli::Info, input: &mut Input, json: bool) -> Result<Told, Trouble> {
+    let opened = input.open(&args.yard)?;
+    let info = of(&opened)?;
+    Ok(Told::either(json, text(&opened, &info), value(&opened, &info)))
+}
+
+fn of(opened: &Opened) -> Result<Info, Trouble> {
+    let (s, cell) = (&opened.sections, &opened.cell);
+    let counts = count(&s.system, &s.graphics).map_err(|r| opened.refused(r))?;
+    let area = cell.area().map(|area| area_of(opened, area)).transpose()?;
+    let sound = cell.is_sound();
+    let reason = if sound { None } else { sound::reason(cell) };
+    let name = s.file.as_os_str().as_encoded_bytes();
+    Ok(Info {
+        counts,
+        kinds: nodes::kinds(cell),
+        area,
+        named: numbers::area_id_from_file_name(name),
+        sound,
+        reason,
+    })
+}
+
+fn area_of(opened: &Opened, area: u32) -> Result<Area, Trouble> {
+    let (grid, island) = (numbers::cell_of_area(area), numbers::is_island_area(area));
+    let bounds = numbers::cell_bounds(grid).map_err(|r| opened.refused(r))?;
+    // the proved name is that of the grid cell; an island's file is named by its own area
+    let file_name = if area < 1024 { numbers::cell_file_name(grid).ok() } else { None };
+    Ok(Area { area, island, grid, bounds, file_name, outside: nodes::outside(&opened.cell, area) })
+}
+
+fn form(opened: &Opened) -> String {
+    let s = &opened.sections;
+    let sizes = format!("{} system and {} graphics bytes", s.system.len(), s.graphics.len());
+    match s.container {
+        Some((version, stored)) => {
+            let other = if version == VERSION { "" } else { " (path node files have 1)" };
+            format!(
+                "container RSC7, version {version}{other}, {}: {sizes}",
+                if stored { "stored" } else { "deflated" }
+            )
+        }
+        None if s.graphics.is_empty() => format!("section of {} bytes", s.system.len()),
+        None => format!("two sections: {sizes}"),
+    }
+}
+
+fn text(opened: &Opened, i: &Info) -> String {
+    let mut t = format!("file       {}: {}\n", shown(&opened.sections.file), form(opened));
+    let (c, k) = (&i.counts, &i.kinds);
+    // a String takes every byte
+    let _ = writeln!(
+        t,
+        "nodes      {} ({} road, {} ped; {} posts, without links)",
+        c.nodes, k.road, k.ped, k.posts
+    );
+    let _ = writeln!(t, "links      {}", c.links);
+    let _ = writeln!(t, "junctions  {} ({} heightmap values, {} refs)", c.junctions, c.heights, c.refs);
+    match &i.area {
+        Some(a) => t += &area_text(a, i.named),
+        None => t += "area       none: no nodes",
+    }
+    if i.area.is_none() && opened.sections.system.is_empty() {
+        t += ", a yard not drawn yet";
+    }
+    if i.area.is_none() {
+        t += "\n";
+    }
+    if let Some([low, high]) = nodes::bounds(&opened.cell) {
+        let _ = writeln!(t, "bounds     {} to {} m", nodes::metres(low), nodes::metres(high));
+    }
+    t += &match (i.sound, i.reason) {
+        (true, _) => "sound      yes\n".to_string(),
+        (false, Some(reason)) => format!("sound      no: {reason}\n"),
+        (false, None) => "sound      no\n".to_string(),
+    };
+    t
+}
+
+fn area_text(a: &Area, named: Option<u32>) -> String {
+    let mut t = format!("area       {}{}", a.area, if a.island { " (an island's)" } else { "" });
+    match (&a.file_name, named) {
+        (_, Some(named)) if named != a.area => t += &format!(", but the file's name says {named}"),
+        (Some(name), None) => t += &format!(", file {name}"),
+        _ => {}
+    }
+    let [x0, y0, x1, y1] = a.bounds;
+    t += &format!("\ngrid cell  ({}, {}): x {x0} to {x1}, y {y0} to {y1} m", a.grid[0], a.grid[1]);
+    if a.outside > 0 {
+        t += &format!("; {} nodes stand outside it", a.outside);
+    }
+    t + "\n"
+}
+
+fn value(opened: &Opened, i: &Info) -> Value {
+    let (s, c, k) = (&opened.sections, &i.counts, &i.kinds);
+    let bounds = nodes::bounds(&opened.cell).map(|[low, high]| json!({ "min": low, "max": high }));
+    let [vehicle, ped] = opened.cell.kind_counts();
+    json!({
+        "file": shown(&s.file),
+        "form": if s.container.is_some() { "container" } else { "section" },
+        "container": s.container.map(|(version, stored)| json!({ "version": version, "stored": stored })),
+        "system_bytes": s.system.len(), "graphics_bytes": s.graphics.len(),
+        "nodes": c.nodes, "road_nodes": k.road, "ped_nodes": k.ped, "posts": k.posts,
+        "root_vehicle_nodes": vehicle, "root_ped_nodes": ped,
+        "links": c.links, "junctions": c.junctions, "heights": c.heights, "refs": c.refs,
+        "area": i.area.as_ref().map(|a| a.area),
+        "island": i.area.as_ref().map(|a| a.island),
+        "grid_cell": i.area.as_ref().map(|a| a.grid),
+        "grid_bounds": i.area.as_ref().map(|a| a.bounds),
+        "nodes_outside_grid_cell": i.area.as_ref().map(|a| a.outside),
+        "file_name": i.area.as_ref().and_then(|a| a.file_name.clone()),
+        "area_of_file_name": i.named,
+        "bounds": bounds,
+        "sound": i.sound,
+        "unsound_because": i.reason.map(|r| r.value()),
+    })
+}
+
+/// One file's verdict.
+enum Verdict {
+    Good,
+    Unsound(Option<sound::Reason>),
+    Bad(Fault),
+}
+
+impl Verdict {
+    fn line(&self, file: &Path) -> Option<String> {
+        let said = match self {
+            Verdict::Good => return None,
+            Verdict::Unsound(Some(reason)) => format!("unsound: {reason}"),
+            Verdict::Unsound(None) => "unsound".into(),
+            Verdict::Bad(fault) => fault.text(),
+        };
+        Some(format!("{}: {said}\n", shown(file)))
+    }
+
+    fn value(&self, file: &Path) -> Value {
+        let mut v = match self {
+            Verdict::Good => json!({ "ok": true, "kind": "sound" }),
+            Verdict::Unsound(reason) => {
+                json!({ "ok": false, "kind": "unsound", "unsound_because": reason.map(|r| r.value()) })
+            }
+            Verdict::Bad(fault) => {
+                let mut v = fault.value();
+                v["ok"] = json!(false);
+                v
+            }
+        };
+        v["file"] = json!(shown(file));
+        v
+    }
+}
+
+fn verdict(file: &Path, input: &mut Input) -> Result<Verdict, Trouble> {
+    match input.open_file(file) {
+        Ok(opened) if opened.cell.is_sound() => Ok(Verdict::Good),
+        Ok(opened) => Ok(Verdict::Unsound(sound::reason(&opened.cell))),
+        Err(trouble) if matches!(trouble.fault, Fault::Usage(_)) => Err(trouble),
+        Err(trouble) => Ok(Verdict::Bad(trouble.fault)),
+    }
+}
+
+/// Many files are worth a progress bar.
+const MANY: usize = 20;
+
+pub fn check(args: &cli::Check, input: &mut Input, json: bool, terminal: bool) -> Result<Told, Trouble> {
+    let files = &args.files;
+    let bar = if terminal && files.len() >= MANY {
+        indicatif::ProgressBar::new(files.len() as u64)
+    } else {
+        indicatif::ProgressBar::hidden()
+    };
+    let (mut lines, mut values, mut bad) = (String::new(), Vec::new(), 0);
+    for file in files {
+        let v = verdict(file, input)?;
+        if let Some(line) = v.line(file) {
+            bad += 1;
+            lines += &line;
+        }
+        if json {
+            values.push(v.value(file));
+        }
+        bar.inc(1);
+    }
+    bar.finish_and_clear();
+    let told = Told::either(json, lines, json!({ "checked": files.len(), "bad": bad, "files": values }));
+    let told =
+        if terminal { told.note(format!("{} files, {bad} refused or unsound", files.len())) } else { told };
+    Ok(told.status((bad > 0) as i32))
+}

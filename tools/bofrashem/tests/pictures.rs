@@ -1,0 +1,156 @@
+//! Pictures: their structure, not their pixels.
+mod common;
+use common::{mixed, root, rows, run, sample, Folder};
+
+/// The value of an attribute of the group with this id.
+fn counted(svg: &str, id: &str, name: &str) -> usize {
+    let group = svg.split(&format!("id=\"{id}\"")).nth(1).unwrap_or_else(|| panic!("no {id}"));
+    let head = group.split('>').next().unwrap();
+    let value = head.split(&format!("{name}=\"")).nth(1).unwrap_or_else(|| panic!("no {name} of {id}"));
+    value.split('"').next().unwrap().parse().unwrap()
+}
+
+/// How many strokes begin in the paths whose class begins so.
+fn strokes(svg: &str, class: &str) -> usize {
+    svg.split("<path ")
+        .filter(|p| p.starts_with(&format!("class=\"{class}")) && p.contains("data-w"))
+        .map(|p| p.split(" d=\"").nth(1).unwrap().split('"').next().unwrap().matches('M').count())
+        .sum()
+}
+
+/// Every tag that opens closes, in order; attributes are quoted; only XML's own entities.
+fn well_formed(svg: &str) {
+    let mut open: Vec<&str> = Vec::new();
+    for part in svg.split('<').skip(1) {
+        let (tag, _) = part.split_once('>').expect("a tag ends");
+        let name = tag.trim_start_matches('/').split([' ', '/', '\n']).next().unwrap();
+        if tag.starts_with('/') {
+            assert_eq!(open.pop(), Some(name), "<{tag}>");
+        } else {
+            assert_eq!(tag.matches('"').count() % 2, 0, "<{tag}>");
+            if !tag.ends_with('/') {
+                open.push(name);
+            }
+        }
+    }
+    assert!(open.is_empty(), "{open:?}");
+    for entity in svg.split('&').skip(1) {
+        assert!(["amp;", "lt;", "gt;", "quot;"].iter().any(|e| entity.starts_with(e)), "&{:.10}", entity);
+    }
+}
+
+#[test]
+fn the_samples_have_all_that_they_hold() {
+    let folder = Folder::new();
+    for (name, nodes, lines, links, round, steps) in [
+        ("dock", 13, 11, 22, Some("dock.round"), 5),
+        ("hall", 18, 21, 42, Some("hall.round"), 8),
+        ("yard", 5000, 9850, 19700, None, 0),
+    ] {
+        let (yard, out) = (sample(&format!("{name}.section")), folder.path(&format!("{name}.svg")));
+        let file = round.map(sample);
+        let mut words = vec!["draw", &yard, "-o", &out, "--json", "--way", "0", "4"];
+        if let Some(file) = &file {
+            words.extend(["--round", file]);
+        }
+        let v = run(&words).json();
+        assert_eq!((v["nodes"].as_u64(), v["links"].as_u64()), (Some(nodes as u64), Some(links as u64)));
+        let svg = std::fs::read_to_string(&out).unwrap();
+        well_formed(&svg);
+        assert_eq!((counted(&svg, "nodes", "data-count"), strokes(&svg, "node ")), (nodes, nodes));
+        assert_eq!(
+            (counted(&svg, "links", "data-count"), counted(&svg, "links", "data-lines")),
+            (links, lines)
+        );
+        assert_eq!(strokes(&svg, "link"), lines);
+        if steps > 0 {
+            assert_eq!(
+                (counted(&svg, "round", "data-steps"), strokes(&svg, "track round")),
+                (steps, steps - 1)
+            );
+        }
+        assert_eq!((counted(&svg, "way", "data-steps"), strokes(&svg, "track way")), (5, 4));
+    }
+}
+
+#[test]
+fn labels_thin_out() {
+    let folder = Folder::new();
+    let labels = |name: &str| {
+        let out = folder.path("a.svg");
+        run(&["draw", &sample(name), "-o", &out]);
+        counted(&std::fs::read_to_string(out).unwrap(), "labels", "data-count")
+    };
+    assert_eq!((labels("dock.section"), labels("hall.section")), (13, 18));
+    assert!((50..500).contains(&labels("yard.section")));
+}
+
+#[test]
+fn every_kind_of_node_and_link_is_told_apart() {
+    let folder = Folder::new();
+    let file = folder.file("a&b<c>\"d\".section", &mixed().write().unwrap());
+    let out = folder.path("mixed.svg");
+    run(&["draw", &file, "-o", &out, "--near", "-3300", "-250", "12"]);
+    let svg = std::fs::read_to_string(&out).unwrap();
+    well_formed(&svg);
+    assert!(svg.contains("a&amp;b&lt;c&gt;&quot;d&quot;.section"));
+    let of = |class: &str| strokes(&svg, class);
+    // five road nodes, one of them a post; a ped node, which is a post
+    assert_eq!(
+        [of("node road\""), of("node road post"), of("node ped\""), of("node ped post")],
+        [4, 1, 0, 1]
+    );
+    assert_eq!([of("link\""), of("link one")], [2, 1]);
+    assert_eq!([of("left"), of("lost")], [2, 2]);
+    assert_eq!((counted(&svg, "near", "data-count"), counted(&svg, "junctions", "data-count")), (1, 1));
+}
+
+#[test]
+fn a_page_stands_alone() {
+    let folder = Folder::new();
+    let out = folder.path("hall.html");
+    run(&["draw", &sample("hall.section"), "--round", &sample("hall.round"), "-o", &out]);
+    let page = std::fs::read_to_string(&out).unwrap();
+    assert!(page.starts_with("<!DOCTYPE html>"));
+    for outside in ["src=", "href=", "@import", "url(http", "https://"] {
+        assert!(!page.contains(outside), "{outside}");
+    }
+    assert_eq!(page.matches("http://").count(), page.matches("http://www.w3.org/2000/svg").count());
+    assert!(!page.contains("@DATA@") && !page.contains("@PICTURE@") && !page.contains("@SCRIPT@"));
+    let data = page.split("const yard = ").nth(1).unwrap().split(";</script>").next().unwrap();
+    let v: serde_json::Value = serde_json::from_str(data).unwrap();
+    assert_eq!(v["nodes"].as_array().map(Vec::len), Some(18));
+    assert_eq!(v["tracks"][0]["places"].to_string(), "[0,1,2,3,4,16,17,8]");
+    assert_eq!(counted(&page, "nodes", "data-count"), 18);
+}
+
+#[test]
+fn an_empty_yard_and_a_large_one_are_drawn() {
+    let folder = Folder::new();
+    for (name, bytes) in
+        [("empty", Vec::new()), ("one", rows(1).write().unwrap()), ("large", rows(60_000).write().unwrap())]
+    {
+        let (file, svg, html) = (folder.file(name, &bytes), folder.path("a.svg"), folder.path("a.html"));
+        assert_eq!(run(&["draw", &file, "-o", &svg]).status, 0, "{name}");
+        assert_eq!(run(&["draw", &file, "-o", &html]).status, 0, "{name}");
+        well_formed(&std::fs::read_to_string(&svg).unwrap());
+    }
+}
+
+/// docs/pictures are of the samples as they are: their page says how each was made.
+#[test]
+fn the_kept_pictures_are_there() {
+    for name in ["dock", "hall", "yard"] {
+        let png = std::fs::read(root().join(format!("docs/pictures/{name}.png"))).unwrap();
+        assert!(png.starts_with(b"\x89PNG") && png.len() < 300_000, "{name}: {}", png.len());
+    }
+}
+
+/// Writes the picture of every kind of mark, to be looked at: BOFRASHEM_LOOK names the file.
+#[test]
+fn to_be_looked_at() {
+    let Ok(out) = std::env::var("BOFRASHEM_LOOK") else { return };
+    let folder = Folder::new();
+    let file = folder.file("mixed.section", &mixed().write().unwrap());
+    assert_eq!(run(&["draw", &file, "-o", &out, "--near", "-3280", "-250", "14"]).status, 0);
+}

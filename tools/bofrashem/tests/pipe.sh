@@ -1,0 +1,126 @@
+#!/usr/bin/env bash
+# The built program through pipes and with files that the system refuses: tests/pipe.sh BOFRASHEM SAMPLES [PRINTROUND]
+set -uo pipefail
+tool=$1 samples=$2 printround=${3:-}
+folder=$(mktemp -d)
+trap 'chmod -R u+rwx "$folder"; rm -rf "$folder"' EXIT
+passed=0 failed=0
+
+# is WHAT EXPECTED GOT
+is() {
+    if [ "$2" = "$3" ]; then passed=$((passed + 1)); return; fi
+    failed=$((failed + 1))
+    echo "$1: expected '$2', got '$3'"
+}
+has() {
+    case $3 in *"$2"*) passed=$((passed + 1)) ;; *) failed=$((failed + 1)); echo "$1: no '$2' in '$3'" ;; esac
+}
+
+# standard input, in both forms
+has 'a pipe' 'nodes      13' "$("$tool" info - <"$samples/dock.section")"
+piped=$("$tool" convert "$samples/hall.section" - --form container | "$tool" info -)
+has 'a container in a pipe' 'container RSC7' "$piped"
+"$tool" convert "$samples/hall.section" - | cmp -s - "$samples/hall.section"
+is 'a section through a pipe' 0 $?
+has 'a round in a pipe' 'end done' "$("$tool" round make 6 0 1 1 1 -o - | "$tool" print "$samples/dock.section" -)"
+
+# a reader that goes away
+"$tool" draw "$samples/yard.section" -o - | head -c 100 >"$folder/head" 2>"$folder/err"
+is 'a reader that goes away' '0 ' "${PIPESTATUS[0]} $(cat "$folder/err")"
+"$tool" draw "$samples/yard.section" -o - >/dev/full 2>"$folder/err"
+is 'a full disk' 1 $?
+has 'a full disk, in words' "can't be written" "$(cat "$folder/err")"
+
+# exit status and words
+status() { "$@" >"$folder/out" 2>"$folder/err"; echo $?; }
+is 'accepted' 0 "$(status "$tool" info "$samples/dock.section")"
+is 'no arguments' 2 "$(status "$tool")"
+is 'no such command' 2 "$(status "$tool" fly)"
+is 'a folder' 1 "$(status "$tool" info "$folder")"
+has 'a folder, in words' 'Is a directory' "$(cat "$folder/err")"
+is 'an empty file' 0 "$(status "$tool" info /dev/null)"
+has 'an empty file, in words' 'not drawn yet' "$(cat "$folder/out")"
+head -c 65537 /dev/zero >"$folder/long"
+is 'print of 65,537 bytes' 1 "$(status "$tool" print "$folder/long" "$samples/dock.round")"
+is 'print of 65,537 bytes, its line' 'bad input' "$(cat "$folder/out")"
+head -c 100 "$samples/dock.section" >"$folder/short"
+is 'too short' 1 "$(status "$tool" info "$folder/short")"
+is 'too short, in words' "bofrashem: $folder/short: refused 1 0: 1 to 111 system bytes" "$(cat "$folder/err")"
+is 'too short, in JSON' 1 "$(status "$tool" --json info "$folder/short")"
+has 'too short, number in JSON' '"number":1,"place":0' "$(cat "$folder/err")"
+"$tool" convert "$samples/hall.section" "$folder/hall.ynd" >/dev/null
+head -c 200 "$folder/hall.ynd" >"$folder/cut.ynd"
+is 'a truncated container' 1 "$(status "$tool" info "$folder/cut.ynd")"
+has 'a truncated container, in words' 'container: truncated' "$(cat "$folder/err")"
+is 'check' 1 "$(status "$tool" check "$samples/dock.section" "$folder/cut.ynd" "$folder/short")"
+is 'check, its lines' 2 "$(wc -l <"$folder/out")"
+
+# no permission: as somebody else, where this is root
+cp "$samples/dock.section" "$folder/mine"
+chmod 000 "$folder/mine"
+as=()
+if [ "$(id -u)" = 0 ]; then
+    chmod 711 "$folder"
+    cp "$tool" "$folder/tool"
+    command -v setpriv >/dev/null && as=(setpriv --reuid=65534 --regid=65534 --clear-groups "$folder/tool") || as=()
+else
+    as=("$tool")
+fi
+if [ ${#as[@]} -gt 0 ]; then
+    is 'no permission' 1 "$(status "${as[@]}" info "$folder/mine")"
+    has 'no permission, in words' 'Permission denied' "$(cat "$folder/err")"
+fi
+
+# many files on no terminal: no bar, and a file name that is no UTF-8
+name=$(printf '%s/f\xff' "$folder")
+cp "$samples/dock.section" "$name"
+many=("$name")
+for _ in $(seq 40); do many+=("$samples/dock.section"); done
+is 'many files' 0 "$(status "$tool" check "${many[@]}")"
+is 'many files say nothing' 0 "$(cat "$folder/out" "$folder/err" | wc -c)"
+
+# one A4 page, if what draws it is there; words if not
+pdf=("$tool" print "$samples/hall.section" "$samples/hall.round" --pdf "$folder/hall.pdf")
+if command -v rsvg-convert >/dev/null; then
+    is 'a page' 0 "$(status "${pdf[@]}")"
+    is 'a page is a PDF' '%PDF' "$(head -c 4 "$folder/hall.pdf")"
+    is 'one page' 1 "$(grep -ac '/Type /Page$\|/Type /Page[^s]' "$folder/hall.pdf")"
+    is 'a picture' 0 "$(status "$tool" draw "$samples/dock.section" -o "$folder/dock.png")"
+fi
+is 'without rsvg-convert' 1 "$(PATH=/nowhere status "${pdf[@]}")"
+
+# the man page and the completions
+if command -v groff >/dev/null; then
+    is 'the man page' '' "$("$tool" man | groff -man -ww -z 2>&1)"
+fi
+"$tool" completions bash | bash -n
+is 'completions' 0 $?
+
+# T-13: the proved program beside it, where it is built
+same() {
+    local n length
+    n=$(stat -L -c %s -- "$1")
+    length=$(printf '\\x%02x' $((n & 255)) $((n >> 8 & 255)) $((n >> 16 & 255)) $((n >> 24 & 255)))
+    { printf "$length"; cat -- "$1" "$2"; } | "$printround" >"$folder/proved"
+    "$tool" print "$1" "$2" >"$folder/ours" 2>/dev/null
+    cmp -s "$folder/proved" "$folder/ours"
+    is "print of $1 $2" 0 $?
+}
+byte() { printf "\\$(printf %03o "$1")"; }
+if [ -x "$printround" ]; then
+    for yard in "$samples"/*.section "$folder/short" "$folder/long" /dev/null; do
+        for round in "$samples"/*.round /dev/null "$folder/short"; do same "$yard" "$round"; done
+    done
+    for k in $(seq 60); do
+        # one byte of the yard or of the round is another
+        cp "$samples/hall.section" "$folder/y"
+        cp "$samples/hall.round" "$folder/r"
+        byte $((k * 37 % 256)) | dd of="$folder/y" bs=1 seek=$((k * 53 % 2304)) conv=notrunc status=none
+        [ $((k % 3)) = 0 ] && byte $((k * 11 % 256)) | dd of="$folder/r" bs=1 seek=$((k % 18)) conv=notrunc status=none
+        same "$folder/y" "$folder/r"
+    done
+else
+    echo 'not compared with printround: it is not built'
+fi
+echo "pipe.sh: $passed passed, $failed failed"
+[ "$failed" = 0 ]
