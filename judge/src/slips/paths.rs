@@ -9,7 +9,7 @@ pub fn shortest(m: &Memory, from: usize, to: usize, lists: &Lists, right: Answer
     let links = right.as_ref().map_or(0, |r| r.1);
     match () {
         _ if on(Slip::FewestLinks) => right.map(|r| (of_fewest(m, from, to), r.1)),
-        _ if on(Slip::LeavingLink) => right.or_else(|e| staying(m, from, to).filter(|_| e == Refused(17, 0)).ok_or(e)),
+        _ if on(Slip::LeavingLink) && right == Err(Refused(17, 0)) => staying(m, from, to).map_or(right, Ok),
         _ if on(Slip::SelfUnreachable) && from == to => right.and(Err(Refused(17, 0))),
         _ if on(Slip::SumWithoutLast) && links > 0 => right.map(|(d, n)| (d - last(m, lists, n), n)),
         _ => right,
