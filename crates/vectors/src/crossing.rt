@@ -53,6 +53,42 @@ fn link_at(b: &[u8]) -> LinkWords {
     [u16_at(b, 0), byte_at(b, 2) as u16, 0, 0]
 }
 
+// A cell of nodes and links joins; whether it did.
+fn join_cell(
+    set: &mut Set,
+    ynd: Ynd,
+    nodes: &[NodeWords],
+    links: &[LinkWords],
+    sizes: Counts,
+) -> bool {
+    let mut junctions = [[0u32; 6]; 1];
+    let mut heights = [0u8; 1];
+    let mut refs = [[0u16; 4]; 1];
+    let joined = join(
+        set.count,
+        &mut set.members,
+        &mut set.nodes,
+        &mut set.links,
+        &mut junctions,
+        &mut heights,
+        &mut refs,
+        ynd,
+        nodes,
+        links,
+        &[],
+        &[],
+        &[],
+        sizes,
+    );
+    match joined {
+        Ok(count) => {
+            set.count = count;
+            true
+        }
+        Err(_) => false,
+    }
+}
+
 // A cell joins.
 //   0 its area, 2 how many nodes, 3 how many links; then its nodes, four bytes each, and its links, three bytes each.
 fn joins(set: &mut Set, b: &[u8]) -> bool {
@@ -75,32 +111,7 @@ fn joins(set: &mut Set, b: &[u8]) -> bool {
         links: byte_at(b, 3) as usize,
         ..Counts::default()
     };
-    let mut junctions = [[0u32; 6]; 1];
-    let mut heights = [0u8; 1];
-    let mut refs = [[0u16; 4]; 1];
-    let joined = join(
-        set.count,
-        &mut set.members,
-        &mut set.nodes,
-        &mut set.links,
-        &mut junctions,
-        &mut heights,
-        &mut refs,
-        ynd,
-        &nodes,
-        &links,
-        &[],
-        &[],
-        &[],
-        sizes,
-    );
-    match joined {
-        Ok(count) => {
-            set.count = count;
-            true
-        }
-        Err(_) => false,
-    }
+    join_cell(set, ynd, &nodes, &links, sizes)
 }
 
 fn cell_length(b: &[u8]) -> usize {
