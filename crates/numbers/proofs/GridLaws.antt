@@ -6,7 +6,9 @@ use lib.Ieee.{Float, nan, inf, fin, binary32, up, down, fits, size, nearest, odd
 use lib.Ieee.Fits.{down_pos}
 use lib.Ieee.Exact.{round_exact}
 use lib.Ieee.Order.{round_mono}
-use Rattle.numbers.specs.Grid.{grid_floor, in_grid}
+use Rattle.std.specs.Prelude.{Ok, Err}
+use Rattle.numbers.specs.Grid.{grid_floor, in_grid, area_id}
+use Rattle.numbers.specs.declared.refusal.Refusal.TheVariants.{NoSuchPlace}
 use Rattle.std.proofs.lemmas.Bool.{and_parts, cases_lt, ltb-true}
 use Rattle.numbers.proofs.Units.{Units, units_of}
 use Rattle.numbers.proofs.Cuts.{cut, cut_of_value, lt_or_eq}
@@ -93,3 +95,14 @@ cell_is (fin false m e) t = limit_twice (m * up e / (down e * 512)) ∙ sym (ap 
 pub in_grid_law : (cx cy : ℕ) → in_grid cx cy ≡ true → (cx < 32) × (cy < 32)
 in_grid_law cx cy e =
     let p = and_parts _ _ e in (ltb-true _ _ p.0, ltb-true _ _ p.1)
+
+-- and an area is below 1,024
+pub area_small : (cx cy n : ℕ) → area_id cx cy ≡ Ok n → n < 1024
+unfolding area_id
+area_small cx cy n h = go (in_grid cx cy) refl h
+  where
+    go : (b : Bool) → in_grid cx cy ≡ b → cond b (Ok (cy * 32 + cx)) (Err NoSuchPlace) ≡ Ok n → n < 1024
+    go true i e =
+        let same : cy * 32 + cx ≡ n = cc in
+        omega (arith, in_grid_law cx cy i, same)
+    go false i e = cc

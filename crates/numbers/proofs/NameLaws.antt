@@ -1,9 +1,9 @@
 -- The definitions of `specs/Names.antt`, as the code has them. Assumes nothing.
-use Rattle.std.proofs.Common.{◌≡◌, ℕ, zero, suc, ◌+◌, ◌-◌, ◌*◌, ◌^◌, ◌<◌, ◌≤◌, Bool, true, false, cond, ◌&&◌, eqb, List, [], ◌∷◌, length, get_or, take, drop, sym, refl, ap, ◌∙◌, le_of_suc-le-suc, zero-lt-suc, not-suc-le-zero, arith, lit<, inl, inr, eq-eqb, ne_eqb, le-leb}
+use Rattle.std.proofs.Common.{◌≡◌, ℕ, zero, suc, ◌+◌, ◌-◌, ◌*◌, ◌^◌, ◌<◌, ◌≤◌, Bool, true, false, cond, ◌&&◌, eqb, List, [], ◌∷◌, length, get_or, take, drop, sym, refl, ap, ◌∙◌, le_of_suc-le-suc, zero-lt-suc, not-suc-le-zero, arith, lit<, inl, inr, eq-eqb, ne_eqb, le-leb, lt-ltb, le-ltb}
 use borrow.Author.Tests.{lt-leb, eqb-true}
 use lib.Seq.{drop-cons}
 use native.Mathlib.Numerals.{add-one}
-use Rattle.std.specs.Prelude.{Option, Some, None, Result, Ok, Err}
+use Rattle.std.specs.Prelude.{Option, Some, None, Result, Ok, Err, decimal, nat_lt, ◌/◌, ◌%◌, ◌++◌}
 use Rattle.std.specs.Option.{SomeIff}
 use Rattle.std.specs.Result.{OkIff, result_ok}
 use Rattle.std.specs.Char.{digit_value, to_ascii_lowercase}
@@ -12,10 +12,55 @@ use Rattle.std.specs.Str.Parse.{AllDigits, IsNumeral, digits_value, digits_value
 use Rattle.std.proofs.lemmas.List.{take_rest}
 use Rattle.std.proofs.lemmas.Str.{IsUtf8-from_ascii, digit_value_digit}
 use Rattle.std.proofs.lemmas.Str.Parse.{digit_from_value}
-use Rattle.std.proofs.lemmas.Fmt.{IsAscii-from_digits}
+use Rattle.std.proofs.lemmas.Fmt.{IsAscii-from_digits, decimal_digit, decimal_step}
 use Rattle.std.proofs.lemmas.Bool.Decides.{nat_tests}
 use Rattle.std.proofs.lemmas.Bool.{and_right, cases_lt}
-use Rattle.numbers.specs.Names.{nodes, ynd, slash, base_from, base_of, lower, starts, digits_from, digits_of, parsed, area_of_base}
+use Rattle.numbers.specs.Names.{nodes, ynd, name_of_area, slash, base_from, base_of, lower, starts, digits_from, digits_of, parsed, area_of_base}
+
+-- ---- a number of up to four digits
+abbrev pub four : ℕ → List ℕ
+four n =
+    cond (nat_lt n 10) ((48 + n % 10) ∷ [])
+    (cond (nat_lt n 100) ((48 + n / 10 % 10) ∷ (48 + n % 10) ∷ [])
+    (cond (nat_lt n 1000) ((48 + n / 100 % 10) ∷ (48 + n / 10 % 10) ∷ (48 + n % 10) ∷ [])
+    ((48 + n / 1000 % 10) ∷ (48 + n / 100 % 10) ∷ (48 + n / 10 % 10) ∷ (48 + n % 10) ∷ [])))
+
+one_digit : (n m : ℕ) → n ≡ m → m < 10 → decimal n ≡ (48 + m % 10) ∷ []
+one_digit n m e h = decimal_digit n (omega (arith, e)) ∙ ap (λ (d : ℕ). d ∷ []) (omega (arith, e))
+
+-- one digit more, m being what stands before it
+more : (n m : ℕ) (s : List ℕ) → 10 ≤ n → n < 10000 → m ≡ n / 10 → decimal m ≡ s → decimal n ≡ s ++ ((48 + n % 10) ∷ [])
+more n m s l h e d =
+    decimal_step n l (omega arith)
+    ∙ ap (λ (k : ℕ). decimal k ++ ((48 + n % 10) ∷ [])) (sym e)
+    ∙ ap (λ (t : List ℕ). t ++ ((48 + n % 10) ∷ [])) d
+
+decimal_four : (n : ℕ) → n < 10000 → decimal n ≡ four n
+decimal_four n h = elim (cases_lt n 10) [
+  | inl a ↦ rw (lt-ltb n 10 a) (one_digit n n refl a)
+  | inr a ↦ elim (cases_lt n 100) [
+    | inl b ↦
+        rw (le-ltb n 10 a, lt-ltb n 100 b)
+        (more n (n / 10) _ a h refl (one_digit (n / 10) (n / 10) refl (omega arith)))
+    | inr b ↦ elim (cases_lt n 1000) [
+      | inl c ↦
+          rw (le-ltb n 10 a, le-ltb n 100 b, lt-ltb n 1000 c)
+          (more n (n / 10) _ a h refl
+          (more (n / 10) (n / 100) _ (omega arith) (omega arith) (omega arith)
+          (one_digit (n / 100) (n / 100) refl (omega arith))))
+      | inr c ↦
+          rw (le-ltb n 10 a, le-ltb n 100 b, le-ltb n 1000 c)
+          (more n (n / 10) _ a h refl
+          (more (n / 10) (n / 100) _ (omega arith) (omega arith) (omega arith)
+          (more (n / 100) (n / 1000) _ (omega arith) (omega arith) (omega arith)
+          (one_digit (n / 1000) (n / 1000) refl (omega arith)))))
+    ]
+  ]
+]
+
+pub area_name : (n : ℕ) → n < 1024 → name_of_area n ≡ nodes ++ four n ++ ynd
+unfolding name_of_area
+area_name n h = rw (decimal_four n (omega arith)) refl
 
 -- ---- the base: what stands after the last slash
 no_slash : (best s : List ℕ) → ((k : ℕ) → k < length s → slash (get_or s k 0) ≡ false) → base_from best s ≡ best

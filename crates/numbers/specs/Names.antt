@@ -1,6 +1,6 @@
 -- Section 6: the names of cell files, over bytes.
-use Rattle.std.specs.Prelude.{ℕ, ◌+◌, ◌-◌, ◌*◌, ◌/◌, ◌%◌, Bool, true, false, cond, ◌&&◌, ◌||◌, List, [], ◌∷◌, ◌++◌}
-use Rattle.std.specs.Prelude.{length, take, drop, replicate, ◌==◌, nat_le, nat_lt, Option, Some, None, Result, Ok, Err}
+use Rattle.std.specs.Prelude.{ℕ, ◌+◌, ◌-◌, ◌*◌, Bool, true, false, cond, ◌&&◌, ◌||◌, List, [], ◌∷◌, ◌++◌}
+use Rattle.std.specs.Prelude.{length, take, drop, replicate, decimal, ◌==◌, nat_le, Option, Some, None, Result, Ok, Err}
 use Rattle.numbers.specs.Grid.{area_id}
 use Rattle.numbers.specs.declared.names.FileName.{FileName}
 use Rattle.numbers.specs.declared.refusal.Refusal.{Refusal}
@@ -13,19 +13,8 @@ abbrev pub ynd : List ℕ
 ynd = 46 ∷ 121 ∷ 110 ∷ 100 ∷ []
 
 -- ---- Section 6: `cell_file_name` gives its bytes and their count by value
--- A number below 10,000 in decimal, with no leading zero. A cell's area is below 1,024.
-abbrev pub digit : ℕ → ℕ
-digit n = 48 + n % 10
-
-unfoldable pub decimal : ℕ → List ℕ
-decimal n =
-    cond (nat_lt n 10) (digit n ∷ [])
-    (cond (nat_lt n 100) (digit (n / 10) ∷ digit n ∷ [])
-    (cond (nat_lt n 1000) (digit (n / 100) ∷ digit (n / 10) ∷ digit n ∷ [])
-    (digit (n / 1000) ∷ digit (n / 100) ∷ digit (n / 10) ∷ digit n ∷ [])))
-
+-- The area in decimal, as std prints a number.
 unfoldable pub name_of_area : ℕ → List ℕ
-unfolding decimal
 name_of_area n = nodes ++ decimal n ++ ynd
 
 -- The bytes stand in an array of 13, zero beyond the name.

@@ -33,6 +33,14 @@ place_of_lent lent.List = 8
 place_of_lent lent.PathScratch = 9
 place_of_lent lent.Members = 10
 
+-- the list that an array is read into
+abbrev pub lent_of : Array → Lent
+lent_of array.Nodes = lent.Nodes
+lent_of array.Links = lent.Links
+lent_of array.Junctions = lent.Junctions
+lent_of array.Heightmap = lent.Heightmap
+lent_of array.Refs = lent.Refs
+
 abbrev pub number_of : Refusal → ℕ
 number_of refused.SystemTooShort = 1
 number_of refused.SystemTooLong = 2

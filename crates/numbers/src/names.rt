@@ -1,6 +1,6 @@
 // The names of cell files (document 01, section 6): nodes, the area in decimal, .ynd.
-ghost use Rattle.std.specs.Prelude.{◌≡◌};
-ghost use Rattle.numbers.specs.Names.{digit, named, name_of_area, cell_file_name, slash, base_of, starts, parsed};
+ghost use Rattle.std.specs.Prelude.{◌≡◌, ◌+◌, ◌%◌, ◌<◌};
+ghost use Rattle.numbers.specs.Names.{named, name_of_area, cell_file_name, slash, base_of, starts, parsed};
 ghost use Rattle.numbers.specs.Names.{area_of_base, area_id_from_file_name};
 
 use crate::grid::area_id;
@@ -15,14 +15,15 @@ pub struct FileName {
 
 // The last decimal digit of n.
 fn digit_of(n: u32) -> u8
-    ensures { result ≡ digit n }
+    ensures { result ≡ 48 + n % 10 }
 {
     b'0' + (n % 10) as u8
 }
 
-// The file name of an area below 10,000.
-#[tactic(auto, unfolding(crate::specs::Names::decimal, crate::specs::Names::name_of_area, crate::specs::Names::named))]
+// The file name of an area, which is below 1,024.
+#[tactic(auto, unfolding(crate::specs::Names::named), using(crate::proofs::NameLaws::area_name))]
 fn name_of_area(area: u32) -> FileName
+    requires { area < 1024 }
     ensures { result ≡ named (name_of_area area) }
 {
     let digits = [
@@ -49,7 +50,7 @@ fn name_of_area(area: u32) -> FileName
 }
 
 // The file name of a cell.
-#[tactic(auto, unfolding(crate::specs::Names::name_for))]
+#[tactic(auto, unfolding(crate::specs::Names::name_for), using(crate::proofs::GridLaws::area_small))]
 pub fn cell_file_name(cx: u32, cy: u32) -> Result<FileName, Refusal>
     ensures { result ≡ cell_file_name cx cy }
 {

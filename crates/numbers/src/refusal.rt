@@ -1,6 +1,6 @@
 // Why a call is refused: document 01's causes of refusal, in the order of their numbers.
 ghost use Rattle.std.specs.Prelude.{◌≡◌};
-ghost use Rattle.numbers.specs.Refusals.{place_of_array, place_of_lent, number_of, place_of};
+ghost use Rattle.numbers.specs.Refusals.{place_of_array, place_of_lent, lent_of, number_of, place_of};
 
 // The arrays of a file.
 #[derive(Clone, Copy, PartialEq, Eq, Debug)]
@@ -99,6 +99,21 @@ impl Lent {
             Lent::List => 8,
             Lent::PathScratch => 9,
             Lent::Members => 10,
+        }
+    }
+}
+
+// The list that an array is read into.
+impl From<Array> for Lent {
+    ghost from_gives = { λ a l. l ≡ lent_of a };
+
+    fn from(array: Array) -> Lent {
+        match array {
+            Array::Nodes => Lent::Nodes,
+            Array::Links => Lent::Links,
+            Array::Junctions => Lent::Junctions,
+            Array::Heightmap => Lent::Heightmap,
+            Array::Refs => Lent::Refs,
         }
     }
 }

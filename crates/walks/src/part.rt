@@ -9,7 +9,7 @@ use cells::range::{link_count, link_start};
 
 // The link that a byte chooses at a node.
 #[tactic(auto, unfolding(crate::specs::Parts::chosen))]
-pub(crate) fn chosen(links: &[LinkWords], w: NodeWords, choice: u8) -> Option<LinkWords>
+pub fn chosen(links: &[LinkWords], w: NodeWords, choice: u8) -> Option<LinkWords>
     ensures { result ≡ chosen links.now w choice }
 {
     if link_count(w) <= choice {
