@@ -18,11 +18,13 @@ use Rattle.sets.specs.Crossing.{crossing}
 use Rattle.sets.specs.MemberList.{member_at, cells_of, over_set}
 use Rattle.sets.specs.SetCalls.{SetCall, run_in, moved_in}
 use Rattle.sets.specs.SetClaim.{SetUnnoticed}
+use Rattle.sets.proofs.CellSetLaws.{members_many}
+use Rattle.sets.proofs.SetCallsUnnoticed.{in_six_lists}
 use Rattle.sets.proofs.SetLists.{every_all}
 use Rattle.sets.proofs.SetMemory.{cell_at_law}
 use Rattle.sets.proofs.SetRuns.{Alike, Fit, run_alike, run_fit, run_numbers}
 use Rattle.sets.proofs.CrossingAlike.{Held, same_over, answers_alike, run_held}
-use Rattle.sets.specs.CellSet.{CellSet}
+use Rattle.sets.specs.CellSet.{CellSet, members_of}
 use Rattle.sets.specs.Join.{stored}
 use Rattle.sets.specs.Leave.{first_of_area, leave_causes}
 use Rattle.sets.specs.HandBack.{copied, leaver_of, leaver, hand_causes, hand_back}
@@ -32,7 +34,7 @@ use Rattle.drawn.specs.Made.{Made, fitted}
 use Rattle.drawn.proofs.FrontTidy.{front_tidy}
 use Rattle.drawn.proofs.DrawnDemand.{made_lies, made_kept}
 use Rattle.drawnsets.specs.AllMade.{AllMade}
-use Rattle.drawnsets.specs.Claim.{MadeSetUnnoticed, HandedMade}
+use Rattle.drawnsets.specs.Claim.{MadeSetUnnoticed, MadeCallsUnnoticed, HandedMade}
 use Rattle.drawnsets.proofs.SetMade.{first_there}
 
 -- as in sets SetDemand
@@ -73,6 +75,12 @@ made_set_unnoticed ms made is-stored s calls =
     })
     (λ i lt. made_lies (member_at ms i) (made i lt).tidy)
     calls
+
+-- of the six lists that hold the members
+pub made_calls_unnoticed : MadeCallsUnnoticed
+made_calls_unnoticed y made is-stored s calls =
+    in_six_lists y calls s
+    (made_set_unnoticed (members_of y) made (λ i li. is-stored i (rw members_many at li)) s calls)
 
 -- ---- handed back
 

@@ -9,6 +9,8 @@ use Rattle.sets.specs.HandBack.{hand_back}
 use Rattle.sets.specs.SetSound.{set_sound}
 use Rattle.sets.specs.SetCalls.{SetCall}
 use Rattle.sets.specs.SetClaim.{SetUnnoticed}
+use Rattle.sets.specs.SetCallsClaim.{cells_in, CallsUnnoticed}
+use Rattle.sets.specs.SetStored.{member_in}
 use Rattle.drawn.specs.Made.{Made, stored}
 use Rattle.drawnsets.specs.SetChanges.{SetChange, run}
 use Rattle.drawnsets.specs.AllMade.{MadeList, AllMade, AllFit}
@@ -26,12 +28,18 @@ SetDrawn =
 
 -- T-09's sentence of drawn members: for a sound set whose members are made cells with stored coordinates and flags5,
 -- every list of renumberings and write-then-read calls on any of them. `SetUnnoticedTheorem` of sets is this for
--- cells as
--- read.
+-- cells as read.
 abbrev pub MadeSetUnnoticed : Type 0
 MadeSetUnnoticed =
     (ms : List Memory) → MadeList ms → ((i : ℕ) → i < length ms → stored (cell_of (member_at ms i)) ≡ true)
     → set_sound (cells_of ms) ≡ true → (calls : List SetCall) → SetUnnoticed ms calls
+
+-- The same of the calls on the six lists that hold such a set: `CallsUnnoticedTheorem` of sets, for drawn members. Of a
+-- set that its calls refuse it holds too: they change nothing.
+abbrev pub MadeCallsUnnoticed : Type 0
+MadeCallsUnnoticed =
+    (y : CellSet) → AllMade y → ((i : ℕ) → i < length y.members → stored (cell_of (member_in y i)) ≡ true)
+    → set_sound (cells_in y) ≡ true → (calls : List SetCall) → CallsUnnoticed y calls
 
 -- What is handed back before a member leaves is a made cell, in the lists lent for it.
 abbrev pub HandedMade : Type 0

@@ -108,8 +108,7 @@ any_as y u (k ∷ ks) i =
     ∙ ap (λ (ms : List Memory). (eqb i k.member && renumbers_in (members_of y) k) || any_renumbers_in ms ks i)
     a.same_members
 
-module _ (y : CellSet) (u : Usable y) (read : (i : ℕ) → i < length y.members → CellAsRead (member_in y i))
-    (s : set_sound (cells_in y) ≡ true) (ks : List SetCall) where
+module _ (y : CellSet) (u : Usable y) (ks : List SetCall) (claim : SetUnnoticed (members_of y) ks) where
   abbrev ms : List Memory
   ms = members_of y
 
@@ -127,9 +126,6 @@ module _ (y : CellSet) (u : Usable y) (read : (i : ℕ) → i < length y.members
       → P (members_of z) (moved_on y ks)
   both P p = subst (λ (ds : List Memory). P ds (moved_on y ks)) (sym after.same_members)
       (subst (λ (f : Location → Location). P (run_in ms ks) f) (sym moves) p)
-
-  claim : SetUnnoticed ms ks
-  claim = set_unnoticed ms (λ i li. read i (rw members_many at li)) s ks
 
   walks_same : (choices : List ℕ) (q : Location) → Stands (cells_in y) q
       → SameWalk (moved_on y ks) (crossing (cells_in y) choices q) (crossing (cells_in z) choices (moved_on y ks q))
@@ -281,10 +277,16 @@ module _ (y : CellSet) (cause : Refusal) (no : decided (set_causes y) ≡ Err ca
           unmoved (λ w f. (cross_member w choices (f q) later).answer ≡ (cross_member y choices q visited).answer)
           (answers_idle choices q visited later e)
 
--- the sentence, of every set whose members are sound and each a cell as read
-pub calls_unnoticed : CallsUnnoticedTheorem
-calls_unnoticed y read s ks = go (decided (set_causes y)) refl
+-- what holds of the members of a sound set holds of the six lists
+pub in_six_lists : (y : CellSet) (ks : List SetCall) → set_sound (cells_in y) ≡ true → SetUnnoticed (members_of y) ks
+    → CallsUnnoticed y ks
+in_six_lists y ks s claim = go (decided (set_causes y)) refl
   where
     go : (a : Answer) → decided (set_causes y) ≡ a → CallsUnnoticed y ks
-    go (Ok tt) e = used_unnoticed y (usable y e) read s ks
+    go (Ok tt) e = used_unnoticed y (usable y e) ks claim
     go (Err cause) e = idle_unnoticed y cause e s ks
+
+-- the sentence, of every set whose members are sound and each a cell as read
+pub calls_unnoticed : CallsUnnoticedTheorem
+calls_unnoticed y read s ks =
+    in_six_lists y ks s (set_unnoticed (members_of y) (λ i li. read i (rw members_many at li)) s ks)
