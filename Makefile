@@ -1,7 +1,7 @@
 # Two commands do everything on a machine with the kit (`rt`): make run, make test.
 CRATE ?=
 
-.PHONY: run test check fmt samples
+.PHONY: run test check fmt samples believe
 .DEFAULT_GOAL := run
 
 # What the programs say of the sample yards, a printed round, and where the length table comes from.
@@ -23,6 +23,10 @@ check:
 
 fmt:
 	@for c in crates/*/; do (cd $$c && rt fmt) || exit 1; done
+
+# Which definitions a reader must believe, in reading order (docs/READING.md).
+believe:
+	@tools/believe
 
 # The sample yards, made again.
 samples:
