@@ -6,7 +6,8 @@ use mathlib.Core.Bool.{Bool, true, false, not, ◌&&◌, ◌||◌}
 use mathlib.Core.List.{List}
 use lib.Dec.{leb, ltb, eqb}
 use lib.ListN.{length}
-use Rattle.std.proofs.lemmas.Bool.{agree_below, agree_below_at, and_from, and_parts, eqb-true, le-leb, lt-ltb, ltb-true, not_from_false}
+use Rattle.std.proofs.lemmas.Bool.{agree_below, agree_below_at, and_from, and_parts, eqb-true, le-leb, lt-ltb}
+use Rattle.std.proofs.lemmas.Bool.{ltb-true, not_from_false}
 use Rattle.std.proofs.lemmas.Bool.Decides.{Decides-below_or}
 use Rattle.records.specs.Bytes.{byte_at}
 use Rattle.records.specs.Records.{node_at, junction_at}
@@ -29,17 +30,20 @@ some f zero = false
 some f (suc n) = f n || some f n
 
 some_at : (f : ℕ → Bool) (n k : ℕ) → k < n → f k ≡ true → some f n ≡ true
-some_at f n k h t = (Decides-below_or f (λ q. f q ≡ true) (some f) (λ q. ((λ e. e), (λ e. e))) refl (λ _. refl) n).1 (k, h, t)
+some_at f n k h t = (Decides-below_or f (λ q. f q ≡ true) (some f) (λ q. ((λ e. e), (λ e. e))) refl (λ _. refl) n).1
+    (k, h, t)
 
 -- ---- the agreement
 
 abbrev pub in_node : List ℕ → ℕ → Bool
 in_node n k =
-    some (λ i. leb (node_at n (i * 40)).link_id k && ltb k ((node_at n (i * 40)).link_id + links_at n i)) (length n / 40)
+    some (λ i. leb (node_at n (i * 40)).link_id k && ltb k ((node_at n (i * 40)).link_id + links_at n i))
+        (length n / 40)
 
 abbrev pub in_junction : List ℕ → ℕ → Bool
 in_junction j k =
-    some (λ i. leb (junction_at j (i * 12)).heightmap_ptr k && ltb k ((junction_at j (i * 12)).heightmap_ptr + values_at j i)) (length j / 12)
+    some (λ i. leb (junction_at j (i * 12)).heightmap_ptr k
+        && ltb k ((junction_at j (i * 12)).heightmap_ptr + values_at j i)) (length j / 12)
 
 -- the same bytes at the places that count, of the first so many
 abbrev pub same : (ℕ → Bool) → ℕ → List ℕ → List ℕ → Bool
@@ -61,18 +65,22 @@ agrees s g s' g' =
     && (same (λ k. not (left_out k)) 112 s s'
     && same_arrays (arrays_of s g) (arrays_of s' g'))))
 
-same_at : (counts : ℕ → Bool) (n : ℕ) (a b : List ℕ) → same counts n a b ≡ true → (k : ℕ) → k < n → counts k ≡ true → byte_at a k ≡ byte_at b k
+same_at : (counts : ℕ → Bool) (n : ℕ) (a b : List ℕ) → same counts n a b ≡ true → (k : ℕ) → k < n → counts k ≡ true
+    → byte_at a k ≡ byte_at b k
 same_at counts n a b t k h c =
-    eqb-true _ _ (imply (counts k) _ (agree_below_at (λ q. implied (counts q) (eqb (byte_at a q) (byte_at b q))) (λ _. true) n k t h) c)
+    eqb-true _ _ (imply (counts k) _ (agree_below_at (λ q. implied (counts q) (eqb (byte_at a q) (byte_at b q)))
+        (λ _. true) n k t h) c)
 
 in_node_law : (n : List ℕ) (k : ℕ) → InSomeNode n k → in_node n k ≡ true
 in_node_law n k h =
-    some_at (λ q. leb (node_at n (q * 40)).link_id k && ltb k ((node_at n (q * 40)).link_id + links_at n q)) (length n / 40) h.node h.is_node
+    some_at (λ q. leb (node_at n (q * 40)).link_id k && ltb k ((node_at n (q * 40)).link_id + links_at n q))
+        (length n / 40) h.node h.is_node
     (and_from _ _ (le-leb _ _ h.from) (lt-ltb _ _ h.before))
 
 in_junction_law : (j : List ℕ) (k : ℕ) → InSomeJunction j k → in_junction j k ≡ true
 in_junction_law j k h =
-    some_at (λ q. leb (junction_at j (q * 12)).heightmap_ptr k && ltb k ((junction_at j (q * 12)).heightmap_ptr + values_at j q))
+    some_at (λ q. leb (junction_at j (q * 12)).heightmap_ptr k
+        && ltb k ((junction_at j (q * 12)).heightmap_ptr + values_at j q))
     (length j / 12) h.junction h.is_junction
     (and_from _ _ (le-leb _ _ h.from) (lt-ltb _ _ h.before))
 
@@ -85,9 +93,11 @@ same_arrays_law a b t =
     let h = and_parts _ _ j.1 in
     record {
       nodes = λ k lt. same_at (λ q. true) (length a.nodes) a.nodes b.nodes n.0 k lt refl;
-      links = λ k lt c. same_at (λ q. in_node a.nodes (q / 8)) (length a.links) a.links b.links l.0 k lt (in_node_law a.nodes (k / 8) c);
+      links = λ k lt c. same_at (λ q. in_node a.nodes (q / 8)) (length a.links) a.links b.links l.0 k lt
+          (in_node_law a.nodes (k / 8) c);
       junctions = λ k lt. same_at (λ q. true) (length a.junctions) a.junctions b.junctions j.0 k lt refl;
-      heights = λ k lt c. same_at (λ q. in_junction a.junctions q) (length a.heights) a.heights b.heights h.0 k lt (in_junction_law a.junctions k c);
+      heights = λ k lt c. same_at (λ q. in_junction a.junctions q) (length a.heights) a.heights b.heights h.0 k lt
+          (in_junction_law a.junctions k c);
       refs = λ k lt. same_at (λ q. true) (length a.refs) a.refs b.refs h.1 k lt refl;
     }
 

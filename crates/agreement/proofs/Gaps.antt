@@ -36,21 +36,24 @@ module _ (s g : List ℕ) (k x : ℕ) (some : 0 < length s) where
   in_system : (l : Option Part) (counts : ℕ → Type 0) → OutOf System k l → SameAt l counts s g (set s k x) g
   in_system l counts out p e q lt c = go p.section refl
     where
-      go : (z : Section) → p.section ≡ z → byte_at (section_of z s g) (p.offset + q) ≡ byte_at (section_of z (set s k x) g) (p.offset + q)
+      go : (z : Section) → p.section ≡ z → byte_at (section_of z s g) (p.offset + q)
+          ≡ byte_at (section_of z (set s k x) g) (p.offset + q)
       go System is = other_byte s k x (p.offset + q) (out p e is q lt)
       go Graphics is = refl
 
   in_graphics : (l : Option Part) (counts : ℕ → Type 0) → OutOf Graphics k l → SameAt l counts s g s (set g k x)
   in_graphics l counts out p e q lt c = go p.section refl
     where
-      go : (z : Section) → p.section ≡ z → byte_at (section_of z s g) (p.offset + q) ≡ byte_at (section_of z s (set g k x)) (p.offset + q)
+      go : (z : Section) → p.section ≡ z → byte_at (section_of z s g) (p.offset + q)
+          ≡ byte_at (section_of z s (set g k x)) (p.offset + q)
       go System is = refl
       go Graphics is = other_byte g k x (p.offset + q) (out p e is q lt)
 
   -- in the system section, behind the root
   pub system_gap : 112 ≤ k → Gap System k (places_by (root_read s) (length s) (length g)) → Agree s g (set s k x) g
   system_gap behind out =
-      agree_in_place s g (set s k x) g (sym (length-set s k x)) refl some (λ i low inside c. other_byte s k x i (λ e. omega arith))
+      agree_in_place s g (set s k x) g (sym (length-set s k x)) refl some
+          (λ i low inside c. other_byte s k x i (λ e. omega arith))
       (record {
         nodes = in_system _ _ out.nodes;
         links = in_system _ _ out.links;

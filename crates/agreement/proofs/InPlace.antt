@@ -11,7 +11,8 @@ use lib.ListN.{length, take, drop, length-take, length-drop}
 use lib.Seq.{get_or-take, get_or-drop}
 use borrow.Author.Tests.{leb-true, le-leb}
 use Rattle.records.specs.Bytes.{byte_at}
-use Rattle.records.specs.Sections.{pick, inside_of, empty_part, located, extent, section_of, bytes_of, part_bytes, array_at}
+use Rattle.records.specs.Sections.{pick, inside_of, empty_part, located, extent, section_of, bytes_of, part_bytes}
+use Rattle.records.specs.Sections.{array_at}
 use Rattle.records.specs.declared.section.Section.{Section}
 use Rattle.records.specs.declared.section.Section.TheVariants.{System, Graphics}
 use Rattle.records.specs.declared.section.Part.{Part}
@@ -52,8 +53,10 @@ pick_only s g false x y hx hy = hy
 inside_only : (s g : ℕ) (k : Section) (offset len : ℕ) → Only s g (inside_of k offset len (size_of k s g))
 inside_only s g k offset len = go (leb (offset + len) (size_of k s g)) refl
   where
-    go : (b : Bool) → leb (offset + len) (size_of k s g) ≡ b → Only s g (pick b (Some (record { section = k; offset = offset; len = len })) None)
-    go true e = at_only s g (record { section = k; offset = offset; len = len }) (leb-true (offset + len) (size_of k s g) e)
+    go : (b : Bool) → leb (offset + len) (size_of k s g) ≡ b
+        → Only s g (pick b (Some (record { section = k; offset = offset; len = len })) None)
+    go true e = at_only s g (record { section = k; offset = offset; len = len })
+        (leb-true (offset + len) (size_of k s g) e)
     go false e = bad_only s g
 
 empty_only : (s g : ℕ) → Only s g (Some empty_part)
@@ -70,14 +73,17 @@ located_inside address count width s g =
     pick_only s g (eqb address 0) (Some empty_part) (pick (eqb count 0) (Some empty_part) high) (empty_only s g)
     (pick_only s g (eqb count 0) (Some empty_part) high (empty_only s g)
     (pick_only s g (leb 0x1_0000_0000 address) None inSystem (bad_only s g)
-    (pick_only s g (eqb (bit_and address 0xF000_0000) 0x5000_0000) (inside_of System o n s) inGraphics (inside_only s g System o n)
-    (pick_only s g (eqb (bit_and address 0xF000_0000) 0x6000_0000) (inside_of Graphics o n g) None (inside_only s g Graphics o n) (bad_only s g)))))
+    (pick_only s g (eqb (bit_and address 0xF000_0000) 0x5000_0000) (inside_of System o n s) inGraphics
+        (inside_only s g System o n)
+    (pick_only s g (eqb (bit_and address 0xF000_0000) 0x6000_0000) (inside_of Graphics o n g) None
+        (inside_only s g Graphics o n) (bad_only s g)))))
 
 section_long : (k : Section) (s g : List ℕ) → length (section_of k s g) ≡ size_of k (length s) (length g)
 section_long System s g = refl
 section_long Graphics s g = refl
 
-module _ (address count width : ℕ) (s g : List ℕ) (p : Part) (here : located address count width (length s) (length g) ≡ Some p) where
+module _ (address count width : ℕ) (s g : List ℕ) (p : Part)
+    (here : located address count width (length s) (length g) ≡ Some p) where
   inside : p.offset + p.len ≤ length (section_of p.section s g)
   inside = omega (arith, located_inside address count width (length s) (length g) p here, section_long p.section s g)
 
@@ -86,20 +92,25 @@ module _ (address count width : ℕ) (s g : List ℕ) (p : Part) (here : located
   unfolding array_at bytes_of extent
   array_is =
       (λ i. part_bytes (here i) s g)
-      ∙ ap (λ (b : Bool). cond b (take p.len (drop p.offset (section_of p.section s g))) []) (le-leb (p.offset + p.len) (length (section_of p.section s g)) inside)
+      ∙ ap (λ (b : Bool). cond b (take p.len (drop p.offset (section_of p.section s g))) [])
+          (le-leb (p.offset + p.len) (length (section_of p.section s g)) inside)
 
   pub array_long : length (array_at address count width s g) ≡ p.len
   array_long =
       ap length array_is
-      ∙ omega (arith, inside, length-take p.len (drop p.offset (section_of p.section s g)), length-drop p.offset (section_of p.section s g))
+      ∙ omega (arith, inside, length-take p.len (drop p.offset (section_of p.section s g)), length-drop p.offset
+          (section_of p.section s g))
 
-  pub array_byte : (k : ℕ) → k < p.len → byte_at (array_at address count width s g) k ≡ byte_at (section_of p.section s g) (p.offset + k)
+  pub array_byte : (k : ℕ) → k < p.len → byte_at (array_at address count width s g) k
+      ≡ byte_at (section_of p.section s g) (p.offset + k)
   array_byte k h =
       ap (λ (l : List ℕ). byte_at l k) array_is
-      ∙ ap (λ (x : ℕ). x % 256) (get_or-take p.len (drop p.offset (section_of p.section s g)) k 0 h ∙ get_or-drop p.offset (section_of p.section s g) k 0)
+      ∙ ap (λ (x : ℕ). x % 256) (get_or-take p.len (drop p.offset (section_of p.section s g)) k 0 h
+          ∙ get_or-drop p.offset (section_of p.section s g) k 0)
 
 -- a bad array has no bytes
-pub array_bad : (address count width : ℕ) (s g : List ℕ) → located address count width (length s) (length g) ≡ None → array_at address count width s g ≡ []
+pub array_bad : (address count width : ℕ) (s g : List ℕ) → located address count width (length s) (length g) ≡ None
+    → array_at address count width s g ≡ []
 unfolding array_at
 array_bad address count width s g e = λ i. part_bytes (e i) s g
 
@@ -108,7 +119,8 @@ array_bad address count width s g e = λ i. part_bytes (e i) s g
 -- where an array lies, the bytes that count are the same in both sections
 abbrev pub SameAt : Option Part → (ℕ → Type 0) → List ℕ → List ℕ → List ℕ → List ℕ → Type 0
 SameAt l counts s g s' g' =
-    (p : Part) → l ≡ Some p → (k : ℕ) → k < p.len → counts k → byte_at (section_of p.section s g) (p.offset + k) ≡ byte_at (section_of p.section s' g') (p.offset + k)
+    (p : Part) → l ≡ Some p → (k : ℕ) → k < p.len → counts k → byte_at (section_of p.section s g) (p.offset + k)
+        ≡ byte_at (section_of p.section s' g') (p.offset + k)
 
 pub record SamePlaces (s g s' g' : List ℕ) (p : Places) (a : Arrays) : Type 0 where
   pub nodes : SameAt p.nodes (λ k. Unit {0}) s g s' g'
@@ -118,19 +130,25 @@ pub record SamePlaces (s g s' g' : List ℕ) (p : Places) (a : Arrays) : Type 0 
   pub refs : SameAt p.refs (λ k. Unit {0}) s g s' g'
 
 module _ (s g s' g' : List ℕ) (es : length s ≡ length s') (eg : length g ≡ length g') where
-  array_agrees : (address count width : ℕ) (counts : ℕ → Type 0) → SameAt (located address count width (length s) (length g)) counts s g s' g'
-      → (k : ℕ) → k < length (array_at address count width s g) → counts k → byte_at (array_at address count width s g) k ≡ byte_at (array_at address count width s' g') k
+  array_agrees : (address count width : ℕ) (counts : ℕ → Type 0)
+      → SameAt (located address count width (length s) (length g)) counts s g s' g'
+      → (k : ℕ) → k < length (array_at address count width s g) → counts k
+          → byte_at (array_at address count width s g) k ≡ byte_at (array_at address count width s' g') k
   array_agrees address count width counts same k h c = go (located address count width (length s) (length g)) refl
     where
-      go : (l : Option Part) → located address count width (length s) (length g) ≡ l → byte_at (array_at address count width s g) k ≡ byte_at (array_at address count width s' g') k
+      go : (l : Option Part) → located address count width (length s) (length g) ≡ l
+          → byte_at (array_at address count width s g) k ≡ byte_at (array_at address count width s' g') k
       go None e = absurd (omega (arith, ap length (array_bad address count width s g e)))
       go (Some p) e =
-          let e' : located address count width (length s') (length g') ≡ Some p = (λ i. located address count width (sym es i) (sym eg i)) ∙ e in
+          let e' : located address count width (length s') (length g')
+              ≡ Some p = (λ i. located address count width (sym es i) (sym eg i)) ∙ e in
           let lt : k < p.len = omega (arith, array_long address count width s g p e) in
-          array_byte address count width s g p e k lt ∙ same p e k lt c ∙ sym (array_byte address count width s' g' p e' k lt)
+          array_byte address count width s g p e k lt ∙ same p e k lt c
+              ∙ sym (array_byte address count width s' g' p e' k lt)
 
   -- equal lengths, the same root bytes, and the same bytes where the arrays lie: the sections agree
-  pub agree_in_place : 0 < length s → ((k : ℕ) → k < 112 → k < length s → left_out k ≡ false → byte_at s k ≡ byte_at s' k)
+  pub agree_in_place : 0 < length s → ((k : ℕ) → k < 112 → k < length s → left_out k ≡ false → byte_at s k
+      ≡ byte_at s' k)
       → SamePlaces s g s' g' (places_by (root_read s) (length s) (length g)) (arrays_of s g) → Agree s g s' g'
   unfolding arrays_of
   agree_in_place some root same = record {
@@ -161,8 +179,10 @@ module _ (s g s' g' : List ℕ) (es : length s ≡ length s') (eg : length g ≡
           let r = root_read s in
           record {
             nodes = λ k h. array_agrees r.nodes r.node_count 40 (λ q. Unit {0}) same.nodes k h tt;
-            links = λ k h c. array_agrees r.links r.link_count 8 (λ q. InSomeNode (arrays_of s g).nodes (q / 8)) same.links k h c;
+            links = λ k h c. array_agrees r.links r.link_count 8 (λ q. InSomeNode (arrays_of s g).nodes (q / 8))
+                same.links k h c;
             junctions = λ k h. array_agrees r.junctions r.junction_count 12 (λ q. Unit {0}) same.junctions k h tt;
-            heights = λ k h c. array_agrees r.heightmap r.heightmap_count 1 (λ q. InSomeJunction (arrays_of s g).junctions q) same.heights k h c;
+            heights = λ k h c. array_agrees r.heightmap r.heightmap_count 1
+                (λ q. InSomeJunction (arrays_of s g).junctions q) same.heights k h c;
             refs = λ k h. array_agrees r.refs r.ref_count 8 (λ q. Unit {0}) same.refs k h tt;
           }

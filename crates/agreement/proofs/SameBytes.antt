@@ -16,7 +16,8 @@ use Rattle.records.specs.declared.section.Section.TheVariants.{System, Graphics}
 use Rattle.records.specs.declared.section.Part.{Part}
 
 -- two lists of equal length agree at a place if they do where it is one of them: past the end both are 0
-pub anywhere : (a b : List ℕ) → length a ≡ length b → (k : ℕ) → (k < length a → byte_at a k ≡ byte_at b k) → byte_at a k ≡ byte_at b k
+pub anywhere : (a b : List ℕ) → length a ≡ length b → (k : ℕ) → (k < length a → byte_at a k ≡ byte_at b k)
+    → byte_at a k ≡ byte_at b k
 anywhere a b e k h = go (ltb k (length a)) refl
   where
     go : (t : Bool) → ltb k (length a) ≡ t → byte_at a k ≡ byte_at b k
@@ -27,14 +28,17 @@ anywhere a b e k h = go (ltb k (length a)) refl
         ap (λ (x : ℕ). x % 256) (get_or-eq_default a 0 {n = k} past ∙ sym (get_or-eq_default b 0 {n = k} past'))
 
 -- a number of so many bytes
-pub number_same : (width : ℕ) (a b : List ℕ) (at : ℕ) → ((k : ℕ) → at ≤ k → k < at + width → byte_at a k ≡ byte_at b k) → number_at width a at ≡ number_at width b at
+pub number_same : (width : ℕ) (a b : List ℕ) (at : ℕ)
+    → ((k : ℕ) → at ≤ k → k < at + width → byte_at a k ≡ byte_at b k) → number_at width a at ≡ number_at width b at
 unfolding number_at
 number_same zero a b at h = refl
 number_same (suc w) a b at h =
-    λ i. h at (omega arith) (omega arith) i + 256 * number_same w a b (at + 1) (λ k low high. h k (omega arith) (omega arith)) i
+    λ i. h at (omega arith) (omega arith) i
+        + 256 * number_same w a b (at + 1) (λ k low high. h k (omega arith) (omega arith)) i
 
 -- a record
-pub link_same : (a b : List ℕ) (at : ℕ) → ((k : ℕ) → at ≤ k → k < at + 8 → byte_at a k ≡ byte_at b k) → link_at a at ≡ link_at b at
+pub link_same : (a b : List ℕ) (at : ℕ) → ((k : ℕ) → at ≤ k → k < at + 8 → byte_at a k ≡ byte_at b k) → link_at a at
+    ≡ link_at b at
 unfolding link_at
 link_same a b at h = λ i. record {
   area_id = number_same 2 a b at (λ k low high. h k (omega arith) (omega arith)) i;
@@ -86,22 +90,26 @@ module _ (a b : List ℕ) (h : (k : ℕ) → byte_at a k ≡ byte_at b k) where
 
   pub ref_same : (at : ℕ) → ref_at a at ≡ ref_at b at
   unfolding ref_at
-  ref_same at = λ i. record { area_id = number 2 at i; node_id = number 2 (at + 2) i; junction_id = number 2 (at + 4) i; unk0 = number 2 (at + 6) i }
+  ref_same at = λ i. record { area_id = number 2 at i; node_id = number 2 (at + 2) i; junction_id = number 2
+      (at + 4) i; unk0 = number 2 (at + 6) i }
 
 -- ---- a part of two sections of equal length is equally long
 
 extent_long : (o n : ℕ) (a b : List ℕ) → length a ≡ length b → length (extent o n a) ≡ length (extent o n b)
 unfolding extent
-extent_long o n a b e = go (leb (o + n) (length a)) ∙ ap (λ (k : ℕ). length (cond (leb (o + n) k) (take n (drop o b)) [])) e
+extent_long o n a b e = go (leb (o + n) (length a))
+    ∙ ap (λ (k : ℕ). length (cond (leb (o + n) k) (take n (drop o b)) [])) e
   where
     go : (t : Bool) → length (cond t (take n (drop o a)) []) ≡ length (cond t (take n (drop o b)) [])
     go true = omega (arith, length-take n (drop o a), length-take n (drop o b), length-drop o a, length-drop o b)
     go false = refl
 
-pub part_long : (p : Part) (s g s' g' : List ℕ) → length s ≡ length s' → length g ≡ length g' → length (bytes_of p s g) ≡ length (bytes_of p s' g')
+pub part_long : (p : Part) (s g s' g' : List ℕ) → length s ≡ length s' → length g ≡ length g'
+    → length (bytes_of p s g) ≡ length (bytes_of p s' g')
 unfolding bytes_of
 part_long p s g s' g' es eg = go p.section
   where
-    go : (k : Section) → length (extent p.offset p.len (section_of k s g)) ≡ length (extent p.offset p.len (section_of k s' g'))
+    go : (k : Section) → length (extent p.offset p.len (section_of k s g))
+        ≡ length (extent p.offset p.len (section_of k s' g'))
     go System = extent_long p.offset p.len s s' es
     go Graphics = extent_long p.offset p.len g g' eg

@@ -16,7 +16,8 @@ use Rattle.cells.specs.Lists.{up_to, join_to, sum_to}
 use Rattle.cells.specs.Words.{path_node, path_link, path_junction, node_words, link_words, junction_words, ref_words}
 use Rattle.cells.specs.Checks.{scan, arrays_check, counts_of, links_at, values_at}
 use Rattle.cells.specs.Memory.{Memory, memory, Left, unless}
-use Rattle.cells.specs.Read.{links_from, values_from, node_in, links_in, junction_in, values_in, ref_in, room_check, cell_read, filled, if_held, read_arrays}
+use Rattle.cells.specs.Read.{links_from, values_from, node_in, links_in, junction_in, values_in, ref_in, room_check}
+use Rattle.cells.specs.Read.{cell_read, filled, if_held, read_arrays}
 use Rattle.cells.specs.declared.count.Counts.{Counts}
 use Rattle.cells.proofs.Reading.ReadLaws.{holds}
 use Rattle.cells.proofs.Reading.FileRead.{up_to_same}
@@ -26,7 +27,8 @@ use Rattle.std.specs.Prelude.{Result, Ok, Err}
 use Rattle.numbers.specs.Refusals.{Answer, refuse_if}
 use Rattle.numbers.specs.Refusals as numbers
 use Rattle.numbers.specs.declared.refusal.Refusal.{Refusal}
-use Rattle.numbers.specs.declared.refusal.Refusal.TheVariants.{TooManyNodes, TooManyJunctions, LinksOutside, ValuesOutside}
+use Rattle.numbers.specs.declared.refusal.Refusal.TheVariants.{TooManyNodes, TooManyJunctions, LinksOutside}
+use Rattle.numbers.specs.declared.refusal.Refusal.TheVariants.{ValuesOutside}
 
 join_to_same : {A : Type 0} (f g : ℕ → List A) (n : ℕ) → ((i : ℕ) → i < n → f i ≡ g i) → join_to f n ≡ join_to g n
 unfolding join_to
@@ -57,18 +59,23 @@ module _ (a b : Arrays) (long : Alike a b) (same : SameRanges a b) where
   raw_nodes = λ i at. node_same a.nodes b.nodes (λ k. anywhere a.nodes b.nodes long.nodes k (same.nodes k)) at i
 
   pub raw_junctions : ◌≡◌ {A = ℕ → NodeJunction} (junction_at a.junctions) (junction_at b.junctions)
-  raw_junctions = λ i at. junction_same a.junctions b.junctions (λ k. anywhere a.junctions b.junctions long.junctions k (same.junctions k)) at i
+  raw_junctions = λ i at. junction_same a.junctions b.junctions
+      (λ k. anywhere a.junctions b.junctions long.junctions k (same.junctions k)) at i
 
   -- 6, 4 and 5, and the counts
-  pub check_same : arrays_check a.nodes a.links a.junctions a.heights a.refs ≡ arrays_check b.nodes b.links b.junctions b.heights b.refs
+  pub check_same : arrays_check a.nodes a.links a.junctions a.heights a.refs
+      ≡ arrays_check b.nodes b.links b.junctions b.heights b.refs
   unfolding arrays_check
   check_same = λ q.
       let links : ℕ → ℕ = λ i. (raw_nodes q (i * 40)).link_count_flags / 8 in
-      let values : ℕ → ℕ = λ i. (raw_junctions q (i * 12)).heightmap_dim_x * (raw_junctions q (i * 12)).heightmap_dim_y in
+      let values : ℕ → ℕ = λ i. (raw_junctions q (i * 12)).heightmap_dim_x *
+          (raw_junctions q (i * 12)).heightmap_dim_y in
       refuse_if (ltb 65536 (long.nodes q / 40)) TooManyNodes
       (refuse_if (ltb 4096 (long.junctions q / 12)) TooManyJunctions
-      (numbers.unless (scan LinksOutside (λ i. ltb (long.links q / 8) ((raw_nodes q (i * 40)).link_id + links i)) 0 (long.nodes q / 40))
-      (numbers.unless (scan ValuesOutside (λ i. ltb (long.heights q) ((raw_junctions q (i * 12)).heightmap_ptr + values i)) 0 (long.junctions q / 12))
+      (numbers.unless (scan LinksOutside (λ i. ltb (long.links q / 8) ((raw_nodes q (i * 40)).link_id + links i)) 0
+          (long.nodes q / 40))
+      (numbers.unless (scan ValuesOutside
+          (λ i. ltb (long.heights q) ((raw_junctions q (i * 12)).heightmap_ptr + values i)) 0 (long.junctions q / 12))
       (Ok (record {
         nodes = long.nodes q / 40;
         links = sum_to links (long.nodes q / 40);
@@ -78,22 +85,27 @@ module _ (a b : Arrays) (long : Alike a b) (same : SameRanges a b) where
       })))))
 
   pub answer_same : (root : Root) (m : Memory)
-      → (read_arrays root a.nodes a.links a.junctions a.heights a.refs m).answer ≡ (read_arrays root b.nodes b.links b.junctions b.heights b.refs m).answer
+      → (read_arrays root a.nodes a.links a.junctions a.heights a.refs m).answer
+          ≡ (read_arrays root b.nodes b.links b.junctions b.heights b.refs m).answer
   unfolding read_arrays
-  answer_same root m = go (arrays_check a.nodes a.links a.junctions a.heights a.refs) ∙ ap (λ (c : Result Counts Refusal). (if_held c m (next b)).answer) check_same
+  answer_same root m = go (arrays_check a.nodes a.links a.junctions a.heights a.refs)
+      ∙ ap (λ (c : Result Counts Refusal). (if_held c m (next b)).answer) check_same
     where
       next : Arrays → Counts → Left
       next x k =
-          unless (room_check k (length m.nodes) (length m.links) (length m.junctions) (length m.heights) (length m.refs)) m
+          unless (room_check k (length m.nodes) (length m.links) (length m.junctions) (length m.heights)
+              (length m.refs)) m
           (record { answer = (Ok tt); memory = filled root k x.nodes x.links x.junctions x.heights x.refs m })
 
-      room : (c : Answer) (x y : Memory) → (unless c m (record { answer = (Ok tt); memory = x })).answer ≡ (unless c m (record { answer = (Ok tt); memory = y })).answer
+      room : (c : Answer) (x y : Memory) → (unless c m (record { answer = (Ok tt); memory = x })).answer
+          ≡ (unless c m (record { answer = (Ok tt); memory = y })).answer
       room (Err cause) x y = refl
       room (Ok tt) x y = refl
 
       go : (c : Result Counts Refusal) → (if_held c m (next a)).answer ≡ (if_held c m (next b)).answer
       go (Err cause) = refl
-      go (Ok k) = room (room_check k (length m.nodes) (length m.links) (length m.junctions) (length m.heights) (length m.refs)) _ _
+      go (Ok k) = room (room_check k (length m.nodes) (length m.links) (length m.junctions) (length m.heights)
+          (length m.refs)) _ _
 
 -- ---- what is stored
 
@@ -111,64 +123,82 @@ module _ (a b : Arrays) (long : Alike a b) (same : SameArrays a b) where
   abbrev from : ℕ → ℕ
   from i = (node_at a.nodes (i * 40)).link_id
 
-  raw_link : (i k : ℕ) → i < length a.nodes / 40 → k < links_at a.nodes i → link_at a.links ((from i + k) * 8) ≡ link_at b.links ((from i + k) * 8)
+  raw_link : (i k : ℕ) → i < length a.nodes / 40 → k < links_at a.nodes i → link_at a.links ((from i + k) * 8)
+      ≡ link_at b.links ((from i + k) * 8)
   raw_link i k lt few = link_same a.links b.links ((from i + k) * 8) (λ q low high.
       let place : q / 8 ≡ from i + k = omega arith in
-      anywhere a.links b.links long.links q (λ inside. same.links q inside (record { node = i; is_node = lt; from = omega arith; before = omega arith })))
+      anywhere a.links b.links long.links q
+          (λ inside. same.links q inside (record { node = i; is_node = lt; from = omega arith; before = omega arith
+          })))
 
   node_links : (i : ℕ) → i < length a.nodes / 40 → links_in a.nodes a.links i ≡ links_in b.nodes b.links i
   unfolding links_in links_from
   node_links i lt =
-      up_to_same (λ k. link_words (path_link (link_at a.links ((from i + k) * 8)))) (λ k. link_words (path_link (link_at b.links ((from i + k) * 8)))) (links_at a.nodes i)
+      up_to_same (λ k. link_words (path_link (link_at a.links ((from i + k) * 8))))
+          (λ k. link_words (path_link (link_at b.links ((from i + k) * 8)))) (links_at a.nodes i)
       (λ k few. λ q. link_words (path_link (raw_link i k lt few q)))
-      ∙ (λ q. up_to (λ k. link_words (path_link (link_at b.links (((ns q (i * 40)).link_id + k) * 8)))) ((ns q (i * 40)).link_count_flags / 8))
+      ∙ (λ q. up_to (λ k. link_words (path_link (link_at b.links (((ns q (i * 40)).link_id + k) * 8))))
+          ((ns q (i * 40)).link_count_flags / 8))
 
   abbrev first : ℕ → ℕ
   first i = (junction_at a.junctions (i * 12)).heightmap_ptr
 
-  raw_value : (i k : ℕ) → i < length a.junctions / 12 → k < values_at a.junctions i → byte_at a.heights (first i + k) ≡ byte_at b.heights (first i + k)
+  raw_value : (i k : ℕ) → i < length a.junctions / 12 → k < values_at a.junctions i
+      → byte_at a.heights (first i + k) ≡ byte_at b.heights (first i + k)
   raw_value i k lt few =
       anywhere a.heights b.heights long.heights (first i + k) (λ inside. same.heights (first i + k) inside
       (record { junction = i; is_junction = lt; from = omega arith; before = omega arith }))
 
-  junction_values_law : (i : ℕ) → i < length a.junctions / 12 → values_in a.junctions a.heights i ≡ values_in b.junctions b.heights i
+  junction_values_law : (i : ℕ) → i < length a.junctions / 12 → values_in a.junctions a.heights i
+      ≡ values_in b.junctions b.heights i
   unfolding values_in values_from
   junction_values_law i lt =
-      up_to_same (λ k. byte_at a.heights (first i + k)) (λ k. byte_at b.heights (first i + k)) (values_at a.junctions i) (λ k few. raw_value i k lt few)
-      ∙ (λ q. up_to (λ k. byte_at b.heights ((js q (i * 12)).heightmap_ptr + k)) ((js q (i * 12)).heightmap_dim_x * (js q (i * 12)).heightmap_dim_y))
+      up_to_same (λ k. byte_at a.heights (first i + k)) (λ k. byte_at b.heights (first i + k))
+          (values_at a.junctions i) (λ k few. raw_value i k lt few)
+      ∙ (λ q. up_to (λ k. byte_at b.heights ((js q (i * 12)).heightmap_ptr + k))
+          ((js q (i * 12)).heightmap_dim_x * (js q (i * 12)).heightmap_dim_y))
 
   -- what is stored
   abbrev counts : Counts
   counts = counts_of a.nodes a.junctions a.refs
 
   pub filled_same : (root : Root) (m : Memory)
-      → filled root counts a.nodes a.links a.junctions a.heights a.refs m ≡ filled root counts b.nodes b.links b.junctions b.heights b.refs m
+      → filled root counts a.nodes a.links a.junctions a.heights a.refs m
+          ≡ filled root counts b.nodes b.links b.junctions b.heights b.refs m
   unfolding filled node_in junction_in ref_in
   filled_same root m =
       let c = counts in
       λ q.
       memory
       (cell_read root c)
-      (up_to (λ i. node_words (path_node (ns q (i * 40)) (sum_to (λ p. (ns q (p * 40)).link_count_flags / 8) i))) c.nodes ++ drop c.nodes m.nodes)
+      (up_to (λ i. node_words (path_node (ns q (i * 40)) (sum_to (λ p. (ns q (p * 40)).link_count_flags / 8) i)))
+          c.nodes ++ drop c.nodes m.nodes)
       (join_to_same (links_in a.nodes a.links) (links_in b.nodes b.links) c.nodes node_links q ++ drop c.links m.links)
-      (up_to (λ i. junction_words (path_junction (js q (i * 12)) (sum_to (λ p. (js q (p * 12)).heightmap_dim_x * (js q (p * 12)).heightmap_dim_y) i))) c.junctions
+      (up_to (λ i. junction_words (path_junction (js q (i * 12)) (sum_to
+          (λ p. (js q (p * 12)).heightmap_dim_x * (js q (p * 12)).heightmap_dim_y) i))) c.junctions
       ++ drop c.junctions m.junctions)
-      (join_to_same (values_in a.junctions a.heights) (values_in b.junctions b.heights) c.junctions junction_values_law q ++ drop c.heights m.heights)
+      (join_to_same (values_in a.junctions a.heights) (values_in b.junctions b.heights) c.junctions
+          junction_values_law q ++ drop c.heights m.heights)
       (up_to (λ i. ref_words (raw_refs q (i * 8))) c.refs ++ drop c.refs m.refs)
 
   pub arrays_same : (root : Root) (m : Memory)
-      → read_arrays root a.nodes a.links a.junctions a.heights a.refs m ≡ read_arrays root b.nodes b.links b.junctions b.heights b.refs m
+      → read_arrays root a.nodes a.links a.junctions a.heights a.refs m
+          ≡ read_arrays root b.nodes b.links b.junctions b.heights b.refs m
   unfolding read_arrays
-  arrays_same root m = go (arrays_check a.nodes a.links a.junctions a.heights a.refs) refl ∙ ap (λ (c : Result Counts Refusal). if_held c m (next b)) (check_same a b long (ranges_of a b same))
+  arrays_same root m = go (arrays_check a.nodes a.links a.junctions a.heights a.refs) refl
+      ∙ ap (λ (c : Result Counts Refusal). if_held c m (next b)) (check_same a b long (ranges_of a b same))
     where
       room : Counts → Answer
       room k = room_check k (length m.nodes) (length m.links) (length m.junctions) (length m.heights) (length m.refs)
 
       next : Arrays → Counts → Left
-      next x k = unless (room k) m (record { answer = (Ok tt); memory = filled root k x.nodes x.links x.junctions x.heights x.refs m })
+      next x k = unless (room k) m (record { answer = (Ok tt); memory = filled root k x.nodes x.links x.junctions
+          x.heights x.refs m })
 
-      go : (c : Result Counts Refusal) → arrays_check a.nodes a.links a.junctions a.heights a.refs ≡ c → if_held c m (next a) ≡ if_held c m (next b)
+      go : (c : Result Counts Refusal) → arrays_check a.nodes a.links a.junctions a.heights a.refs ≡ c
+          → if_held c m (next a) ≡ if_held c m (next b)
       go (Err cause) e = refl
       go (Ok k) e =
-          subst (λ (x : Counts). next a x ≡ next b x) (sym (holds a.nodes a.links a.junctions a.heights a.refs k e).counts)
+          subst (λ (x : Counts). next a x ≡ next b x)
+              (sym (holds a.nodes a.links a.junctions a.heights a.refs k e).counts)
           (λ q. unless (room counts) m (record { answer = (Ok tt); memory = filled_same root m q }))

@@ -38,7 +38,8 @@ later_same m m' e = record {
       let P : Memory → Type 0 = λ x. PathLeft x p q scratch choices places a s c t in
       (subst P e, subst P (sym e));
   same_join = λ count y sizes i. join_cell count y (e i) sizes;
-  same_crossing = λ first later calls choices s i. crossing (cells_of (run_in (first ++ (e i ∷ later)) calls)) choices s;
+  same_crossing = λ first later calls choices s i. crossing (cells_of (run_in (first ++ (e i ∷ later)) calls))
+      choices s;
 }
 
 pub bytes_that_don't_count : BytesThatDontCount
