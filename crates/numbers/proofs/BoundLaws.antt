@@ -1,5 +1,7 @@
--- In the grid the bounds of a cell are exact: n * 512 - 8192, and that of n + 1. Each by a computed test of the 32 cells. Assumes nothing.
-use Rattle.std.proofs.Common.{◌≡◌, ℕ, suc, ◌*◌, ◌<◌, Bool, true, false, T, eqb, pos, ◌-ℤ◌, sym, ap, ◌∙◌, refl, eqb-true}
+-- In the grid the bounds of a cell are exact: n * 512 - 8192, and that of n + 1. Each by a computed test of the 32
+-- cells. Assumes nothing.
+use Rattle.std.proofs.Common.{◌≡◌, ℕ, suc, ◌*◌, ◌<◌, Bool, true, false, T, eqb, pos, ◌-ℤ◌, sym, ap, ◌∙◌, refl}
+use Rattle.std.proofs.Common.{eqb-true}
 use Rattle.std.proofs.lemmas.Bool.{agree_below, agree_below_at}
 use lib.Ieee.{Float, fin, binary32, to_bits, of_bits, of_int, mul, fits}
 use lib.Ieee.Bits.{of_bits-to_bits}
@@ -25,7 +27,8 @@ alike f g n = eqb (to_bits binary32 (f n)) (to_bits binary32 (g n))
 agree : (f g : ℕ → Float) (m : ℕ) → ((n : ℕ) → T (fits binary32 (f n))) → ((n : ℕ) → T (fits binary32 (g n)))
     → agree_below (alike f g) (λ _. true) m ≡ true → (n : ℕ) → n < m → f n ≡ g n
 agree f g m p q t n h =
-    same_bits (f n) (g n) (p n) (q n) (eqb-true (to_bits binary32 (f n)) (to_bits binary32 (g n)) (agree_below_at (alike f g) (λ _. true) m n t h))
+    same_bits (f n) (g n) (p n) (q n) (eqb-true (to_bits binary32 (f n)) (to_bits binary32 (g n))
+        (agree_below_at (alike f g) (λ _. true) m n t h))
 
 -- ---- all four are f32s
 lower_fits : (n : ℕ) → T (fits binary32 (lower_bound n))

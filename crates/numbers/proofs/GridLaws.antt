@@ -1,5 +1,10 @@
--- The cell of y is the whole part of the f32 quotient y / 512, limited: the quotient is exact, or both are below 1. Assumes nothing.
-use Rattle.std.proofs.Common.{◌≡◌, ℕ, zero, suc, ◌+◌, ◌-◌, ◌*◌, ◌/◌, ◌%◌, ◌^◌, ◌<◌, ◌≤◌, min, Bool, true, false, cond, T, ltb, ℤ, pos, negsuc, sym, refl, ap, ◌∙◌, subst, inl, inr, le_trans, le_of_eq, lt_of_lt_of_le, lt_of_le_of_lt, mul-le-mul_right, zero-lt-suc, mul_assoc, mul_comm, lt_of_mul-lt-mul_right, mul-le-mul_left, mul-lt-mul_of_pos_right, mul-pos, mul-one, arith, pow_pos, pow_mono, pow-add}
+-- The cell of y is the whole part of the f32 quotient y / 512, limited: the quotient is exact, or both are below 1.
+-- Assumes nothing.
+use Rattle.std.proofs.Common.{◌≡◌, ℕ, zero, suc, ◌+◌, ◌-◌, ◌*◌, ◌/◌, ◌%◌, ◌^◌, ◌<◌, ◌≤◌, min, Bool, true, false}
+use Rattle.std.proofs.Common.{cond, T, ltb, ℤ, pos, negsuc, sym, refl, ap, ◌∙◌, subst, inl, inr, le_trans, le_of_eq}
+use Rattle.std.proofs.Common.{lt_of_lt_of_le, lt_of_le_of_lt, mul-le-mul_right, zero-lt-suc, mul_assoc, mul_comm}
+use Rattle.std.proofs.Common.{lt_of_mul-lt-mul_right, mul-le-mul_left, mul-lt-mul_of_pos_right, mul-pos, mul-one}
+use Rattle.std.proofs.Common.{arith, pow_pos, pow_mono, pow-add}
 use Prim.Native.Nat.{compare}
 use native.Mathlib.Nat.{div-eq_of_lt}
 use lib.Ieee.{Float, nan, inf, fin, binary32, up, down, fits, size, nearest, odd, units, round, div, le, to_unsigned}
@@ -20,7 +25,8 @@ half nan h = absurd h
 half (inf true) h = refl
 half (inf false) h = absurd h
 half (fin true m e) h = refl
-half (fin false m e) h = ap (λ (n : ℕ). min n (2 ^ 64 - 1)) (div-eq_of_lt (omega (arith, down_pos e, lt_or_eq (m * up e * 2) (1 * 1 * down e) h)))
+half (fin false m e) h = ap (λ (n : ℕ). min n (2 ^ 64 - 1))
+    (div-eq_of_lt (omega (arith, down_pos e, lt_or_eq (m * up e * 2) (1 * 1 * down e) h)))
 
 -- with at least nine zeros at its end the number of units is divided exactly
 many : (m j d a : ℕ) → 9 ≤ j → a * 2 ^ 149 ≡ m * 2 ^ j * d → a * 1 * 2 ^ 149 ≡ m * 2 ^ (j - 9) * (1 * 2 ^ 9 * d)
@@ -40,7 +46,8 @@ few m j d a s l D e =
     lt_of_mul-lt-mul_right (2 ^ 149)
     (lt_of_le_of_lt (le_of_eq e)
     (lt_of_lt_of_le (mul-lt-mul_of_pos_right (mul-lt-mul_of_pos_right s (pow_pos j)) D)
-    (le_trans (mul-le-mul_right d (le_trans (le_of_eq (sym (pow-add 2 24 j))) (pow_mono {j = 149} (omega arith)))) (le_of_eq (mul_comm (2 ^ 149) d)))))
+    (le_trans (mul-le-mul_right d (le_trans (le_of_eq (sym (pow-add 2 24 j))) (pow_mono {j = 149} (omega arith))))
+        (le_of_eq (mul_comm (2 ^ 149) d)))))
 
 den_is : (d : ℕ) → 1 * 2 ^ 9 * d ≡ d * 512
 den_is d = mul_comm 512 d
@@ -49,15 +56,25 @@ a_half : round binary32 false 1 2 ≡ fin false 1 (negsuc 0)
 unfolding round
 a_half = refl
 
-quotient : (m : ℕ) (e : ℤ) → Units m e → cut (round binary32 false (m * up e * 1) (1 * 2 ^ 9 * down e)) ≡ min (m * up e / (down e * 512)) (2 ^ 64 - 1)
+quotient : (m : ℕ) (e : ℤ) → Units m e → cut (round binary32 false (m * up e * 1) (1 * 2 ^ 9 * down e))
+    ≡ min (m * up e / (down e * 512)) (2 ^ 64 - 1)
 quotient m e u = elim (cases_lt u.j 9) [
   | inl l ↦
-      half (round binary32 false (m * up e * 1) (1 * 2 ^ 9 * down e)) (subst (λ (h : Float). T (le (round binary32 false (m * up e * 1) (1 * 2 ^ 9 * down e)) h)) a_half (round_mono binary32 (m * up e * 1) (1 * 2 ^ 9 * down e) 1 2 (mul-pos (zero-lt-suc 511) (down_pos e)) (zero-lt-suc 1) (omega (arith, few m u.j (down e) (m * up e) u.small l (down_pos e) u.value))))
-      ∙ ap (λ (n : ℕ). min n (2 ^ 64 - 1)) (sym (div-eq_of_lt (omega (arith, few m u.j (down e) (m * up e) u.small l (down_pos e) u.value))))
+      half (round binary32 false (m * up e * 1) (1 * 2 ^ 9 * down e))
+          (subst (λ (h : Float). T (le (round binary32 false (m * up e * 1) (1 * 2 ^ 9 * down e)) h)) a_half
+          (round_mono binary32 (m * up e * 1) (1 * 2 ^ 9 * down e) 1 2 (mul-pos (zero-lt-suc 511) (down_pos e))
+          (zero-lt-suc 1) (omega (arith, few m u.j (down e) (m * up e) u.small l (down_pos e) u.value))))
+      ∙ ap (λ (n : ℕ). min n (2 ^ 64 - 1))
+          (sym (div-eq_of_lt (omega (arith, few m u.j (down e) (m * up e) u.small l (down_pos e) u.value))))
   | inr g ↦
-      cut_of_value (round binary32 false (m * up e * 1) (1 * 2 ^ 9 * down e)) (m * up e * 1) (1 * 2 ^ 9 * down e) (mul-pos (zero-lt-suc 511) (down_pos e))
-      (round_exact binary32 false (m * up e * 1) (1 * 2 ^ 9 * down e) m (u.j - 9) (mul-pos (zero-lt-suc 511) (down_pos e)) u.small (lt_of_le_of_lt (mul-le-mul_left m (pow_mono (omega arith))) u.fine) (many m u.j (down e) (m * up e) g u.value))
-      ∙ ap (λ (n : ℕ). min n (2 ^ 64 - 1)) (ap (λ (n : ℕ). n / (512 * down e)) (mul-one (m * up e)) ∙ ap (λ (n : ℕ). m * up e / n) (den_is (down e)))
+      cut_of_value (round binary32 false (m * up e * 1) (1 * 2 ^ 9 * down e)) (m * up e * 1) (1 * 2 ^ 9 * down e)
+          (mul-pos (zero-lt-suc 511) (down_pos e))
+      (round_exact binary32 false (m * up e * 1) (1 * 2 ^ 9 * down e) m (u.j - 9)
+          (mul-pos (zero-lt-suc 511) (down_pos e)) u.small
+          (lt_of_le_of_lt (mul-le-mul_left m (pow_mono (omega arith))) u.fine)
+          (many m u.j (down e) (m * up e) g u.value))
+      ∙ ap (λ (n : ℕ). min n (2 ^ 64 - 1))
+          (ap (λ (n : ℕ). n / (512 * down e)) (mul-one (m * up e)) ∙ ap (λ (n : ℕ). m * up e / n) (den_is (down e)))
 ]
 
 -- ---- the cell, from the quotient
@@ -81,7 +98,9 @@ units_cut q k = pick (ltb (q * 2 ^ k) (2 ^ (149 + 128))) (odd 25 true q k 149) (
 
 negative : (a c : ℕ) → cut (round binary32 true a c) ≡ 0
 unfolding round
-negative a c = units_cut (nearest (a * 2 ^ 149 / (c * 2 ^ (size (a * 2 ^ 149 / c) - 24))) (compare (a * 2 ^ 149 % (c * 2 ^ (size (a * 2 ^ 149 / c) - 24)) * 2) (c * 2 ^ (size (a * 2 ^ 149 / c) - 24)))) (size (a * 2 ^ 149 / c) - 24)
+negative a c = units_cut (nearest (a * 2 ^ 149 / (c * 2 ^ (size (a * 2 ^ 149 / c) - 24)))
+    (compare (a * 2 ^ 149 % (c * 2 ^ (size (a * 2 ^ 149 / c) - 24)) * 2) (c * 2 ^ (size (a * 2 ^ 149 / c) - 24))))
+    (size (a * 2 ^ 149 / c) - 24)
 
 pub cell_is : (y : Float) → T (fits binary32 y) → grid_floor y ≡ min (cut (div binary32 y (fin false 1 (pos 9)))) 31
 unfolding grid_floor div to_unsigned
@@ -89,7 +108,8 @@ cell_is nan t = refl
 cell_is (inf true) t = refl
 cell_is (inf false) t = refl
 cell_is (fin true m e) t = sym (ap (λ (n : ℕ). min n 31) (negative (m * up e * 1) (1 * 2 ^ 9 * down e)))
-cell_is (fin false m e) t = limit_twice (m * up e / (down e * 512)) ∙ sym (ap (λ (n : ℕ). min n 31) (quotient m e (units_of false m e t)))
+cell_is (fin false m e) t = limit_twice (m * up e / (down e * 512))
+    ∙ sym (ap (λ (n : ℕ). min n 31) (quotient m e (units_of false m e t)))
 
 -- ---- both grid numbers are below 32
 pub in_grid_law : (cx cy : ℕ) → in_grid cx cy ≡ true → (cx < 32) × (cy < 32)

@@ -1,5 +1,6 @@
 -- Sums and quotients of f32s without a sign are no NaN. Assumes nothing.
-use Rattle.std.proofs.Common.{ℕ, zero, suc, ◌+◌, ◌-◌, ◌*◌, ◌/◌, ◌%◌, ◌^◌, ◌<◌, Bool, true, false, cond, not, T, eqb, ltb, sym, subst, zero-le, lt_of_le_of_lt, arith, ne_eqb}
+use Rattle.std.proofs.Common.{ℕ, zero, suc, ◌+◌, ◌-◌, ◌*◌, ◌/◌, ◌%◌, ◌^◌, ◌<◌, Bool, true, false, cond, not, T, eqb}
+use Rattle.std.proofs.Common.{ltb, sym, subst, zero-le, lt_of_le_of_lt, arith, ne_eqb}
 use Prim.Native.Nat.{compare}
 use lib.Ieee.{Float, nan, inf, fin, binary32, up, down, size, nearest, odd, units, round, add, div, is_nan, of_bits}
 use lib.Ieee.Fits.{round_is}
@@ -24,7 +25,9 @@ units_number s q k = pick (ltb (q * 2 ^ k) (2 ^ 277)) (odd 25 s q k 149) (odd_nu
 pub round_number : (s : Bool) (a c : ℕ) → T (not (is_nan (round binary32 s a c)))
 round_number s a c =
     subst (λ (x : Float). T (not (is_nan x))) (sym (round_is binary32 s a c))
-    (units_number s (nearest (a * 2 ^ 149 / (c * 2 ^ (size (a * 2 ^ 149 / c) - 24))) (compare (a * 2 ^ 149 % (c * 2 ^ (size (a * 2 ^ 149 / c) - 24)) * 2) (c * 2 ^ (size (a * 2 ^ 149 / c) - 24)))) (size (a * 2 ^ 149 / c) - 24))
+    (units_number s (nearest (a * 2 ^ 149 / (c * 2 ^ (size (a * 2 ^ 149 / c) - 24)))
+        (compare (a * 2 ^ 149 % (c * 2 ^ (size (a * 2 ^ 149 / c) - 24)) * 2)
+        (c * 2 ^ (size (a * 2 ^ 149 / c) - 24)))) (size (a * 2 ^ 149 / c) - 24))
 
 -- no sign, and no NaN
 abbrev pub Good : Float → Type 0
@@ -65,13 +68,22 @@ div_good (fin false m e) (inf s) a c h p = absurd p
 div_good (fin false m e) (fin true n d) a c h p = absurd p
 div_good (fin false m e) (fin false zero d) a c h p = absurd p
 div_good (fin false m e) (fin false (suc n) d) a c h p =
-    subst (λ (t : Bool). Good (cond t (cond (eqb m 0) nan (inf false)) (round binary32 false (m * up e * down d) (suc n * up d * down e)))) (sym (ne_eqb (suc n) 0 (λ e. omega arith)))
-    (round_unsigned (m * up e * down d) (suc n * up d * down e), round_number false (m * up e * down d) (suc n * up d * down e))
+    subst (λ (t : Bool). Good (cond t (cond (eqb m 0) nan (inf false))
+        (round binary32 false (m * up e * down d) (suc n * up d * down e))))
+        (sym (ne_eqb (suc n) 0 (λ e. omega arith)))
+    (round_unsigned (m * up e * down d) (suc n * up d * down e), round_number false (m * up e * down d)
+        (suc n * up d * down e))
 
 -- one step of Heron's rule from the pattern n, for the f32 of the pattern b, and a number more
-pub step_good : (b n m : ℕ) → b < 2139095040 → 0 < n → n < 2139095040 → m < 2139095040 → Good (add binary32 (add binary32 (of_bits binary32 n) (div binary32 (of_bits binary32 b) (of_bits binary32 n))) (of_bits binary32 m))
+pub step_good : (b n m : ℕ) → b < 2139095040 → 0 < n → n < 2139095040 → m < 2139095040
+    → Good (add binary32 (add binary32 (of_bits binary32 n)
+    (div binary32 (of_bits binary32 b) (of_bits binary32 n))) (of_bits binary32 m))
 step_good b n m h p l k =
-    add_good (add binary32 (of_bits binary32 n) (div binary32 (of_bits binary32 b) (of_bits binary32 n))) (of_bits binary32 m)
-    (add_good (of_bits binary32 n) (div binary32 (of_bits binary32 b) (of_bits binary32 n)) (good_value (of_bits binary32 n) (val n) (2 ^ 149) (plain n l))
-    (div_good (of_bits binary32 b) (of_bits binary32 n) (val b) (2 ^ 149) (plain b h) (positive_of_value (of_bits binary32 n) (val n) (2 ^ 149) (plain n l) (lt_of_le_of_lt zero-le (val_strict 0 n p (omega arith))))))
+    add_good (add binary32 (of_bits binary32 n) (div binary32 (of_bits binary32 b) (of_bits binary32 n)))
+        (of_bits binary32 m)
+    (add_good (of_bits binary32 n) (div binary32 (of_bits binary32 b) (of_bits binary32 n))
+        (good_value (of_bits binary32 n) (val n) (2 ^ 149) (plain n l))
+    (div_good (of_bits binary32 b) (of_bits binary32 n) (val b) (2 ^ 149) (plain b h)
+        (positive_of_value (of_bits binary32 n) (val n) (2 ^ 149) (plain n l)
+        (lt_of_le_of_lt zero-le (val_strict 0 n p (omega arith))))))
     (good_value (of_bits binary32 m) (val m) (2 ^ 149) (plain m k))

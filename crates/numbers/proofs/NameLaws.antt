@@ -1,5 +1,8 @@
 -- The definitions of `specs/Names.antt`, as the code has them. Assumes nothing.
-use Rattle.std.proofs.Common.{◌≡◌, ℕ, zero, suc, ◌+◌, ◌-◌, ◌*◌, ◌^◌, ◌<◌, ◌≤◌, Bool, true, false, cond, ◌&&◌, eqb, List, [], ◌∷◌, length, get_or, take, drop, sym, refl, ap, ◌∙◌, le_of_suc-le-suc, zero-lt-suc, not-suc-le-zero, arith, lit<, inl, inr, eq-eqb, ne_eqb, le-leb, lt-ltb, le-ltb}
+use Rattle.std.proofs.Common.{◌≡◌, ℕ, zero, suc, ◌+◌, ◌-◌, ◌*◌, ◌^◌, ◌<◌, ◌≤◌, Bool, true, false, cond, ◌&&◌, eqb}
+use Rattle.std.proofs.Common.{List, [], ◌∷◌, length, get_or, take, drop, sym, refl, ap, ◌∙◌, le_of_suc-le-suc}
+use Rattle.std.proofs.Common.{zero-lt-suc, not-suc-le-zero, arith, lit<, inl, inr, eq-eqb, ne_eqb, le-leb, lt-ltb}
+use Rattle.std.proofs.Common.{le-ltb}
 use borrow.Author.Tests.{lt-leb, eqb-true}
 use lib.Seq.{drop-cons}
 use native.Mathlib.Numerals.{add-one}
@@ -8,14 +11,16 @@ use Rattle.std.specs.Option.{SomeIff}
 use Rattle.std.specs.Result.{OkIff, result_ok}
 use Rattle.std.specs.Char.{digit_value, to_ascii_lowercase}
 use Rattle.std.specs.Str.{IsUtf8, IsAscii}
-use Rattle.std.specs.Str.Parse.{AllDigits, IsNumeral, digits_value, digits_value_after, without_leading_plus, ParsesUnsigned}
+use Rattle.std.specs.Str.Parse.{AllDigits, IsNumeral, digits_value, digits_value_after, without_leading_plus}
+use Rattle.std.specs.Str.Parse.{ParsesUnsigned}
 use Rattle.std.proofs.lemmas.List.{take_rest}
 use Rattle.std.proofs.lemmas.Str.{IsUtf8-from_ascii, digit_value_digit}
 use Rattle.std.proofs.lemmas.Str.Parse.{digit_from_value}
 use Rattle.std.proofs.lemmas.Fmt.{IsAscii-from_digits, decimal_digit, decimal_step}
 use Rattle.std.proofs.lemmas.Bool.Decides.{nat_tests}
 use Rattle.std.proofs.lemmas.Bool.{and_right, cases_lt}
-use Rattle.numbers.specs.Names.{nodes, ynd, name_of_area, slash, base_from, base_of, lower, starts, digits_from, digits_of, parsed, area_of_base}
+use Rattle.numbers.specs.Names.{nodes, ynd, name_of_area, slash, base_from, base_of, lower, starts, digits_from}
+use Rattle.numbers.specs.Names.{digits_of, parsed, area_of_base}
 
 -- ---- a number of up to four digits
 abbrev pub four : ℕ → List ℕ
@@ -68,13 +73,15 @@ unfolding base_from
 no_slash best [] h = refl
 no_slash best (c ∷ cs) h = rw (h 0 (zero-lt-suc (length cs))) (no_slash best cs (λ k l. h (suc k) (omega arith)))
 
-pub after_slash : (best s : List ℕ) (i : ℕ) → i < length s → slash (get_or s i 0) ≡ true → ((k : ℕ) → i < k → k < length s → slash (get_or s k 0) ≡ false) → base_from best s ≡ drop (i + 1) s
+pub after_slash : (best s : List ℕ) (i : ℕ) → i < length s → slash (get_or s i 0) ≡ true
+    → ((k : ℕ) → i < k → k < length s → slash (get_or s k 0) ≡ false) → base_from best s ≡ drop (i + 1) s
 unfolding base_from
 after_slash best [] i l e h = absurd (not-suc-le-zero l)
 after_slash best (c ∷ cs) zero l e h = rw e (no_slash cs cs (λ k m. h (suc k) (zero-lt-suc k) (omega arith)))
 after_slash best (c ∷ cs) (suc i) l e h =
     let next : suc (i + 1) ≡ suc i + 1 = omega arith in
-    after_slash (cond (slash c) cs best) cs i (le_of_suc-le-suc l) e (λ k m n. h (suc k) (omega arith) (omega arith)) ∙ ap (λ (n : ℕ). drop n (c ∷ cs)) next
+    after_slash (cond (slash c) cs best) cs i (le_of_suc-le-suc l) e
+        (λ k m n. h (suc k) (omega arith) (omega arith)) ∙ ap (λ (n : ℕ). drop n (c ∷ cs)) next
 
 -- one byte after another, from a best candidate on
 pub base_step : (best s : List ℕ) (i : ℕ) → i < length s
@@ -94,15 +101,18 @@ pub starts_short : (s word : List ℕ) → length s < length word → false ≡ 
 unfolding starts
 starts_short s [] h = absurd (not-suc-le-zero h)
 starts_short [] (d ∷ ds) h = refl
-starts_short (c ∷ cs) (d ∷ ds) h = rw (← starts_short cs ds (le_of_suc-le-suc h)) (sym (and_right (eqb (lower c) d) false refl))
+starts_short (c ∷ cs) (d ∷ ds) h = rw (← starts_short cs ds (le_of_suc-le-suc h))
+    (sym (and_right (eqb (lower c) d) false refl))
 
-starts_same : (s word : List ℕ) → length word ≤ length s → ((k : ℕ) → k < length word → Same s word k) → true ≡ starts s word
+starts_same : (s word : List ℕ) → length word ≤ length s → ((k : ℕ) → k < length word → Same s word k) → true
+    ≡ starts s word
 unfolding starts
 starts_same [] [] h all = refl
 starts_same (c ∷ cs) [] h all = refl
 starts_same [] (d ∷ ds) h all = absurd (not-suc-le-zero h)
 starts_same (c ∷ cs) (d ∷ ds) h all =
-    rw (eq-eqb (lower c) d (all 0 (zero-lt-suc (length ds)))) (starts_same cs ds (le_of_suc-le-suc h) (λ k l. all (suc k) (omega arith)))
+    rw (eq-eqb (lower c) d (all 0 (zero-lt-suc (length ds))))
+        (starts_same cs ds (le_of_suc-le-suc h) (λ k l. all (suc k) (omega arith)))
 
 starts_other : (s word : List ℕ) (k : ℕ) → k < length word → k < length s → (Same s word k → ⊥) → false ≡ starts s word
 unfolding starts
@@ -110,7 +120,8 @@ starts_other s [] k h l d = absurd (not-suc-le-zero h)
 starts_other [] (w ∷ ws) k h l d = absurd (not-suc-le-zero l)
 starts_other (c ∷ cs) (w ∷ ws) zero h l d = rw (ne_eqb (lower c) w d) refl
 starts_other (c ∷ cs) (w ∷ ws) (suc k) h l d =
-    rw (← starts_other cs ws k (le_of_suc-le-suc h) (le_of_suc-le-suc l) d) (sym (and_right (eqb (lower c) w) false refl))
+    rw (← starts_other cs ws k (le_of_suc-le-suc h) (le_of_suc-le-suc l) d)
+        (sym (and_right (eqb (lower c) w) false refl))
 
 -- ASCII's lower case
 lower_is : (c : ℕ) → to_ascii_lowercase c ≡ lower c
@@ -118,7 +129,8 @@ lower_is c = grind (arith, nat_tests)
 
 pub starts_decided : (r : Bool) (s word : List ℕ) → length word ≤ length s
     → (r ≡ true → (k : ℕ) → k < length word → to_ascii_lowercase (get_or s k 0) ≡ get_or word k 0)
-    → (r ≡ false → (k : ℕ) × (k < length word) × (to_ascii_lowercase (get_or s k 0) ≡ get_or word k 0 → ⊥)) → r ≡ starts s word
+    → (r ≡ false → (k : ℕ) × (k < length word) × (to_ascii_lowercase (get_or s k 0) ≡ get_or word k 0 → ⊥)) → r
+        ≡ starts s word
 starts_decided true s word l same other = starts_same s word l (λ k h. sym (lower_is (get_or s k 0)) ∙ same refl k h)
 starts_decided false s word l same other =
     let w = other refl in
@@ -165,9 +177,12 @@ reads n (c ∷ cs) h = elim (cases_lt c 48) [
               (λ p. absurd (omega (arith, e, p.1, grows (n * 10 + digit_value c) cs)))
           | inr o ↦
               let next : m ≡ n * 10 + digit_value c = omega (arith, e) in
-              let value : digits_value_after 10 m cs ≡ digits_value_after 10 (n * 10 + digit_value c) cs = ap (λ (x : ℕ). digits_value_after 10 x cs) next in
+              let value : digits_value_after 10 m cs
+                  ≡ digits_value_after 10 (n * 10 + digit_value c) cs = ap (λ (x : ℕ). digits_value_after 10 x cs)
+                  next in
               rw (le-leb 48 c k, le-leb c 57 l, le-leb m 4294967295 o)
-              (same_iff (digits_from m cs) (λ p. ((omega (arith, e), p.0), omega (arith, value, p.1))) (λ p. (p.0.1, omega (arith, value, p.1))) value
+              (same_iff (digits_from m cs) (λ p. ((omega (arith, e), p.0), omega (arith, value, p.1)))
+                  (λ p. (p.0.1, omega (arith, value, p.1))) value
               (reads m cs (omega arith)))
         ]
   ]
@@ -179,21 +194,25 @@ Numeral cs = IsNumeral 10 cs × (digits_value 10 cs < 2 ^ 32)
 numeral : (cs : List ℕ) → SomeIff (digits_of cs) (Numeral cs) (digits_value 10 cs)
 unfolding digits_of
 numeral [] = λ h. not-suc-le-zero h.0.0
-numeral (c ∷ cs) = same_iff (digits_from 0 (c ∷ cs)) (λ p. ((zero-lt-suc (length cs), p.0), p.1)) (λ p. (p.0.1, p.1)) refl (reads 0 (c ∷ cs) (lit< tt))
+numeral (c ∷ cs) = same_iff (digits_from 0 (c ∷ cs)) (λ p. ((zero-lt-suc (length cs), p.0), p.1))
+    (λ p. (p.0.1, p.1)) refl (reads 0 (c ∷ cs) (lit< tt))
 
-parses : (t : List ℕ) → SomeIff (parsed t) (Numeral (without_leading_plus t)) (digits_value 10 (without_leading_plus t))
+parses : (t : List ℕ) → SomeIff (parsed t) (Numeral (without_leading_plus t))
+    (digits_value 10 (without_leading_plus t))
 unfolding parsed digits_of
 parses [] = λ h. not-suc-le-zero h.0.0
 parses (c ∷ cs) = go (eqb c 43)
   where
-    go : (b : Bool) → SomeIff (cond b (digits_of cs) (digits_of (c ∷ cs))) (Numeral (drop (cond b 1 0) (c ∷ cs))) (digits_value 10 (drop (cond b 1 0) (c ∷ cs)))
+    go : (b : Bool) → SomeIff (cond b (digits_of cs) (digits_of (c ∷ cs))) (Numeral (drop (cond b 1 0) (c ∷ cs)))
+        (digits_value 10 (drop (cond b 1 0) (c ∷ cs)))
     go true = numeral cs
     go false = numeral (c ∷ cs)
 
 pub parsed_is : {E : Type 0} (t : List ℕ) (r : Result ℕ E) → ParsesUnsigned 32 10 t r → result_ok r ≡ parsed t
 parsed_is t r h = one _ _ (parsed t) r h (parses t)
   where
-    one : (P : Type 0) (v : ℕ) {E : Type 0} (q : Option ℕ) (r : Result ℕ E) → OkIff r P v → SomeIff q P v → result_ok r ≡ q
+    one : (P : Type 0) (v : ℕ) {E : Type 0} (q : Option ℕ) (r : Result ℕ E) → OkIff r P v → SomeIff q P v
+        → result_ok r ≡ q
     one P v (Some y) (Ok x) h k = ap Some (h.1 ∙ sym k.1)
     one P v None (Ok x) h k = absurd (k h.0)
     one P v (Some y) (Err e) h k = absurd (h k.0)
@@ -223,16 +242,19 @@ three x y z b = cond (x && y && z) (parsed (take (length b - 4 - 5) (drop 5 b)))
 module _ (b : List ℕ) where
   pub area_short : length b < 9 → area_of_base b ≡ None
   unfolding area_of_base starts
-  area_short h = ap (λ (x : Bool). three x (starts b nodes) (starts (drop (length b - 4) b) ynd) b) (lt-leb 9 (length b) h)
+  area_short h = ap (λ (x : Bool). three x (starts b nodes) (starts (drop (length b - 4) b) ynd) b)
+      (lt-leb 9 (length b) h)
 
-  pub area_is : (y z : Bool) → 9 ≤ length b → starts b nodes ≡ y → starts (drop (length b - 4) b) ynd ≡ z → area_of_base b ≡ three true y z b
+  pub area_is : (y z : Bool) → 9 ≤ length b → starts b nodes ≡ y → starts (drop (length b - 4) b) ynd ≡ z
+      → area_of_base b ≡ three true y z b
   unfolding area_of_base starts
   area_is y z h p q =
       ap (λ (x : Bool). three x (starts b nodes) (starts (drop (length b - 4) b) ynd) b) (le-leb 9 (length b) h)
       ∙ ap (λ (x : Bool). three true x (starts (drop (length b - 4) b) ynd) b) p
       ∙ ap (λ (x : Bool). three true y x b) q
 
-  pub suffix_is : (z : Bool) → z ≡ starts (take (length b - (length b - 4)) (drop (length b - 4) b)) ynd → starts (drop (length b - 4) b) ynd ≡ z
+  pub suffix_is : (z : Bool) → z ≡ starts (take (length b - (length b - 4)) (drop (length b - 4) b)) ynd
+      → starts (drop (length b - 4) b) ynd ≡ z
   suffix_is z e = ap (λ (x : List ℕ). starts x ynd) (sym (take_rest b (length b - 4))) ∙ sym e
 
 -- for the functions

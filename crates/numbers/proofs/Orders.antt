@@ -1,5 +1,8 @@
 -- Patterns without a sign are ordered as the f32s that they stand for. Assumes nothing.
-use Rattle.std.proofs.Common.{◌≡◌, ℕ, ◌+◌, ◌*◌, ◌^◌, ◌<◌, ◌≤◌, Bool, true, false, not, T, leb, ℤ, sym, refl, ap, ◌∙◌, subst, inl, inr, le_trans, le_of_eq, lt_of_lt_of_le, mul-le-mul_right, add-mul, eq-or-lt_of_le, mul-lt-mul_of_pos_right, mul-pos, lt_of_not-le, not-le_of_lt, arith, ltb→lt, lt→ltb, leb→le, pow_pos}
+use Rattle.std.proofs.Common.{◌≡◌, ℕ, ◌+◌, ◌*◌, ◌^◌, ◌<◌, ◌≤◌, Bool, true, false, not, T, leb, ℤ, sym, refl, ap}
+use Rattle.std.proofs.Common.{◌∙◌, subst, inl, inr, le_trans, le_of_eq, lt_of_lt_of_le, mul-le-mul_right, add-mul}
+use Rattle.std.proofs.Common.{eq-or-lt_of_le, mul-lt-mul_of_pos_right, mul-pos, lt_of_not-le, not-le_of_lt, arith}
+use Rattle.std.proofs.Common.{ltb→lt, lt→ltb, leb→le, pow_pos}
 use native.Mathlib.Nat.{mul-mul-mul_comm}
 use Rattle.std.proofs.lemmas.Float as floats
 use lib.Ieee.{Float, nan, inf, fin, binary32, up, down, lt, le, add, fits, is_nan, of_bits, to_bits}
@@ -21,7 +24,8 @@ plus b h = no (leb 2147483648 b) (leb→le 2147483648 b)
     no false f = refl
 
 pub plain : (b : ℕ) → b < 2139095040 → HasValue (of_bits binary32 b) false (val b) (2 ^ 149)
-plain b h = subst (λ (s : Bool). HasValue (of_bits binary32 b) s (val b) (2 ^ 149)) (plus b h) (finite_value b (omega arith))
+plain b h = subst (λ (s : Bool). HasValue (of_bits binary32 b) s (val b) (2 ^ 149)) (plus b h)
+    (finite_value b (omega arith))
 
 infinity : of_bits binary32 2139095040 ≡ inf false
 unfolding of_bits
@@ -50,7 +54,8 @@ lt_of_values (fin false m e) (inf s) a b c C p q h = absurd q
 lt_of_values (fin false m e) (fin true n d) a b c C p q h = absurd (subst T q.0 tt)
 lt_of_values (fin false m e) (fin false n d) a b c C p q h =
     lt→ltb (m * up e * down d) (n * up d * down e)
-    (lt_of_not-le (λ (g : n * up d * down e ≤ m * up e * down d). not-le_of_lt (mul-lt-mul_of_pos_right h C) (transfer b a c c (n * up d) (m * up e) (down d) (down e) (down_pos d) (down_pos e) (sym q.1) (sym p.1) g)))
+    (lt_of_not-le (λ (g : n * up d * down e ≤ m * up e * down d). not-le_of_lt (mul-lt-mul_of_pos_right h C)
+        (transfer b a c c (n * up d) (m * up e) (down d) (down e) (down_pos d) (down_pos e) (sym q.1) (sym p.1) g)))
 
 lt_infinity : (x : Float) (a c : ℕ) → HasValue x false a c → T (lt x (inf false))
 unfolding lt
@@ -60,8 +65,10 @@ lt_infinity (fin s m e) a c p = tt
 
 pub bits_lt : (b c : ℕ) → b < c → c ≤ 2139095040 → T (lt (of_bits binary32 b) (of_bits binary32 c))
 bits_lt b c h l = elim (eq-or-lt_of_le l) [
-  | inl e ↦ subst (λ (x : Float). T (lt (of_bits binary32 b) x)) (sym (ap (of_bits binary32) e ∙ infinity)) (lt_infinity (of_bits binary32 b) (val b) (2 ^ 149) (plain b (lt_of_lt_of_le h l)))
-  | inr g ↦ lt_of_values (of_bits binary32 b) (of_bits binary32 c) (val b) (val c) (2 ^ 149) (pow_pos 149) (plain b (omega arith)) (plain c g) (val_strict b c h (omega arith))
+  | inl e ↦ subst (λ (x : Float). T (lt (of_bits binary32 b) x)) (sym (ap (of_bits binary32) e ∙ infinity))
+      (lt_infinity (of_bits binary32 b) (val b) (2 ^ 149) (plain b (lt_of_lt_of_le h l)))
+  | inr g ↦ lt_of_values (of_bits binary32 b) (of_bits binary32 c) (val b) (val c) (2 ^ 149) (pow_pos 149)
+      (plain b (omega arith)) (plain c g) (val_strict b c h (omega arith))
 ]
 
 -- not both `y < x` and `x <= y`
@@ -80,30 +87,37 @@ clash (fin false m e) (inf true) u v h l = v
 clash (fin false m e) (inf false) u v h l = h
 clash (fin false m e) (fin true n d) u v h l = v
 clash (fin false m e) (fin false n d) u v h l =
-    not-le_of_lt (ltb→lt (n * up d * down e) (m * up e * down d) h) (lt_or_eq (m * up e * down d) (n * up d * down e) l)
+    not-le_of_lt (ltb→lt (n * up d * down e) (m * up e * down d) h)
+        (lt_or_eq (m * up e * down d) (n * up d * down e) l)
 
 pub lt_bits : (b c : ℕ) → b ≤ 2139095040 → c ≤ 2139095040 → T (lt (of_bits binary32 b) (of_bits binary32 c)) → b < c
 lt_bits b c p q t = elim (cases_lt b c) [
   | inl h ↦ h
   | inr g ↦ absurd (elim (eq-or-lt_of_le g) [
     | inl e ↦ itself (subst (λ (x : ℕ). T (lt (of_bits binary32 b) (of_bits binary32 x))) e t)
-    | inr l ↦ clash (of_bits binary32 b) (of_bits binary32 c) (bits_unsigned b p) (bits_unsigned c q) (bits_lt c b l p) (floats.le_of_lt (of_bits binary32 b) (of_bits binary32 c) t)
+    | inr l ↦ clash (of_bits binary32 b) (of_bits binary32 c) (bits_unsigned b p) (bits_unsigned c q)
+        (bits_lt c b l p) (floats.le_of_lt (of_bits binary32 b) (of_bits binary32 c) t)
   ])
 ]
   where
     itself : T (lt (of_bits binary32 b) (of_bits binary32 b)) → ⊥
     itself s =
-        clash (of_bits binary32 b) (of_bits binary32 b) (bits_unsigned b p) (bits_unsigned b p) s (floats.le_of_lt (of_bits binary32 b) (of_bits binary32 b) s)
+        clash (of_bits binary32 b) (of_bits binary32 b) (bits_unsigned b p) (bits_unsigned b p) s
+            (floats.le_of_lt (of_bits binary32 b) (of_bits binary32 b) s)
 
 -- ---- `<=`, from f32s to their patterns
-pub pattern_of : (x : Float) → T (fits binary32 x) → T (unsigned x) → T (not (is_nan x)) → to_bits binary32 x ≤ 2139095040
+pub pattern_of : (x : Float) → T (fits binary32 x) → T (unsigned x) → T (not (is_nan x)) → to_bits binary32 x
+    ≤ 2139095040
 pattern_of x f u n =
     pattern_in (to_bits binary32 x) (subst (λ (v : Float). T (unsigned v)) (sym (of_bits-to_bits binary32 x f)) u)
     (subst (λ (v : Float). T (not (is_nan v))) (sym (of_bits-to_bits binary32 x f)) n)
 
-pub le_bits : (x y : Float) → T (fits binary32 x) → T (fits binary32 y) → T (unsigned x) → T (unsigned y) → T (not (is_nan x)) → T (le x y) → to_bits binary32 x ≤ to_bits binary32 y
+pub le_bits : (x y : Float) → T (fits binary32 x) → T (fits binary32 y) → T (unsigned x) → T (unsigned y)
+    → T (not (is_nan x)) → T (le x y) → to_bits binary32 x ≤ to_bits binary32 y
 le_bits x y f g u v n h = elim (cases_lt (to_bits binary32 y) (to_bits binary32 x)) [
-  | inl l ↦ absurd (clash x y u v (subst (λ (z : Float). T (lt z x)) (of_bits-to_bits binary32 y g) (subst (λ (z : Float). T (lt (of_bits binary32 (to_bits binary32 y)) z)) (of_bits-to_bits binary32 x f) (bits_lt (to_bits binary32 y) (to_bits binary32 x) l (pattern_of x f u n)))) h)
+  | inl l ↦ absurd (clash x y u v (subst (λ (z : Float). T (lt z x)) (of_bits-to_bits binary32 y g)
+      (subst (λ (z : Float). T (lt (of_bits binary32 (to_bits binary32 y)) z)) (of_bits-to_bits binary32 x f)
+      (bits_lt (to_bits binary32 y) (to_bits binary32 x) l (pattern_of x f u n)))) h)
   | inr l ↦ l
 ]
 
@@ -113,14 +127,16 @@ grow X Y E D G N h =
     le_trans (le_of_eq (add-mul (X * G) (N * E) (D * G)))
     (le_trans
     (both (X * G * (D * G)) (Y * G * (E * G)) (N * E * (D * G)) (N * D * (E * G))
-    (le_trans (le_of_eq (mul-mul-mul_comm X G D G)) (le_trans (mul-le-mul_right (G * G) h) (le_of_eq (sym (mul-mul-mul_comm Y G E G)))))
+    (le_trans (le_of_eq (mul-mul-mul_comm X G D G))
+        (le_trans (mul-le-mul_right (G * G) h) (le_of_eq (sym (mul-mul-mul_comm Y G E G)))))
     (mul-mul-mul_comm N E D G))
     (le_of_eq (sym (add-mul (Y * G) (N * D) (E * G)))))
   where
     both : (a b c d : ℕ) → a ≤ b → c ≡ d → a + c ≤ b + d
     both a b c d h e = omega arith
 
-pub add_mono : (x y : Float) (a b c : ℕ) (n : ℕ) (g : ℤ) → 0 < c → HasValue x false a c → HasValue y false b c → a ≤ b → T (le (add binary32 x (fin false n g)) (add binary32 y (fin false n g)))
+pub add_mono : (x y : Float) (a b c : ℕ) (n : ℕ) (g : ℤ) → 0 < c → HasValue x false a c → HasValue y false b c → a
+    ≤ b → T (le (add binary32 x (fin false n g)) (add binary32 y (fin false n g)))
 unfolding add
 add_mono nan y a b c n g C p q h = absurd p
 add_mono (inf s) y a b c n g C p q h = absurd p
@@ -129,5 +145,8 @@ add_mono (fin false m e) nan a b c n g C p q h = absurd q
 add_mono (fin false m e) (inf s) a b c n g C p q h = absurd q
 add_mono (fin false m e) (fin true k d) a b c n g C p q h = absurd (subst T q.0 tt)
 add_mono (fin false m e) (fin false k d) a b c n g C p q h =
-    round_mono binary32 (m * up e * down g + n * up g * down e) (down e * down g) (k * up d * down g + n * up g * down d) (down d * down g) (mul-pos (down_pos e) (down_pos g)) (mul-pos (down_pos d) (down_pos g))
-    (grow (m * up e) (k * up d) (down e) (down d) (down g) (n * up g) (transfer (m * up e) (k * up d) (down e) (down d) a b c c C C p.1 q.1 (mul-le-mul_right c h)))
+    round_mono binary32 (m * up e * down g + n * up g * down e) (down e * down g)
+        (k * up d * down g + n * up g * down d) (down d * down g) (mul-pos (down_pos e) (down_pos g))
+        (mul-pos (down_pos d) (down_pos g))
+    (grow (m * up e) (k * up d) (down e) (down d) (down g) (n * up g)
+        (transfer (m * up e) (k * up d) (down e) (down d) a b c c C C p.1 q.1 (mul-le-mul_right c h)))

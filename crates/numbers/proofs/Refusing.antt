@@ -1,6 +1,7 @@
 -- Lists of causes: one list behind another, a scan of places, and what an accepted list says; the tests that a path of
 -- the code has passed, for `search`. Assumes nothing.
-use Rattle.std.proofs.Common.{◌≡◌, ℕ, zero, suc, ◌+◌, ◌<◌, Bool, true, false, cond, List, [], ◌∷◌, ◌++◌, length, get_or, sym, refl, ap, ◌∙◌, arith, rules, le-ltb, lt-ltb, eq-eqb, ne_eqb, le-leb}
+use Rattle.std.proofs.Common.{◌≡◌, ℕ, zero, suc, ◌+◌, ◌<◌, Bool, true, false, cond, List, [], ◌∷◌, ◌++◌, length}
+use Rattle.std.proofs.Common.{get_or, sym, refl, ap, ◌∙◌, arith, rules, le-ltb, lt-ltb, eq-eqb, ne_eqb, le-leb}
 use borrow.Author.Tests.{lt-leb}
 use Rattle.std.specs.Prelude.{Result, Ok, Err}
 use Rattle.numbers.specs.declared.refusal.Refusal.{Refusal}
@@ -44,13 +45,17 @@ passed (c ∷ cs) zero e = (split c cs e).0
 passed (c ∷ cs) (suc k) e = passed cs k (split c cs e).1
 
 -- a scan names the lowest place
-pub each_lowest : (cause : ℕ → Refusal) (bad : ℕ → Bool) (i k j : ℕ) → j < k → ((q : ℕ) → q < j → bad (i + q) ≡ false) → bad (i + j) ≡ true → decided (each cause bad i k) ≡ Err (cause (i + j))
+pub each_lowest : (cause : ℕ → Refusal) (bad : ℕ → Bool) (i k j : ℕ) → j < k
+    → ((q : ℕ) → q < j → bad (i + q) ≡ false) → bad (i + j) ≡ true → decided (each cause bad i k)
+    ≡ Err (cause (i + j))
 unfolding each
 each_lowest cause bad i zero j lt good h = absurd (omega arith)
-each_lowest cause bad i (suc k) zero lt good h = let e : i + 0 ≡ i = omega arith in rw (rw e at h) (ap (λ (q : ℕ). Err (cause q)) (sym e))
+each_lowest cause bad i (suc k) zero lt good h = let e : i + 0
+    ≡ i = omega arith in rw (rw e at h) (ap (λ (q : ℕ). Err (cause q)) (sym e))
 each_lowest cause bad i (suc k) (suc j) lt good h =
     let e : i + 0 ≡ i = omega arith in
     let s : i + suc j ≡ suc i + j = omega arith in
     rw (rw e at (good 0 (omega arith)))
-    (each_lowest cause bad (suc i) k j (omega arith) (λ q l. let s' : suc i + q ≡ i + suc q = omega arith in rw s' (good (suc q) (omega arith))) (rw s at h)
+    (each_lowest cause bad (suc i) k j (omega arith)
+        (λ q l. let s' : suc i + q ≡ i + suc q = omega arith in rw s' (good (suc q) (omega arith))) (rw s at h)
     ∙ ap (λ (q : ℕ). Err (cause q)) (sym s))

@@ -1,6 +1,11 @@
--- The thresholds by whole numbers: the comparison grows with the pattern and turns at the table's entry, one computed test for all entries; a least pattern is the
+-- The thresholds by whole numbers: the comparison grows with the pattern and turns at the table's entry, one
+-- computed test for all entries; a least pattern is the
 -- table's entry, and there is no other. Assumes nothing.
-use Rattle.std.proofs.Common.{◌≡◌, ℕ, zero, suc, ◌+◌, ◌-◌, ◌*◌, ◌/◌, ◌%◌, ◌^◌, ◌<◌, ◌≤◌, Bool, true, false, not, ◌&&◌, ◌||◌, eqb, ltb, leb, List, [], ◌∷◌, get_or, sym, ap, ◌∙◌, subst, inl, inr, le_trans, le_of_eq, lt_of_lt_of_le, le_of_suc-le-suc, mul-le-mul_right, mod-eq_of_lt, zero-lt-suc, div-lt_iff_lt-mul, le_antisymm, mul-lt-mul_of_pos_right, mul-pos, pow-suc, lt_of_not-le, arith, refl, eqb-true, T_not, pow_pos, pow_mono, pow-add}
+use Rattle.std.proofs.Common.{◌≡◌, ℕ, zero, suc, ◌+◌, ◌-◌, ◌*◌, ◌/◌, ◌%◌, ◌^◌, ◌<◌, ◌≤◌, Bool, true, false, not}
+use Rattle.std.proofs.Common.{◌&&◌, ◌||◌, eqb, ltb, leb, List, [], ◌∷◌, get_or, sym, ap, ◌∙◌, subst, inl, inr}
+use Rattle.std.proofs.Common.{le_trans, le_of_eq, lt_of_lt_of_le, le_of_suc-le-suc, mul-le-mul_right, mod-eq_of_lt}
+use Rattle.std.proofs.Common.{zero-lt-suc, div-lt_iff_lt-mul, le_antisymm, mul-lt-mul_of_pos_right, mul-pos}
+use Rattle.std.proofs.Common.{pow-suc, lt_of_not-le, arith, refl, eqb-true, T_not, pow_pos, pow_mono, pow-add}
 use native.Mathlib.Nat.{pow-succ'}
 use lib.Ieee.{size, binary32, of_bits}
 use lib.Ieee.Digits.{size-lt, size-le}
@@ -9,7 +14,8 @@ use Rattle.numbers.specs.Table.{thresholds, Least}
 use Rattle.numbers.specs.ThresholdSearch.{whole_reaches, Searched, hex_digit, hex_value, hex_before, hex_read}
 use Rattle.numbers.proofs.Patterns.{number, val, val_mono}
 use Rattle.numbers.proofs.TableLaws.{entry, finite, least_entry}
-use Rattle.std.proofs.lemmas.Bool.{agree_below_at, and_parts, both_ways, cases_lt, leb-true, le-leb, ltb-true, not-true, or_cases}
+use Rattle.std.proofs.lemmas.Bool.{agree_below_at, and_parts, both_ways, cases_lt, leb-true, le-leb, ltb-true}
+use Rattle.std.proofs.lemmas.Bool.{not-true, or_cases}
 
 -- ---- the digits of k - 1
 pub digits_are : (k j : ℕ) → 0 < k → k ≤ 2 ^ j → 2 ^ j < 2 * k → j ≡ size (k - 1)
@@ -58,9 +64,11 @@ module _ (k j b : ℕ) (s : Searched k j b) where
       mod-eq_of_lt (lt_of_lt_of_le (mul-lt-mul_of_pos_right (omega arith) (pow_pos e))
       (le_trans (le_of_eq (sym (pow-add 2 24 e))) (pow_mono {j = 64} (omega arith))))
 
-  pub compared : leb ((K % 4294967296 - 1) * (K % 4294967296 - 1)) (q * 2 ^ e % 18446744073709551616) ≡ whole_reaches k j b
+  pub compared : leb ((K % 4294967296 - 1) * (K % 4294967296 - 1)) (q * 2 ^ e % 18446744073709551616)
+      ≡ whole_reaches k j b
   unfolding whole_reaches
-  compared = ap (λ (x : ℕ). leb ((x - 1) * (x - 1)) (q * 2 ^ e % 18446744073709551616)) k_whole ∙ ap (leb ((K - 1) * (K - 1))) q_whole
+  compared = ap (λ (x : ℕ). leb ((x - 1) * (x - 1)) (q * 2 ^ e % 18446744073709551616)) k_whole
+      ∙ ap (leb ((K - 1) * (K - 1))) q_whole
 
 -- ---- it grows with the pattern: as the value of the pattern whose field is 99 + 2 * j less
 abbrev less : ℕ → ℕ → ℕ
@@ -73,13 +81,16 @@ at_field (suc x) y t e = ap (λ (z : ℕ). (8388608 + t) * 2 ^ z) (same x y e)
     same : (x y : ℕ) → suc x ≡ suc y → x ≡ y
     same x y e = omega arith
 
-valued : (j b : ℕ) → j ≤ 8 → 125 + 2 * j ≤ b / 8388608 → b < 2147483648 → val (less j b) ≡ (8388608 + b % 8388608) * 2 ^ (b / 8388608 - 100 - 2 * j)
-valued j b J h l = at_field (less j b % 2147483648 / 8388608) (b / 8388608 - 100 - 2 * j) (less j b % 8388608) (omega arith) ∙ ap (λ (t : ℕ). (8388608 + t) * 2 ^ (b / 8388608 - 100 - 2 * j)) (fractions j b J h l)
+valued : (j b : ℕ) → j ≤ 8 → 125 + 2 * j ≤ b / 8388608 → b < 2147483648 → val (less j b)
+    ≡ (8388608 + b % 8388608) * 2 ^ (b / 8388608 - 100 - 2 * j)
+valued j b J h l = at_field (less j b % 2147483648 / 8388608) (b / 8388608 - 100 - 2 * j) (less j b % 8388608)
+    (omega arith) ∙ ap (λ (t : ℕ). (8388608 + t) * 2 ^ (b / 8388608 - 100 - 2 * j)) (fractions j b J h l)
   where
     fractions : (j b : ℕ) → j ≤ 8 → 125 + 2 * j ≤ b / 8388608 → b < 2147483648 → less j b % 8388608 ≡ b % 8388608
     fractions j b J h l = omega arith
 
-grows : (k j b c : ℕ) → j ≤ 8 → 125 + 2 * j ≤ b / 8388608 → b ≤ c → c < 2147483648 → whole_reaches k j b ≡ true → whole_reaches k j c ≡ true
+grows : (k j b c : ℕ) → j ≤ 8 → 125 + 2 * j ≤ b / 8388608 → b ≤ c → c < 2147483648 → whole_reaches k j b ≡ true
+    → whole_reaches k j c ≡ true
 unfolding whole_reaches
 grows k j b c J h l m t =
     le-leb _ _
@@ -93,7 +104,8 @@ inside j t = ltb ((125 + 2 * j) * 8388608) t && leb t ((127 + 2 * j) * 8388608)
 
 turns : ℕ → ℕ → Bool
 unfolding size whole_reaches inside
-turns k t = eqb k 0 || (inside (size (k - 1)) t && (whole_reaches k (size (k - 1)) t && not (whole_reaches k (size (k - 1)) (t - 1))))
+turns k t = eqb k 0 || (inside (size (k - 1)) t && (whole_reaches k (size (k - 1)) t
+    && not (whole_reaches k (size (k - 1)) (t - 1))))
 
 turns_test : (k : ℕ) → k < 256 → turns k (entry k) ≡ true
 unfolding thresholds turns
@@ -119,7 +131,8 @@ pub turning : (k j : ℕ) → 0 < k → k < 256 → j ≡ size (k - 1) → Turni
 turning k j K h e = subst (λ (z : ℕ). Turning k z) (sym e) (turning_at k K h)
 
 -- what the comparison says of a pattern and the entry
-pub at_or_above : (k j m : ℕ) → Turning k j → k < 256 → j ≤ 8 → 125 + 2 * j ≤ m / 8388608 → whole_reaches k j m ≡ true → entry k ≤ m
+pub at_or_above : (k j m : ℕ) → Turning k j → k < 256 → j ≤ 8 → 125 + 2 * j ≤ m / 8388608 → whole_reaches k j m
+    ≡ true → entry k ≤ m
 at_or_above k j m t h J f e = elim (cases_lt m (entry k)) [
   | inl l ↦ absurd (both_ways _ t.before (grows k j m (entry k - 1) J f (omega arith) (omega (arith, finite k h)) e))
   | inr g ↦ g
@@ -136,7 +149,8 @@ pub least_only : (k s t : ℕ) → Least k s → Least k t → s ≡ t
 least_only k s t a b = le_antisymm (no_less t s b a) (no_less s t a b)
   where
     no_less : (x y : ℕ) → Least k x → Least k y → y ≤ x
-    no_less x y p q = elim (cases_lt x y) [ inl l ↦ absurd (T_not (reaches k (root (of_bits binary32 x))) (q.none_below x l) p.own) | inr g ↦ g ]
+    no_less x y p q = elim (cases_lt x y)
+        [ inl l ↦ absurd (T_not (reaches k (root (of_bits binary32 x))) (q.none_below x l) p.own) | inr g ↦ g ]
 
 pub the_table : (k : ℕ) → k < 256 → Least k (get_or thresholds k 0) × ((t : ℕ) → Least k t → t ≡ get_or thresholds k 0)
 the_table k h = (least_entry k h, λ t l. least_only k t (entry k) l (least_entry k h))
@@ -154,7 +168,8 @@ read_before : (w n : ℕ) (rest : List ℕ) → n < 16 ^ w → hex_read 0 (hex_b
 read_before zero n rest h = let none : 0 ≡ n = omega arith in ap (λ (x : ℕ). hex_read x rest) none
 read_before (suc w) n rest h =
     let whole : n / 16 * 16 + n % 16 ≡ n = omega arith in
-    read_before w (n / 16) (hex_digit (n % 16) ∷ rest) ((div-lt_iff_lt-mul (zero-lt-suc 15)).1 (lt_of_lt_of_le h (le_of_eq (pow-suc 16 w))))
+    read_before w (n / 16) (hex_digit (n % 16) ∷ rest)
+        ((div-lt_iff_lt-mul (zero-lt-suc 15)).1 (lt_of_lt_of_le h (le_of_eq (pow-suc 16 w))))
     ∙ ap (λ (x : ℕ). hex_read (n / 16 * 16 + x) rest) (value_back (n % 16) (omega arith))
     ∙ ap (λ (x : ℕ). hex_read x rest) whole
 

@@ -1,5 +1,9 @@
 -- `step_of` of a pattern, by cases on the exponent's field. Assumes nothing.
-use Rattle.std.proofs.Common.{◌≡◌, ℕ, zero, suc, ◌+◌, ◌-◌, ◌*◌, ◌/◌, ◌%◌, ◌^◌, ◌<◌, ◌≤◌, min, Bool, true, false, not, ℤ, pos, negsuc, neg_ℤ, nat_abs, sym, refl, ap, ◌∙◌, inl, inr, le_trans, le_of_eq, lt_of_lt_of_le, le_of_lt, mul-le-mul_right, zero-lt-suc, mul_assoc, mul_comm, eq-zero-or-pos, mul-lt-mul_of_pos_right, mul-pos, one-mul, le-div_iff_mul-le, mul_right_comm, mul-div_cancel, arith, to_z-of_z, pow_pos, pow_mono, pow-add, shr_lt}
+use Rattle.std.proofs.Common.{◌≡◌, ℕ, zero, suc, ◌+◌, ◌-◌, ◌*◌, ◌/◌, ◌%◌, ◌^◌, ◌<◌, ◌≤◌, min, Bool, true, false}
+use Rattle.std.proofs.Common.{not, ℤ, pos, negsuc, neg_ℤ, nat_abs, sym, refl, ap, ◌∙◌, inl, inr, le_trans, le_of_eq}
+use Rattle.std.proofs.Common.{lt_of_lt_of_le, le_of_lt, mul-le-mul_right, zero-lt-suc, mul_assoc, mul_comm}
+use Rattle.std.proofs.Common.{eq-zero-or-pos, mul-lt-mul_of_pos_right, mul-pos, one-mul, le-div_iff_mul-le}
+use Rattle.std.proofs.Common.{mul_right_comm, mul-div_cancel, arith, to_z-of_z, pow_pos, pow_mono, pow-add, shr_lt}
 use native.Mathlib.Nat.{div-eq_of_lt}
 use lib.Ieee.{Float, nan, inf, fin, binary32, up, down, of_bits, round, div, of_int}
 use lib.Ieee.Fits.{down_pos}
@@ -13,13 +17,15 @@ use Rattle.numbers.specs.Cases.{sign, field, fraction}
 use Rattle.numbers.proofs.Patterns.{low_value, mid_value, infinite, no_number}
 
 -- the steps of ±a / c
-pub step_of_value : (k : ℕ) (x : Float) (s : Bool) (a c : ℕ) → 0 < c → HasValue x s a c → step_of k x ≡ limited s (a * 2 ^ k / c)
+pub step_of_value : (k : ℕ) (x : Float) (s : Bool) (a c : ℕ) → 0 < c → HasValue x s a c → step_of k x
+    ≡ limited s (a * 2 ^ k / c)
 unfolding step_of
 step_of_value k nan s a c C h = absurd h
 step_of_value k (inf t) s a c C h = absurd h
 step_of_value k (fin t m e) s a c C h =
     ap (λ (u : Bool). limited u (m * up e * 2 ^ k / down e)) h.0
-    ∙ ap (limited s) (div_same (m * up e * 2 ^ k) (down e) (a * 2 ^ k) c (down_pos e) C (mul_right_comm (m * up e) (2 ^ k) c ∙ ap (λ (n : ℕ). n * 2 ^ k) h.1 ∙ mul_right_comm a (down e) (2 ^ k)))
+    ∙ ap (limited s) (div_same (m * up e * 2 ^ k) (down e) (a * 2 ^ k) c (down_pos e) C
+        (mul_right_comm (m * up e) (2 ^ k) c ∙ ap (λ (n : ℕ). n * 2 ^ k) h.1 ∙ mul_right_comm a (down e) (2 ^ k)))
 
 -- from 32768 on only the sign counts
 pub over : (s : Bool) (n : ℕ) → 32768 ≤ n → limited s n ≡ limited s 32768
@@ -48,18 +54,24 @@ small_low b k h =
 small_mid : (q x k : ℕ) → q < 2 ^ 24 → 0 < x → x + k < 127 → q * 2 ^ (x - 1) * 2 ^ k < 2 ^ 149
 small_mid q x k h p l =
     lt_of_lt_of_le (mul-lt-mul_of_pos_right (mul-lt-mul_of_pos_right h (pow_pos (x - 1))) (pow_pos k))
-    (le_trans (le_of_eq (ap (λ (n : ℕ). n * 2 ^ k) (sym (pow-add 2 24 (x - 1))) ∙ sym (pow-add 2 (24 + (x - 1)) k))) (pow_mono {j = 149} (omega arith)))
+    (le_trans (le_of_eq (ap (λ (n : ℕ). n * 2 ^ k) (sym (pow-add 2 24 (x - 1))) ∙ sym (pow-add 2 (24 + (x - 1)) k)))
+        (pow_mono {j = 149} (omega arith)))
 
 pub too_small : (b k : ℕ) → k ≤ 5 → field b + k < 127 → step_of k (of_bits binary32 b) ≡ pos 0
 too_small b k h l = elim (eq-zero-or-pos (field b)) [
-  | inl z ↦ step_of_value k (of_bits binary32 b) (sign b) (fraction b) (2 ^ 149) (pow_pos 149) (low_value b z) ∙ ap (limited (sign b)) (div-eq_of_lt (small_low b k h)) ∙ none (sign b)
-  | inr p ↦ step_of_value k (of_bits binary32 b) (sign b) ((8388608 + fraction b) * 2 ^ (field b - 1)) (2 ^ 149) (pow_pos 149) (mid_value b p (omega arith)) ∙ ap (limited (sign b)) (div-eq_of_lt (small_mid (8388608 + fraction b) (field b) k (digits_in b) p l)) ∙ none (sign b)
+  | inl z ↦ step_of_value k (of_bits binary32 b) (sign b) (fraction b) (2 ^ 149) (pow_pos 149) (low_value b z)
+      ∙ ap (limited (sign b)) (div-eq_of_lt (small_low b k h)) ∙ none (sign b)
+  | inr p ↦ step_of_value k (of_bits binary32 b) (sign b) ((8388608 + fraction b) * 2 ^ (field b - 1)) (2 ^ 149)
+      (pow_pos 149) (mid_value b p (omega arith))
+      ∙ ap (limited (sign b)) (div-eq_of_lt (small_mid (8388608 + fraction b) (field b) k (digits_in b) p l))
+      ∙ none (sign b)
 ]
 
 -- ---- within range
 shift : (q x k : ℕ) → 0 < x → x + k < 142 → q * 2 ^ (x - 1) * 2 ^ k * 2 ^ (150 - k - x) ≡ q * 2 ^ 149
 shift q x k p l =
-    ap (λ (n : ℕ). n * 2 ^ (150 - k - x)) (mul_assoc q (2 ^ (x - 1)) (2 ^ k) ∙ ap (λ (n : ℕ). q * n) (sym (pow-add 2 (x - 1) k)))
+    ap (λ (n : ℕ). n * 2 ^ (150 - k - x))
+        (mul_assoc q (2 ^ (x - 1)) (2 ^ k) ∙ ap (λ (n : ℕ). q * n) (sym (pow-add 2 (x - 1) k)))
     ∙ mul_assoc q (2 ^ (x - 1 + k)) (2 ^ (150 - k - x))
     ∙ ap (λ (n : ℕ). q * n) (sym (pow-add 2 (x - 1 + k) (150 - k - x)) ∙ ap (λ (n : ℕ). 2 ^ n) (whole x k p l))
   where
@@ -69,21 +81,29 @@ shift q x k p l =
 pub cut_in : (b k : ℕ) → field b + k < 142 → (8388608 + fraction b) / 2 ^ (150 - k - field b) < 32768
 cut_in b k l = shr_lt 15 (150 - k - field b) (lt_of_lt_of_le (digits_in b) (pow_mono {i = 24} (omega arith)))
 
-pub in_range : (b k : ℕ) → k ≤ 5 → 127 ≤ field b + k → field b + k < 142 → step_of k (of_bits binary32 b) ≡ limited (sign b) ((8388608 + fraction b) / 2 ^ (150 - k - field b))
+pub in_range : (b k : ℕ) → k ≤ 5 → 127 ≤ field b + k → field b + k < 142 → step_of k (of_bits binary32 b)
+    ≡ limited (sign b) ((8388608 + fraction b) / 2 ^ (150 - k - field b))
 in_range b k h p l =
-    step_of_value k (of_bits binary32 b) (sign b) ((8388608 + fraction b) * 2 ^ (field b - 1)) (2 ^ 149) (pow_pos 149) (mid_value b (omega arith) (omega arith))
-    ∙ ap (limited (sign b)) (div_same ((8388608 + fraction b) * 2 ^ (field b - 1) * 2 ^ k) (2 ^ 149) (8388608 + fraction b) (2 ^ (150 - k - field b)) (pow_pos 149) (pow_pos (150 - k - field b)) (shift (8388608 + fraction b) (field b) k (omega arith) l))
+    step_of_value k (of_bits binary32 b) (sign b) ((8388608 + fraction b) * 2 ^ (field b - 1)) (2 ^ 149)
+        (pow_pos 149) (mid_value b (omega arith) (omega arith))
+    ∙ ap (limited (sign b)) (div_same ((8388608 + fraction b) * 2 ^ (field b - 1) * 2 ^ k) (2 ^ 149)
+        (8388608 + fraction b) (2 ^ (150 - k - field b)) (pow_pos 149) (pow_pos (150 - k - field b))
+        (shift (8388608 + fraction b) (field b) k (omega arith) l))
 
 -- ---- beyond it
 large : (q x k : ℕ) → 8388608 ≤ q → k ≤ 5 → 142 ≤ x + k → 32768 * 2 ^ 149 ≤ q * 2 ^ (x - 1) * 2 ^ k
 large q x k h j l =
-    le_trans (le_trans (pow_mono {i = 164} (omega arith)) (le_of_eq (pow-add 2 (23 + (x - 1)) k ∙ ap (λ (n : ℕ). n * 2 ^ k) (pow-add 2 23 (x - 1)))))
+    le_trans (le_trans (pow_mono {i = 164} (omega arith))
+        (le_of_eq (pow-add 2 (23 + (x - 1)) k ∙ ap (λ (n : ℕ). n * 2 ^ k) (pow-add 2 23 (x - 1)))))
     (mul-le-mul_right (2 ^ k) (mul-le-mul_right (2 ^ (x - 1)) h))
 
-pub beyond : (b k : ℕ) → k ≤ 5 → 142 ≤ field b + k → field b < 255 → step_of k (of_bits binary32 b) ≡ limited (sign b) 32768
+pub beyond : (b k : ℕ) → k ≤ 5 → 142 ≤ field b + k → field b < 255 → step_of k (of_bits binary32 b)
+    ≡ limited (sign b) 32768
 beyond b k h l u =
-    step_of_value k (of_bits binary32 b) (sign b) ((8388608 + fraction b) * 2 ^ (field b - 1)) (2 ^ 149) (pow_pos 149) (mid_value b (omega arith) u)
-    ∙ over (sign b) ((8388608 + fraction b) * 2 ^ (field b - 1) * 2 ^ k / 2 ^ 149) ((le-div_iff_mul-le (pow_pos 149)).1 (large (8388608 + fraction b) (field b) k (omega arith) h l))
+    step_of_value k (of_bits binary32 b) (sign b) ((8388608 + fraction b) * 2 ^ (field b - 1)) (2 ^ 149)
+        (pow_pos 149) (mid_value b (omega arith) u)
+    ∙ over (sign b) ((8388608 + fraction b) * 2 ^ (field b - 1) * 2 ^ k / 2 ^ 149)
+        ((le-div_iff_mul-le (pow_pos 149)).1 (large (8388608 + fraction b) (field b) k (omega arith) h l))
 
 -- ---- infinite
 pub at_infinity : (b k : ℕ) → field b ≡ 255 → fraction b ≡ 0 → step_of k (of_bits binary32 b) ≡ limited (sign b) 32768
@@ -96,13 +116,17 @@ unfolding step_of
 at_nan b k e z = ap (step_of k) (no_number b e z)
 
 -- ---- reading: ±n divided by 2 ^ k
-alike : (t s : Bool) (m n u d k : ℕ) → 0 < d → t ≡ s → m * u * 1 ≡ n * d → round binary32 t (m * u * 1) (1 * 2 ^ k * d) ≡ round binary32 s n (2 ^ k)
+alike : (t s : Bool) (m n u d k : ℕ) → 0 < d → t ≡ s → m * u * 1 ≡ n * d
+    → round binary32 t (m * u * 1) (1 * 2 ^ k * d) ≡ round binary32 s n (2 ^ k)
 alike t s m n u d k D p q =
     ap (λ (b : Bool). round binary32 b (m * u * 1) (1 * 2 ^ k * d)) p
-    ∙ round_same binary32 s (m * u * 1) (1 * 2 ^ k * d) n (2 ^ k) (mul-pos (mul-pos (zero-lt-suc 0) (pow_pos k)) D) (pow_pos k)
-    (ap (λ (a : ℕ). a * 2 ^ k) q ∙ mul_assoc n d (2 ^ k) ∙ ap (λ (a : ℕ). n * a) (mul_comm d (2 ^ k) ∙ ap (λ (a : ℕ). a * d) (sym (one-mul (2 ^ k)))))
+    ∙ round_same binary32 s (m * u * 1) (1 * 2 ^ k * d) n (2 ^ k) (mul-pos (mul-pos (zero-lt-suc 0) (pow_pos k)) D)
+        (pow_pos k)
+    (ap (λ (a : ℕ). a * 2 ^ k) q ∙ mul_assoc n d (2 ^ k)
+        ∙ ap (λ (a : ℕ). n * a) (mul_comm d (2 ^ k) ∙ ap (λ (a : ℕ). a * d) (sym (one-mul (2 ^ k)))))
 
-by_power : (k : ℕ) (x : Float) (s : Bool) (n : ℕ) → HasValue x s n 1 → div binary32 x (fin false 1 (pos k)) ≡ round binary32 s n (2 ^ k)
+by_power : (k : ℕ) (x : Float) (s : Bool) (n : ℕ) → HasValue x s n 1 → div binary32 x (fin false 1 (pos k))
+    ≡ round binary32 s n (2 ^ k)
 unfolding div
 by_power k nan s n h = absurd h
 by_power k (inf t) s n h = absurd h
@@ -123,26 +147,30 @@ power_is (suc (suc (suc (suc (suc (suc k)))))) h = absurd (omega arith)
 pub divided : (k : ℕ) (z : ℤ) → mag z < 32768 → div binary32 (of_int binary32 z) (fin false 1 (pos k)) ≡ unstep k z
 unfolding of_int unstep
 divided k (pos n) h = by_power k (round binary32 false n 1) false n (round_whole binary32 false n (omega arith))
-divided k (negsuc n) h = by_power k (round binary32 true (suc n) 1) true (suc n) (round_whole binary32 true (suc n) (omega arith))
+divided k (negsuc n) h = by_power k (round binary32 true (suc n) 1) true (suc n)
+    (round_whole binary32 true (suc n) (omega arith))
 
 -- it is exact
 exact : (k : ℕ) (s : Bool) (n : ℕ) → k ≤ 5 → n ≤ 32768 → HasValue (round binary32 s n (2 ^ k)) s n (2 ^ k)
 exact k s n h l = round_exact binary32 s n (2 ^ k) n (149 - k) (pow_pos k) (omega arith)
     (lt_of_lt_of_le (mul-lt-mul_of_pos_right (omega arith) (pow_pos (149 - k)))
     (le_trans (le_of_eq (sym (pow-add 2 24 (149 - k)))) (pow_mono {j = 277} (omega arith))))
-    (ap (λ (e : ℕ). n * 2 ^ e) (whole k h) ∙ ap (λ (e : ℕ). n * e) (pow-add 2 (149 - k) k) ∙ sym (mul_assoc n (2 ^ (149 - k)) (2 ^ k)))
+    (ap (λ (e : ℕ). n * 2 ^ e) (whole k h) ∙ ap (λ (e : ℕ). n * e) (pow-add 2 (149 - k) k)
+        ∙ sym (mul_assoc n (2 ^ (149 - k)) (2 ^ k)))
   where
     whole : (k : ℕ) → k ≤ 5 → 149 ≡ 149 - k + k
     whole k h = omega arith
 
-pub unstep_exact : (k : ℕ) (z : ℤ) → k ≤ 5 → mag z < 32768 → HasValue (unstep k z) (not (non_neg z)) (nat_abs z) (2 ^ k)
+pub unstep_exact : (k : ℕ) (z : ℤ) → k ≤ 5 → mag z < 32768
+    → HasValue (unstep k z) (not (non_neg z)) (nat_abs z) (2 ^ k)
 unfolding unstep
 unstep_exact k (pos n) h l = exact k false n h (le_of_lt l)
 unstep_exact k (negsuc n) h l = exact k true (suc n) h l
 
 -- what was stored is read back, and stored again it is the same
 back : (k : ℕ) (s : Bool) (n : ℕ) → k ≤ 5 → n ≤ 32768 → step_of k (round binary32 s n (2 ^ k)) ≡ limited s n
-back k s n h l = step_of_value k (round binary32 s n (2 ^ k)) s n (2 ^ k) (pow_pos k) (exact k s n h l) ∙ ap (limited s) (mul-div_cancel n (pow_pos k))
+back k s n h l = step_of_value k (round binary32 s n (2 ^ k)) s n (2 ^ k) (pow_pos k) (exact k s n h l)
+    ∙ ap (limited s) (mul-div_cancel n (pow_pos k))
 
 pub round_trip : (k : ℕ) (z : ℤ) → k ≤ 5 → mag z < 32768 → step_of k (unstep k z) ≡ z
 unfolding unstep

@@ -1,6 +1,11 @@
--- The table's rule: for every pattern from +0 to the infinity, its rounded root is k or more exactly where the pattern is entry k or more. One computed test at the
+-- The table's rule: for every pattern from +0 to the infinity, its rounded root is k or more exactly where the
+-- pattern is entry k or more. One computed test at the
 -- entries, and that the rounded root grows with the pattern. Assumes nothing.
-use Rattle.std.proofs.Common.{◌≡◌, ℕ, suc, ◌+◌, ◌-◌, ◌*◌, ◌/◌, ◌^◌, ◌<◌, ◌≤◌, min, Bool, true, false, not, ◌&&◌, ◌||◌, T, eqb, ltb, leb, ◌⊎◌, length, get_or, zero-le, sym, refl, ap, ◌∙◌, subst, inl, inr, le_trans, le_of_eq, le_of_lt, mul-le-mul_right, zero-lt-suc, mul_assoc, div-lt_iff_lt-mul, eq-or-lt_of_le, le-div_iff_mul-le, mul-one, mul_right_comm, le_of_mul-le-mul_right, div-one, arith, le→leb, leb→le, T_not}
+use Rattle.std.proofs.Common.{◌≡◌, ℕ, suc, ◌+◌, ◌-◌, ◌*◌, ◌/◌, ◌^◌, ◌<◌, ◌≤◌, min, Bool, true, false, not, ◌&&◌}
+use Rattle.std.proofs.Common.{◌||◌, T, eqb, ltb, leb, ◌⊎◌, length, get_or, zero-le, sym, refl, ap, ◌∙◌, subst, inl}
+use Rattle.std.proofs.Common.{inr, le_trans, le_of_eq, le_of_lt, mul-le-mul_right, zero-lt-suc, mul_assoc}
+use Rattle.std.proofs.Common.{div-lt_iff_lt-mul, eq-or-lt_of_le, le-div_iff_mul-le, mul-one, mul_right_comm}
+use Rattle.std.proofs.Common.{le_of_mul-le-mul_right, div-one, arith, le→leb, leb→le, T_not}
 use lib.Dec.{nleb→lt, not_T}
 use lib.Ieee.{Float, nan, inf, fin, binary32, up, down, of_bits, le}
 use lib.Ieee.Fits.{down_pos}
@@ -22,7 +27,8 @@ use Rattle.numbers.proofs.Cuts.{lt_or_eq}
 -- The test of entry k: it is a finite f32's, its own root reaches k, and that of the pattern before it does not.
 unfoldable least : ℕ → ℕ → Bool
 unfolding root reaches of_bits
-least k t = ltb t 0x7f80_0000 && reaches k (root (of_bits binary32 t)) && (eqb k 0 || not (reaches k (root (of_bits binary32 (t - 1)))))
+least k t = ltb t 0x7f80_0000 && reaches k (root (of_bits binary32 t))
+    && (eqb k 0 || not (reaches k (root (of_bits binary32 (t - 1)))))
 
 abbrev pub entry : ℕ → ℕ
 entry k = get_or thresholds k 0
@@ -38,7 +44,9 @@ root_of_value nan v h = absurd h
 root_of_value (inf s) v h = absurd h
 root_of_value (fin true m e) v h = absurd (subst T h.0 tt)
 root_of_value (fin false m e) v h =
-    ap root_of (div_same (m * up e * 2 ^ 298) (down e) (v * 2 ^ 149) 1 (down_pos e) (zero-lt-suc 0) (mul-one (m * up e * 2 ^ 298) ∙ sym (mul_assoc (m * up e) (2 ^ 149) (2 ^ 149)) ∙ ap (λ (n : ℕ). n * 2 ^ 149) h.1 ∙ mul_right_comm v (down e) (2 ^ 149)) ∙ div-one (v * 2 ^ 149))
+    ap root_of (div_same (m * up e * 2 ^ 298) (down e) (v * 2 ^ 149) 1 (down_pos e) (zero-lt-suc 0)
+        (mul-one (m * up e * 2 ^ 298) ∙ sym (mul_assoc (m * up e) (2 ^ 149) (2 ^ 149))
+        ∙ ap (λ (n : ℕ). n * 2 ^ 149) h.1 ∙ mul_right_comm v (down e) (2 ^ 149)) ∙ div-one (v * 2 ^ 149))
 
 pub root_at : (b : ℕ) → b < 2139095040 → root (of_bits binary32 b) ≡ root_of (val b * 2 ^ 149)
 root_at b h = root_of_value (of_bits binary32 b) (val b) (plain b h)
@@ -58,21 +66,25 @@ carry k (fin false m e) (inf true) u h r = absurd u
 carry k (fin false m e) (inf false) u h r = tt
 carry k (fin false m e) (fin true n d) u h r = absurd u
 carry k (fin false m e) (fin false n d) u h r =
-    le→leb (k * down d) (n * up d) (cross k (down e) (down d) (m * up e) (n * up d) (down_pos e) (leb→le (k * down e) (m * up e) r) (lt_or_eq (m * up e * down d) (n * up d * down e) h))
+    le→leb (k * down d) (n * up d) (cross k (down e) (down d) (m * up e) (n * up d) (down_pos e)
+        (leb→le (k * down e) (m * up e) r) (lt_or_eq (m * up e * down d) (n * up d * down e) h))
   where
     cross : (k e d a b : ℕ) → 0 < e → k * e ≤ a → a * d ≤ b * e → k * d ≤ b
-    cross k e d a b E p q = le_of_mul-le-mul_right (le_trans (le_of_eq (mul_right_comm k d e)) (le_trans (mul-le-mul_right d p) q)) E
+    cross k e d a b E p q = le_of_mul-le-mul_right
+        (le_trans (le_of_eq (mul_right_comm k d e)) (le_trans (mul-le-mul_right d p) q)) E
 
 at_infinity : (k : ℕ) → T (reaches k (root (of_bits binary32 2139095040)))
 unfolding root reaches of_bits
 at_infinity k = tt
 
-pub reach_mono : (k b c : ℕ) → b ≤ c → c ≤ 2139095040 → T (reaches k (root (of_bits binary32 b))) → T (reaches k (root (of_bits binary32 c)))
+pub reach_mono : (k b c : ℕ) → b ≤ c → c ≤ 2139095040 → T (reaches k (root (of_bits binary32 b)))
+    → T (reaches k (root (of_bits binary32 c)))
 reach_mono k b c h l r = elim (eq-or-lt_of_le l) [
   | inl e ↦ subst (λ (x : ℕ). T (reaches k (root (of_bits binary32 x)))) (sym e) (at_infinity k)
   | inr g ↦
       subst (λ (x : Float). T (reaches k x)) (sym (root_at c g))
-      (carry k (root_of (val b * 2 ^ 149)) (root_of (val c * 2 ^ 149)) (no_sign (val c * 2 ^ 149)) (root_of_mono (val b) (val c) (val_mono b c h (omega arith)))
+      (carry k (root_of (val b * 2 ^ 149)) (root_of (val c * 2 ^ 149)) (no_sign (val c * 2 ^ 149))
+          (root_of_mono (val b) (val c) (val_mono b c h (omega arith)))
       (subst (λ (x : Float). T (reaches k x)) (root_at b (omega arith)) r))
 ]
 
@@ -93,7 +105,9 @@ pub missed : (k b : ℕ) → k < 256 → b < entry k → T (not (reaches k (root
 unfolding least
 missed k b h l = elim (or_cases _ _ (and_parts _ _ (test k h)).1) [
   | inl z ↦ absurd (first b (subst (λ (x : ℕ). b < entry x) (eqb-true k 0 z) l))
-  | inr n ↦ not_T (reaches k (root (of_bits binary32 b))) (λ (r : T (reaches k (root (of_bits binary32 b)))). T_not (reaches k (root (of_bits binary32 (entry k - 1)))) (T_from_true _ n) (reach_mono k b (entry k - 1) (omega arith) (omega (arith, finite k h)) r))
+  | inr n ↦ not_T (reaches k (root (of_bits binary32 b)))
+      (λ (r : T (reaches k (root (of_bits binary32 b)))). T_not (reaches k (root (of_bits binary32 (entry k - 1))))
+      (T_from_true _ n) (reach_mono k b (entry k - 1) (omega arith) (omega (arith, finite k h)) r))
 ]
 
 -- ---- from the rule to the length
@@ -104,7 +118,8 @@ capped_is r (inf true) h y n = absurd y
 capped_is r (inf false) h y (inl e) = e
 capped_is r (inf false) h y (inr n) = absurd n
 capped_is r (fin true m e) h y n = absurd y
-capped_is r (fin false m e) h y n = top r (m * up e / down e) h ((le-div_iff_mul-le (down_pos e)).1 (leb→le (r * down e) (m * up e) y)) (side n)
+capped_is r (fin false m e) h y n = top r (m * up e / down e) h
+    ((le-div_iff_mul-le (down_pos e)).1 (leb→le (r * down e) (m * up e) y)) (side n)
   where
     side : (r ≡ 255) ⊎ T (not (leb (suc r * down e) (m * up e))) → (r ≡ 255) ⊎ (m * up e / down e < suc r)
     side (inl z) = inl z
@@ -114,7 +129,8 @@ capped_is r (fin false m e) h y n = top r (m * up e / down e) h ((le-div_iff_mul
     top r a h l (inl e) = omega arith
     top r a h l (inr e) = omega arith
 
-pub length_is : (r b : ℕ) → r < 256 → b ≤ 2139095040 → entry r ≤ b → (suc r < 256 → b < entry (suc r)) → r ≡ length_of (of_bits binary32 b)
+pub length_is : (r b : ℕ) → r < 256 → b ≤ 2139095040 → entry r ≤ b → (suc r < 256 → b < entry (suc r)) → r
+    ≡ length_of (of_bits binary32 b)
 unfolding length_of
 length_is r b h l e n = capped_is r (root (of_bits binary32 b)) h (reached r b h l e) (side (cases_lt (suc r) 256))
   where
@@ -124,12 +140,14 @@ length_is r b h l e n = capped_is r (root (of_bits binary32 b)) h (reached r b h
 
 -- ---- the rule, for all entries together
 pub least_entry : (k : ℕ) → k < 256 → Least k (entry k)
-least_entry k h = record { own = reached k (entry k) h (le_of_lt (finite k h)) (le_of_eq refl); none_below = λ b l. missed k b h l }
+least_entry k h = record { own = reached k (entry k) h (le_of_lt (finite k h)) (le_of_eq refl); none_below = λ b l.
+    missed k b h l }
 
 -- ---- the place where the entries become more than a pattern
 adjacent : (k : ℕ) → k + 1 < 256 → entry k ≤ entry (k + 1)
 unfolding thresholds
-adjacent k h = leb-true (entry k) (entry (k + 1)) (agree_below_at (λ q. leb (entry q) (entry (q + 1))) (λ _. true) 255 k refl (omega arith))
+adjacent k h = leb-true (entry k) (entry (k + 1))
+    (agree_below_at (λ q. leb (entry q) (entry (q + 1))) (λ _. true) 255 k refl (omega arith))
 
 all : length thresholds ≡ 256
 unfolding thresholds
@@ -137,7 +155,8 @@ all = refl
 
 rising : IsNonDecreasingBy (λ (y : ℕ). y) thresholds
 rising = IsNonDecreasingBy-from_all_adjacent (λ (y : ℕ). y) thresholds (λ k d h.
-    rw (get_or_default thresholds k d 0 (omega arith), get_or_default thresholds (k + 1) d 0 h) (adjacent k (omega (arith, all))))
+    rw (get_or_default thresholds k d 0 (omega arith), get_or_default thresholds (k + 1) d 0 h)
+        (adjacent k (omega (arith, all))))
 
 pub partitioned : (b : ℕ) → IsPartitionedBy (λ y. leb y b) thresholds
 partitioned b = IsPartitionedBy-leb (λ (y : ℕ). y) thresholds b rising
@@ -155,5 +174,7 @@ module _ (b r : ℕ) (h : IsPartitionPoint (λ y. leb y b ≡ true) (λ y. leb y
 
   pub point_is : b ≤ 2139095040 → r ≤ 256 → r - 1 ≡ length_of (of_bits binary32 b)
   point_is l m =
-      length_is (r - 1) b (omega (arith, point_some)) l (leb→le (entry (r - 1)) b (subst T (sym (h.0 (r - 1) 0 zero-le (omega (arith, point_some)))) tt))
-      (λ g. leb-false (entry (suc (r - 1))) b (h.1 (suc (r - 1)) 0 (omega (arith, point_some)) (omega (arith, all, g))))
+      length_is (r - 1) b (omega (arith, point_some)) l
+          (leb→le (entry (r - 1)) b (subst T (sym (h.0 (r - 1) 0 zero-le (omega (arith, point_some)))) tt))
+      (λ g. leb-false (entry (suc (r - 1))) b
+          (h.1 (suc (r - 1)) 0 (omega (arith, point_some)) (omega (arith, all, g))))

@@ -1,6 +1,7 @@
 -- Section 6: the names of cell files, over bytes.
 use Rattle.std.specs.Prelude.{ℕ, ◌+◌, ◌-◌, ◌*◌, Bool, true, false, cond, ◌&&◌, ◌||◌, List, [], ◌∷◌, ◌++◌}
-use Rattle.std.specs.Prelude.{length, take, drop, replicate, decimal, ◌==◌, nat_le, Option, Some, None, Result, Ok, Err}
+use Rattle.std.specs.Prelude.{length, take, drop, replicate, decimal, ◌==◌, nat_le, Option, Some, None, Result, Ok}
+use Rattle.std.specs.Prelude.{Err}
 use Rattle.numbers.specs.Grid.{area_id}
 use Rattle.numbers.specs.declared.names.FileName.{FileName}
 use Rattle.numbers.specs.declared.refusal.Refusal.{Refusal}

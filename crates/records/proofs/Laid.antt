@@ -1,4 +1,5 @@
--- Blocks lie at multiples of 16, apart, inside the total; and each is found where its address says. Each law by one induction over the blocks.
+-- Blocks lie at multiples of 16, apart, inside the total; and each is found where its address says. Each law by one
+-- induction over the blocks.
 use Prim.Native.Nat.{ℕ, zero, suc, ◌+◌, ◌%◌, ◌≤◌, ◌<◌}
 use native.Mathlib.Omega.{arith}
 use native.Mathlib.Nat.{add-zero}
@@ -11,7 +12,8 @@ use Rattle.std.proofs.lemmas.Bool.Decides.{nat_tests}
 use Rattle.records.specs.Bytes.{number_bytes}
 use Rattle.records.specs.Put.{put}
 use Rattle.records.specs.Root.{root_bytes}
-use Rattle.records.specs.Layout.{pages, header_size, header_bytes, gap_for, padded, start_of, end_of, lay, offset, total, section_bytes}
+use Rattle.records.specs.Layout.{pages, header_size, header_bytes, gap_for, padded, start_of, end_of, lay, offset}
+use Rattle.records.specs.Layout.{total, section_bytes}
 use Rattle.records.specs.declared.root.Root.{Root}
 use Rattle.records.proofs.LittleEndian.{bytes_length}
 use Rattle.records.proofs.Puts.{put_put, put_nil, put_out, joined_turn}
@@ -40,13 +42,16 @@ ends n s = grind (arith, nat_tests)
 
 pub padded_length : (n : ℕ) (b : List ℕ) → length (padded n b) ≡ gap_for n (length b) + length b
 unfolding padded
-padded_length n b = length-append (replicate (gap_for n (length b)) 0) b ∙ ap (λ (k : ℕ). k + length b) (length-replicate (gap_for n (length b)) 0)
+padded_length n b = length-append (replicate (gap_for n (length b)) 0) b
+    ∙ ap (λ (k : ℕ). k + length b) (length-replicate (gap_for n (length b)) 0)
 
 -- zeros are put, then the block
-pub padded_put : (l l₁ l₂ : List ℕ) (at g : ℕ) (b : List ℕ) → l₁ ≡ put l at (replicate g 0) → l₂ ≡ put l₁ (at + g) b → g ≡ gap_for at (length b) → at ≤ length l → l₂ ≡ put l at (padded at b)
+pub padded_put : (l l₁ l₂ : List ℕ) (at g : ℕ) (b : List ℕ) → l₁ ≡ put l at (replicate g 0) → l₂ ≡ put l₁ (at + g) b
+    → g ≡ gap_for at (length b) → at ≤ length l → l₂ ≡ put l at (padded at b)
 unfolding padded
 padded_put l l₁ l₂ at g b e f h room =
-    f ∙ (λ i. put (e i) (at + sym (length-replicate {A = ℕ} g 0) i) b) ∙ put_put l at (replicate g 0) b room ∙ ap (λ (k : ℕ). put l at (replicate k 0 ++ b)) h
+    f ∙ (λ i. put (e i) (at + sym (length-replicate {A = ℕ} g 0) i) b) ∙ put_put l at (replicate g 0) b room
+        ∙ ap (λ (k : ℕ). put l at (replicate k 0 ++ b)) h
 
 -- ---- the numbers
 
@@ -75,7 +80,8 @@ grows n [] = omega arith
 grows n (s ∷ ss) = omega (arith, grows (end_of n s) ss)
 
 -- a block ends before any later one starts
-pub apart : (n : ℕ) (ss : List ℕ) (i j : ℕ) → i < j → (get_or ss j 0 ≡ 0 → ⊥) → offset n ss i + get_or ss i 0 ≤ offset n ss j
+pub apart : (n : ℕ) (ss : List ℕ) (i j : ℕ) → i < j → (get_or ss j 0 ≡ 0 → ⊥) → offset n ss i + get_or ss i 0
+    ≤ offset n ss j
 unfolding offset
 apart n [] i j lt h = absurd (h refl)
 apart n (s ∷ ss) zero zero lt h = absurd (omega arith)
@@ -92,35 +98,45 @@ within n (s ∷ ss) (suc i) = within (end_of n s) ss i
 
 -- ---- the bytes
 
-found_here : (before b rest : List ℕ) → take (length b) (drop (start_of (length before) (length b)) (before ++ (padded (length before) b ++ rest))) ≡ b
+found_here : (before b rest : List ℕ)
+    → take (length b) (drop (start_of (length before) (length b)) (before ++ (padded (length before) b ++ rest))) ≡ b
 unfolding padded
 found_here before [] rest = refl
 found_here before (x ∷ xs) rest =
     let g = gap_for (length before) (length (x ∷ xs)) in
     let pad : List ℕ = replicate g 0 in
-    let e : start_of (length before) (length (x ∷ xs)) ≡ length before + g = some (length before) (length (x ∷ xs)) (λ e. omega arith) in
+    let e : start_of (length before) (length (x ∷ xs)) ≡ length before
+        + g = some (length before) (length (x ∷ xs)) (λ e. omega arith) in
     rw (
       e,
       append_assoc pad (x ∷ xs) rest,
       ← append_assoc before pad ((x ∷ xs) ++ rest),
-      drop_at (before ++ pad) ((x ∷ xs) ++ rest) (length before + g) (length-append before pad ∙ ap (λ (k : ℕ). length before + k) (length-replicate {A = ℕ} g 0)),
+      drop_at (before ++ pad) ((x ∷ xs) ++ rest) (length before + g)
+          (length-append before pad ∙ ap (λ (k : ℕ). length before + k) (length-replicate {A = ℕ} g 0)),
     )
     (take-append_seam (x ∷ xs) rest)
 
 -- each block stands at its offset
 pub found : (before : List ℕ) (bs : List (List ℕ)) (rest : List ℕ) (i : ℕ)
-    → take (length (get_or bs i [])) (drop (offset (length before) (map length bs) i) (before ++ (lay (length before) bs ++ rest))) ≡ get_or bs i []
+    → take (length (get_or bs i [])) (drop (offset (length before) (map length bs) i)
+        (before ++ (lay (length before) bs ++ rest))) ≡ get_or bs i []
 unfolding lay offset
 found before [] rest i = refl
 found before (b ∷ bs) rest zero =
-    rw (append_assoc (padded (length before) b)) (found_here before b (lay (end_of (length before) (length b)) bs ++ rest))
+    rw (append_assoc (padded (length before) b))
+        (found_here before b (lay (end_of (length before) (length b)) bs ++ rest))
 found before (b ∷ bs) rest (suc i) =
-    let e : end_of (length before) (length b) ≡ length (before ++ padded (length before) b) = omega (arith, length-append before (padded (length before) b), padded_length (length before) b) in
+    let e : end_of (length before) (length b)
+        ≡ length (before ++ padded (length before) b) = omega
+        (arith, length-append before (padded (length before) b), padded_length (length before) b) in
     let p = padded (length before) b in
     let n = length (before ++ p) in
     let l = lay n bs in
-    let regroup : before ++ ((p ++ l) ++ rest) ≡ (before ++ p) ++ (l ++ rest) = ap (λ (x : List ℕ). before ++ x) (append_assoc p l rest) ∙ sym (append_assoc before p (l ++ rest)) in
-    (λ k. take (length (get_or bs i [])) (drop (offset (e k) (map length bs) i) (before ++ ((p ++ lay (e k) bs) ++ rest))))
+    let regroup : before ++ ((p ++ l) ++ rest) ≡ (before ++ p)
+        ++ (l ++ rest) = ap (λ (x : List ℕ). before ++ x) (append_assoc p l rest)
+        ∙ sym (append_assoc before p (l ++ rest)) in
+    (λ k. take (length (get_or bs i []))
+        (drop (offset (e k) (map length bs) i) (before ++ ((p ++ lay (e k) bs) ++ rest))))
     ∙ ap (λ (x : List ℕ). take (length (get_or bs i [])) (drop (offset n (map length bs) i) x)) regroup
     ∙ found (before ++ p) bs rest i
 
@@ -129,26 +145,34 @@ pub lay_total : (n : ℕ) (bs : List (List ℕ)) → n + length (lay n bs) ≡ t
 unfolding lay total
 lay_total n [] = add-zero n
 lay_total n (b ∷ bs) =
-    omega (arith, length-append (padded n b) (lay (end_of n (length b)) bs), padded_length n b, lay_total (end_of n (length b)) bs)
+    omega (arith, length-append (padded n b) (lay (end_of n (length b)) bs), padded_length n b, lay_total
+        (end_of n (length b)) bs)
 
 -- ---- blocks that are put one after the other
 
 -- the first block and the others
-lay_open : (n n' : ℕ) (b : List ℕ) (bs : List (List ℕ)) → n' ≡ n + length (padded n b) → lay n (b ∷ bs) ≡ padded n b ++ lay n' bs
+lay_open : (n n' : ℕ) (b : List ℕ) (bs : List (List ℕ)) → n' ≡ n + length (padded n b) → lay n (b ∷ bs) ≡ padded n b
+    ++ lay n' bs
 unfolding lay
-lay_open n n' b bs e = ap (λ (k : ℕ). padded n b ++ lay k bs) (let next : end_of n (length b) ≡ n + length (padded n b) = omega (arith, padded_length n b) in next ∙ sym e)
+lay_open n n' b bs e = ap (λ (k : ℕ). padded n b ++ lay k bs)
+    (let next : end_of n (length b) ≡ n + length (padded n b) = omega (arith, padded_length n b) in next ∙ sym e)
 
 -- room for all is room for the first block, and for the others behind it
-pub lay_next : (n n' len : ℕ) (b : List ℕ) (bs : List (List ℕ)) → n + length (lay n (b ∷ bs)) ≤ len → n' ≡ n + length (padded n b) → n' + length (lay n' bs) ≤ len
+pub lay_next : (n n' len : ℕ) (b : List ℕ) (bs : List (List ℕ)) → n + length (lay n (b ∷ bs)) ≤ len → n' ≡ n
+    + length (padded n b) → n' + length (lay n' bs) ≤ len
 lay_next n n' len b bs h e = omega (arith, h, ap length (lay_open n n' b bs e), length-append (padded n b) (lay n' bs))
 
-pub lay_first : (n len : ℕ) (b : List ℕ) (bs : List (List ℕ)) → n + length (lay n (b ∷ bs)) ≤ len → n + length (padded n b) ≤ len
-lay_first n len b bs h = omega (arith, h, ap length (lay_open n (n + length (padded n b)) b bs refl), length-append (padded n b) (lay (n + length (padded n b)) bs))
+pub lay_first : (n len : ℕ) (b : List ℕ) (bs : List (List ℕ)) → n + length (lay n (b ∷ bs)) ≤ len → n
+    + length (padded n b) ≤ len
+lay_first n len b bs h = omega (arith, h, ap length (lay_open n (n + length (padded n b)) b bs refl), length-append
+    (padded n b) (lay (n + length (padded n b)) bs))
 
 -- one block is put, and the others are put behind it
-pub lay_turn : (l l' : List ℕ) (n n' : ℕ) (b : List ℕ) (bs : List (List ℕ)) → l' ≡ put l n (padded n b) → n' ≡ n + length (padded n b) → n ≤ length l
+pub lay_turn : (l l' : List ℕ) (n n' : ℕ) (b : List ℕ) (bs : List (List ℕ)) → l' ≡ put l n (padded n b) → n' ≡ n
+    + length (padded n b) → n ≤ length l
     → put l' n' (lay n' bs) ≡ put l n (lay n (b ∷ bs))
-lay_turn l l' n n' b bs e f h = (λ i. put (e i) (f i) (lay n' bs)) ∙ put_put l n (padded n b) (lay n' bs) h ∙ ap (put l n) (sym (lay_open n n' b bs f))
+lay_turn l l' n n' b bs e f h = (λ i. put (e i) (f i) (lay n' bs)) ∙ put_put l n (padded n b) (lay n' bs) h
+    ∙ ap (put l n) (sym (lay_open n n' b bs f))
 
 pub lay_done : (l : List ℕ) (n : ℕ) → put l n (lay n []) ≡ l
 unfolding lay
@@ -166,13 +190,16 @@ header_length r = length-append (root_bytes r) pages ∙ ap (λ (k : ℕ). k + 1
 
 pub section_length : (r : Root) (bs : List (List ℕ)) → length (section_bytes r bs) ≡ total header_size (map length bs)
 unfolding section_bytes
-section_length r bs = length-append (header_bytes r) (lay header_size bs) ∙ ap (λ (k : ℕ). k + length (lay header_size bs)) (header_length r) ∙ lay_total header_size bs
+section_length r bs = length-append (header_bytes r) (lay header_size bs)
+    ∙ ap (λ (k : ℕ). k + length (lay header_size bs)) (header_length r) ∙ lay_total header_size bs
 
 -- each array stands in the section where its address says, whatever bytes come later
 pub found_in : (r : Root) (bs : List (List ℕ)) (rest : List ℕ) (i : ℕ)
-    → take (length (get_or bs i [])) (drop (offset header_size (map length bs) i) (section_bytes r bs ++ rest)) ≡ get_or bs i []
+    → take (length (get_or bs i [])) (drop (offset header_size (map length bs) i) (section_bytes r bs ++ rest))
+        ≡ get_or bs i []
 unfolding section_bytes
-found_in r bs rest i = rw (append_assoc (header_bytes r) (lay header_size bs) rest) (rw (header_length r) at (found (header_bytes r) bs rest i))
+found_in r bs rest i = rw (append_assoc (header_bytes r) (lay header_size bs) rest)
+    (rw (header_length r) at (found (header_bytes r) bs rest i))
 
 -- for the function that puts the header
 pub ruleset header_laws = (bytes_length, put_out, joined_turn, header_length)

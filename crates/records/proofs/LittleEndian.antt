@@ -30,7 +30,8 @@ number_below zero s at = omega arith
 number_below (suc w) s at = omega (arith, number_below w s (at + 1), pow-succ' 256 w)
 
 -- a number in two parts, the low one first
-pub number_split : (a b : ℕ) (s : List ℕ) (at : ℕ) → number_at (a + b) s at ≡ number_at a s at + number_at b s (at + a) * 256 ^ a
+pub number_split : (a b : ℕ) (s : List ℕ) (at : ℕ) → number_at (a + b) s at ≡ number_at a s at
+    + number_at b s (at + a) * 256 ^ a
 unfolding number_at
 number_split zero b s at =
     let next : at ≡ at + 0 = omega arith in
@@ -41,14 +42,16 @@ number_split (suc a) b s at =
     let next : at + 1 + a ≡ at + suc a = omega arith in
     let high : n * 256 ^ suc a ≡ 256 * (n * 256 ^ a) = ap (λ (p : ℕ). n * p) (pow-succ' 256 a) ∙ omega arith in
     ap (λ (k : ℕ). number_at k s at) width
-    ∙ ap (λ (k : ℕ). byte_at s at + 256 * k) (number_split a b s (at + 1) ∙ ap (λ (k : ℕ). number_at a s (at + 1) + number_at b s k * 256 ^ a) next)
+    ∙ ap (λ (k : ℕ). byte_at s at + 256 * k)
+        (number_split a b s (at + 1) ∙ ap (λ (k : ℕ). number_at a s (at + 1) + number_at b s k * 256 ^ a) next)
     ∙ omega (arith, high)
 
 pub bytes_length : (w n : ℕ) → length (number_bytes w n) ≡ w
 bytes_length = bytes_long
 
 -- the bytes of a number in two parts, the low one first
-pub bytes_join : (a b low high : ℕ) → low < 256 ^ a → number_bytes (a + b) (low + high * 256 ^ a) ≡ number_bytes a low ++ number_bytes b high
+pub bytes_join : (a b low high : ℕ) → low < 256 ^ a → number_bytes (a + b) (low + high * 256 ^ a)
+    ≡ number_bytes a low ++ number_bytes b high
 unfolding number_bytes
 bytes_join zero b low high h =
     let value : low + high * 256 ^ zero ≡ high = omega arith in
@@ -56,7 +59,8 @@ bytes_join zero b low high h =
 bytes_join (suc a) b low high h =
     let m = high * 256 ^ a in
     let width : suc a + b ≡ suc (a + b) = omega arith in
-    let value : low + high * 256 ^ suc a ≡ low + 256 * m = ap (λ (p : ℕ). low + high * p) (pow-succ' 256 a) ∙ omega arith in
+    let value : low + high * 256 ^ suc a ≡ low + 256 * m = ap (λ (p : ℕ). low + high * p) (pow-succ' 256 a)
+        ∙ omega arith in
     let first : (low + 256 * m) % 256 ≡ low % 256 = omega arith in
     let rest : (low + 256 * m) / 256 ≡ low / 256 + m = omega arith in
     (λ i. number_bytes (width i) (value i)) ∙ (λ i. first i ∷ number_bytes (a + b) (rest i))
@@ -79,7 +83,8 @@ pub stands_start : (b rest : List ℕ) → Stands (b ++ rest) 0 b
 stands_start b rest k lt = ap (λ (j : ℕ). get_or (b ++ rest) j 0) (zero-add k) ∙ get_or-append b rest 0 k lt
 
 pub stands_taken : (s : List ℕ) (at : ℕ) (b : List ℕ) → take (length b) (drop at s) ≡ b → Stands s at b
-stands_taken s at b e k lt = sym (get_or-drop at s k 0) ∙ sym (get_or-take (length b) (drop at s) k 0 lt) ∙ ap (λ (l : List ℕ). get_or l k 0) e
+stands_taken s at b e k lt = sym (get_or-drop at s k 0) ∙ sym (get_or-take (length b) (drop at s) k 0 lt)
+    ∙ ap (λ (l : List ℕ). get_or l k 0) e
 
 -- a number is read where its bytes stand
 pub number_back : (w n : ℕ) (s : List ℕ) (at : ℕ) → n < 256 ^ w → Stands s at (number_bytes w n) → number_at w s at ≡ n
@@ -87,7 +92,8 @@ unfolding number_at number_bytes
 number_back zero n s at small h = omega arith
 number_back (suc w) n s at small h =
     let here : get_or s at 0 ≡ n % 256 = ap (λ (k : ℕ). get_or s k 0) (sym (add-zero at)) ∙ h 0 (omega arith) in
-    let rest : Stands s (at + 1) (number_bytes w (n / 256)) = stands_next s at (n % 256 ∷ []) (number_bytes w (n / 256)) h in
+    let rest : Stands s (at + 1) (number_bytes w (n / 256)) = stands_next s at (n % 256 ∷ [])
+        (number_bytes w (n / 256)) h in
     omega (arith, here, number_back w (n / 256) s (at + 1) (omega (arith, small, pow-succ' 256 w)) rest)
 
 -- ---- 16 bits with a sign
@@ -124,7 +130,8 @@ unfolding number_at
 reads16 s at h = omega (arith, (h at).fits, (h (at + 1)).fits)
 
 pub reads32 : (s : List ℕ) (at : ℕ) → AreBytes s
-    → get_or s at 0 + get_or s (at + 1) 0 * 256 + get_or s (at + 2) 0 * 65536 + get_or s (at + 3) 0 * 16777216 ≡ number_at 4 s at
+    → get_or s at 0 + get_or s (at + 1) 0 * 256 + get_or s (at + 2) 0 * 65536 + get_or s (at + 3) 0 * 16777216
+        ≡ number_at 4 s at
 reads32 s at h =
     let next : at + 2 + 1 ≡ at + 3 = omega arith in
     omega (arith, number_split 2 2 s at, reads16 s at h, reads16 s (at + 2) h, ap (λ (k : ℕ). get_or s k 0) next)
@@ -165,5 +172,6 @@ le_bytes64 n =
     λ i. n % 256 ∷ n / 256 % 256 ∷ b2 i ∷ b3 i ∷ b4 i ∷ b5 i ∷ b6 i ∷ b7 i ∷ []
 
 -- a field with a sign, as the code has the number
-pub signed_put : (z : ℤ) (l : List ℕ) (at : ℕ) {l' : List ℕ} → mag z < 32768 → l' ≡ put l at (bytes16 (bits16 (to_z w16 (of_z w16 z)))) → l' ≡ put l at (bytes16 (bits16 z))
+pub signed_put : (z : ℤ) (l : List ℕ) (at : ℕ) {l' : List ℕ} → mag z < 32768 → l'
+    ≡ put l at (bytes16 (bits16 (to_z w16 (of_z w16 z)))) → l' ≡ put l at (bytes16 (bits16 z))
 signed_put z l at h e = e ∙ ap (λ (y : ℤ). put l at (bytes16 (bits16 y))) (to_z-of_z w16 z (record { sfits = h }))

@@ -5,7 +5,8 @@ use native.Mathlib.Nat.{add-zero, mod-eq_of_lt, zero-add}
 use native.Mathlib.Numerals.{add-one}
 use mathlib.Core.Path.{◌≡◌, refl, ap, sym, ◌∙◌}
 use mathlib.Core.List.{List, [], ◌∷◌, ◌++◌, append_assoc, append-nil}
-use lib.ListN.{length-replicate, length, get_or, set, take, drop, length-append, length-drop, length-set, take-append-drop, drop_of_length-le}
+use lib.ListN.{length-replicate, length, get_or, set, take, drop, length-append, length-drop, length-set}
+use lib.ListN.{take-append-drop, drop_of_length-le}
 use borrow.Author.Tests.{le-leb, lt-leb, leb-true, leb-false}
 use borrow.Rule.Slice.PartMut.{put_mid}
 use mathlib.Core.Bool.{Bool, true, false, cond}
@@ -24,14 +25,16 @@ use Rattle.numbers.specs.declared.refusal.Refusal.TheVariants.{TooShort}
 pub end_found : (at count len end : ℕ) → Ok end ≡ end_inside at count len → (end ≡ at + count) × (at + count ≤ len)
 end_found at count len end e = go (leb (at + count) len) refl e
   where
-    go : (b : Bool) → leb (at + count) len ≡ b → Ok end ≡ cond b (Ok (at + count)) (Err (TooShort lent.Section)) → (end ≡ at + count) × (at + count ≤ len)
+    go : (b : Bool) → leb (at + count) len ≡ b → Ok end ≡ cond b (Ok (at + count)) (Err (TooShort lent.Section))
+        → (end ≡ at + count) × (at + count ≤ len)
     go true h e = (cc, leb-true (at + count) len h)
     go false h e = cc
 
 pub end_outside : (at count len : ℕ) (r : Refusal) → Err r ≡ end_inside at count len → len < at + count
 end_outside at count len r e = go (leb (at + count) len) refl e
   where
-    go : (b : Bool) → leb (at + count) len ≡ b → Err r ≡ cond b (Ok (at + count)) (Err (TooShort lent.Section)) → len < at + count
+    go : (b : Bool) → leb (at + count) len ≡ b → Err r ≡ cond b (Ok (at + count)) (Err (TooShort lent.Section))
+        → len < at + count
     go true h e = cc
     go false h e = leb-false (at + count) len h
 
@@ -49,7 +52,8 @@ module _ {A : Type 0} where
   unfolding put_in
   put_out l at x h = rw (lt-leb (at + length x) (length l) h)
 
-  pub put_put : (l : List A) (at : ℕ) (x y : List A) → at ≤ length l → put (put l at x) (at + length x) y ≡ put l at (x ++ y)
+  pub put_put : (l : List A) (at : ℕ) (x y : List A) → at ≤ length l → put (put l at x) (at + length x) y
+      ≡ put l at (x ++ y)
   unfolding put
   put_put l at x y h =
       let p : List A = take at l ++ x in
@@ -57,9 +61,11 @@ module _ {A : Type 0} where
       let e : length p ≡ at + length x = front l at x h in
       let total : at + length x + length y ≡ at + length (x ++ y) = omega (arith, length-append x y) in
       let back : drop (at + length x + length y) (p ++ r) ≡ drop (at + length (x ++ y)) l
-      = ap (λ (k : ℕ). drop (k + length y) (p ++ r)) (sym e) ∙ drop-append-add p r (length y) ∙ drop-drop (length y) (at + length x) l
+      = ap (λ (k : ℕ). drop (k + length y) (p ++ r)) (sym e) ∙ drop-append-add p r (length y)
+          ∙ drop-drop (length y) (at + length x) l
       ∙ ap (λ (k : ℕ). drop k l) total in
-      (λ i. take_at p r (at + length x) e i ++ y ++ back i) ∙ ap (λ (z : List A). z ++ drop (at + length (x ++ y)) l) (append_assoc (take at l) x y)
+      (λ i. take_at p r (at + length x) e i ++ y ++ back i)
+          ∙ ap (λ (z : List A). z ++ drop (at + length (x ++ y)) l) (append_assoc (take at l) x y)
 
   pub put_nil : (l : List A) (at : ℕ) → put l at [] ≡ l
   unfolding put
@@ -71,23 +77,28 @@ module _ {A : Type 0} where
 
   -- as much as the whole list
   pub put_over : (l x : List A) → length l ≡ length x → put l 0 x ≡ x
-  put_over l x e = put_start l x ∙ ap (λ (r : List A). x ++ r) (drop_of_length-le l {i = length x} (omega arith)) ∙ append-nil x
+  put_over l x e = put_start l x ∙ ap (λ (r : List A). x ++ r) (drop_of_length-le l {i = length x} (omega arith))
+      ∙ append-nil x
 
   -- what stands in the part from `at` to `e`, once the part is back
-  pub put_part : (l : List A) (at e : ℕ) (x y : List A) → y ≡ x → e ≡ at + length x → put_mid at (e - at) l y ≡ put l at x
+  pub put_part : (l : List A) (at e : ℕ) (x y : List A) → y ≡ x → e ≡ at + length x → put_mid at (e - at) l y
+      ≡ put l at x
   unfolding put
   put_part l at e x y same h =
       let long : e - at ≡ length x = omega arith in
-      (λ i. take at l ++ (same i ++ drop (long i) (drop at l))) ∙ ap (λ (z : List A). take at l ++ (x ++ z)) (drop-drop (length x) at l)
+      (λ i. take at l ++ (same i ++ drop (long i) (drop at l)))
+          ∙ ap (λ (z : List A). take at l ++ (x ++ z)) (drop-drop (length x) at l)
       ∙ sym (append_assoc (take at l) x (drop (at + length x) l))
 
   pub length_put : (l : List A) (at : ℕ) (x : List A) → at + length x ≤ length l → length (put l at x) ≡ length l
   unfolding put
-  length_put l at x h = length-append (take at l ++ x) (drop (at + length x) l) ∙ omega (arith, front l at x (omega arith), length-drop (at + length x) l)
+  length_put l at x h = length-append (take at l ++ x) (drop (at + length x) l)
+      ∙ omega (arith, front l at x (omega arith), length-drop (at + length x) l)
 
   pub set_put : (l : List A) (i : ℕ) (a : A) → i < length l → set l i a ≡ put l i (a ∷ [])
   unfolding put
-  set_put l i a h = set_split l i a h ∙ ap (λ (k : ℕ). take i l ++ a ∷ drop k l) (sym (add-one i)) ∙ sym (append_snoc (take i l) a (drop (i + 1) l))
+  set_put l i a h = set_split l i a h ∙ ap (λ (k : ℕ). take i l ++ a ∷ drop k l) (sym (add-one i))
+      ∙ sym (append_snoc (take i l) a (drop (i + 1) l))
 
   -- one element of what was put
   pub set_inside : (l x : List A) (i : ℕ) (v : A) → i < length x → set (put l 0 x) i v ≡ put l 0 (set x i v)
@@ -100,41 +111,52 @@ module _ {A : Type 0} where
   part_long l at n h = length-take-le n (drop at l) (omega (arith, length-drop at l))
 
   -- a turn of a loop that puts: x is put into the list as it stands, and what is left is put behind it
-  pub turn : (l₀ l l' : List A) (at p q : ℕ) (x rest whole : List A) → put l p (x ++ rest) ≡ put l₀ at whole → l' ≡ put l p x → q ≡ p + length x → p ≤ length l
+  pub turn : (l₀ l l' : List A) (at p q : ℕ) (x rest whole : List A) → put l p (x ++ rest) ≡ put l₀ at whole → l'
+      ≡ put l p x → q ≡ p + length x → p ≤ length l
       → put l' q rest ≡ put l₀ at whole
-  turn l₀ l l' at p q x rest whole before is-so next h = (λ i. put (is-so i) (next i) rest) ∙ put_put l p x rest h ∙ before
+  turn l₀ l l' at p q x rest whole before is-so next h = (λ i. put (is-so i) (next i) rest) ∙ put_put l p x rest h
+      ∙ before
 
   -- the last turn is over
-  pub ended : (l₀ l : List A) (at p : ℕ) (rest whole : List A) → put l p rest ≡ put l₀ at whole → rest ≡ [] → l ≡ put l₀ at whole
+  pub ended : (l₀ l : List A) (at p : ℕ) (rest whole : List A) → put l p rest ≡ put l₀ at whole → rest ≡ [] → l
+      ≡ put l₀ at whole
   ended l₀ l at p rest whole before none = sym (put_nil l p) ∙ ap (put l p) (sym none) ∙ before
 
 -- one element and what is behind it
 pub split : {A : Type 0} (l : List A) (i : ℕ) (z : A) → i < length l → drop i l ≡ get_or l i z ∷ drop (i + 1) l
 split l i z h = drop_more l i z h
 
-pub joined_length : {A B : Type 0} (f : A → List B) (w : ℕ) → ((x : A) → length (f x) ≡ w) → (l : List A) → length (joined f l) ≡ w * length l
+pub joined_length : {A B : Type 0} (f : A → List B) (w : ℕ) → ((x : A) → length (f x) ≡ w) → (l : List A)
+    → length (joined f l) ≡ w * length l
 unfolding joined
 joined_length f w wide [] = omega arith
 joined_length f w wide (x ∷ xs) = length-append (f x) (joined f xs) ∙ omega (arith, wide x, joined_length f w wide xs)
 
 -- ---- turns of loops that put one thing for each entry
 
-pub joined_split : {A B : Type 0} (f : A → List B) (xs : List A) (i : ℕ) (z : A) → i < length xs → joined f (drop i xs) ≡ f (get_or xs i z) ++ joined f (drop (i + 1) xs)
+pub joined_split : {A B : Type 0} (f : A → List B) (xs : List A) (i : ℕ) (z : A) → i < length xs
+    → joined f (drop i xs) ≡ f (get_or xs i z) ++ joined f (drop (i + 1) xs)
 unfolding joined
 joined_split f xs i z h = ap (joined f) (drop_more xs i z h)
 
-pub joined_turn : {A B : Type 0} (f : A → List B) (l₀ l l' whole : List B) (at p q : ℕ) (xs : List A) (i : ℕ) (z : A) → i < length xs
-    → put l p (joined f (drop i xs)) ≡ put l₀ at whole → l' ≡ put l p (f (get_or xs i z)) → q ≡ p + length (f (get_or xs i z)) → p ≤ length l
+pub joined_turn : {A B : Type 0} (f : A → List B) (l₀ l l' whole : List B) (at p q : ℕ) (xs : List A) (i : ℕ)
+    (z : A) → i < length xs
+    → put l p (joined f (drop i xs)) ≡ put l₀ at whole → l' ≡ put l p (f (get_or xs i z)) → q ≡ p
+        + length (f (get_or xs i z)) → p ≤ length l
     → put l' q (joined f (drop (i + 1) xs)) ≡ put l₀ at whole
 joined_turn f l₀ l l' whole at p q xs i z h before is-so next room =
-    turn l₀ l l' at p q (f (get_or xs i z)) (joined f (drop (i + 1) xs)) whole (ap (put l p) (sym (joined_split f xs i z h)) ∙ before) is-so next room
+    turn l₀ l l' at p q (f (get_or xs i z)) (joined f (drop (i + 1) xs)) whole
+        (ap (put l p) (sym (joined_split f xs i z h)) ∙ before) is-so next room
 
-pub joined_ended : {A B : Type 0} (f : A → List B) (l₀ l whole : List B) (at p : ℕ) (xs : List A) (i : ℕ) → length xs ≤ i → put l p (joined f (drop i xs)) ≡ put l₀ at whole → l ≡ put l₀ at whole
+pub joined_ended : {A B : Type 0} (f : A → List B) (l₀ l whole : List B) (at p : ℕ) (xs : List A) (i : ℕ)
+    → length xs ≤ i → put l p (joined f (drop i xs)) ≡ put l₀ at whole → l ≡ put l₀ at whole
 unfolding joined
-joined_ended f l₀ l whole at p xs i h before = ended l₀ l at p (joined f (drop i xs)) whole before (ap (joined f) (drop_of_length-le xs h))
+joined_ended f l₀ l whole at p xs i h before = ended l₀ l at p (joined f (drop i xs)) whole before
+    (ap (joined f) (drop_of_length-le xs h))
 
 -- one thing is put, and another behind it
-pub then : {A : Type 0} (l l' l'' : List A) (at p : ℕ) (x y : List A) → l' ≡ put l at x → l'' ≡ put l' p y → p ≡ at + length x → at ≤ length l → l'' ≡ put l at (x ++ y)
+pub then : {A : Type 0} (l l' l'' : List A) (at p : ℕ) (x y : List A) → l' ≡ put l at x → l'' ≡ put l' p y → p ≡ at
+    + length x → at ≤ length l → l'' ≡ put l at (x ++ y)
 then l l' l'' at p x y e f g h = f ∙ (λ i. put (e i) (g i) y) ∙ put_put l at x y h
 
 -- for a function that puts bytes where there is room
@@ -159,5 +181,6 @@ behind at k s l w xs l'' long room e (next {l'} {x} {xs = ys} f rest) =
     (then s l l' at (placed at k) w x e f (omega (arith, placed_is at k)) room) rest
     ∙ ap (put s at) (append_assoc w x (concat ys))
 
-pub fields_put : (at : ℕ) {s l : List ℕ} {xs : List (List ℕ)} → at ≤ length s → Fields at 0 s xs l → l ≡ put s at (concat xs)
+pub fields_put : (at : ℕ) {s l : List ℕ} {xs : List (List ℕ)} → at ≤ length s → Fields at 0 s xs l → l
+    ≡ put s at (concat xs)
 fields_put at {s} {l} {xs} room f = behind at 0 s s [] xs l refl room (sym (put_nil s at)) f

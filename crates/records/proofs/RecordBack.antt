@@ -5,7 +5,8 @@ use mathlib.Core.List.{List, [], ◌∷◌}
 use lib.ListN.{length, get_or}
 use lib.Signed.{mag}
 use Rattle.records.specs.Bytes.{number_bytes, signed16, bits16}
-use Rattle.records.specs.Records.{node_at, node_bytes, link_at, link_bytes, junction_at, junction_bytes, ref_at, ref_bytes, node_size, link_size, junction_size, ref_size}
+use Rattle.records.specs.Records.{node_at, node_bytes, link_at, link_bytes, junction_at, junction_bytes, ref_at}
+use Rattle.records.specs.Records.{ref_bytes, node_size, link_size, junction_size, ref_size}
 use Rattle.records.specs.declared.node.Node.{Node}
 use Rattle.records.specs.declared.link.NodeLink.{NodeLink}
 use Rattle.records.specs.declared.junction.NodeJunction.{NodeJunction}
@@ -39,7 +40,9 @@ node_widths : List ℕ
 node_widths = 4 ∷ 4 ∷ 4 ∷ 4 ∷ 2 ∷ 2 ∷ 4 ∷ 2 ∷ 2 ∷ 2 ∷ 2 ∷ 1 ∷ 1 ∷ 2 ∷ 1 ∷ 1 ∷ 1 ∷ 1 ∷ []
 
 node_values : Node → List ℕ
-node_values n = n.unused0 ∷ n.unused1 ∷ n.unused2 ∷ n.unused3 ∷ n.area_id ∷ n.node_id ∷ n.street_name ∷ n.unused4 ∷ n.link_id ∷ bits16 n.position_x ∷ bits16 n.position_y ∷ n.flags0 ∷ n.flags1 ∷ bits16 n.position_z ∷ n.flags2 ∷ n.link_count_flags ∷ n.flags3 ∷ n.flags4 ∷ []
+node_values n = n.unused0 ∷ n.unused1 ∷ n.unused2 ∷ n.unused3 ∷ n.area_id ∷ n.node_id ∷ n.street_name ∷ n.unused4
+    ∷ n.link_id ∷ bits16 n.position_x ∷ bits16 n.position_y ∷ n.flags0 ∷ n.flags1 ∷ bits16 n.position_z ∷ n.flags2
+    ∷ n.link_count_flags ∷ n.flags3 ∷ n.flags4 ∷ []
 
 node_of : List ℕ → Node
 node_of vs = record {
@@ -65,11 +68,17 @@ node_of vs = record {
 
 node_fit : (n : Node) → NodeFits n → Fit node_widths (node_values n)
 unfolding node_widths node_values
-node_fit n h = field h.unused0 (field h.unused1 (field h.unused2 (field h.unused3 (field h.area_id (field h.node_id (field h.street_name (field h.unused4 (field h.link_id (field (bits_below n.position_x h.position_x) (field (bits_below n.position_y h.position_y) (field h.flags0 (field h.flags1 (field (bits_below n.position_z h.position_z) (field h.flags2 (field h.link_count_flags (field h.flags3 (field h.flags4 none)))))))))))))))))
+node_fit n h = field h.unused0 (field h.unused1 (field h.unused2
+    (field h.unused3 (field h.area_id (field h.node_id (field h.street_name
+    (field h.unused4 (field h.link_id (field (bits_below n.position_x h.position_x)
+    (field (bits_below n.position_y h.position_y)
+    (field h.flags0 (field h.flags1 (field (bits_below n.position_z h.position_z)
+    (field h.flags2 (field h.link_count_flags (field h.flags3 (field h.flags4 none)))))))))))))))))
 
 node_own : (n : Node) → NodeFits n → node_of (node_values n) ≡ n
 unfolding node_of node_values
-node_own n h = rw (signed_back n.position_x h.position_x, signed_back n.position_y h.position_y, signed_back n.position_z h.position_z)
+node_own n h = rw (signed_back n.position_x h.position_x, signed_back n.position_y h.position_y, signed_back
+    n.position_z h.position_z)
 
 pub node_back : (n : Node) → NodeFits n → (s : List ℕ) (at : ℕ) → Stands s at (node_bytes n) → node_at s at ≡ n
 unfolding node_at node_bytes number_bytes node_of node_widths node_values fields_at field_bytes
@@ -131,7 +140,8 @@ link_of vs = record {
 
 link_fit : (l : NodeLink) → LinkFits l → Fit link_widths (link_values l)
 unfolding link_widths link_values
-link_fit l h = field h.area_id (field h.node_id (field h.flags0 (field h.flags1 (field h.flags2 (field h.link_length none)))))
+link_fit l h = field h.area_id (field h.node_id (field h.flags0
+    (field h.flags1 (field h.flags2 (field h.link_length none)))))
 
 link_own : (l : NodeLink) → LinkFits l → link_of (link_values l) ≡ l
 unfolding link_of link_values
@@ -172,7 +182,8 @@ junction_widths : List ℕ
 junction_widths = 2 ∷ 2 ∷ 2 ∷ 2 ∷ 2 ∷ 1 ∷ 1 ∷ []
 
 junction_values : NodeJunction → List ℕ
-junction_values j = bits16 j.max_z ∷ bits16 j.position_x ∷ bits16 j.position_y ∷ bits16 j.min_z ∷ j.heightmap_ptr ∷ j.heightmap_dim_x ∷ j.heightmap_dim_y ∷ []
+junction_values j = bits16 j.max_z ∷ bits16 j.position_x ∷ bits16 j.position_y ∷ bits16 j.min_z ∷ j.heightmap_ptr
+    ∷ j.heightmap_dim_x ∷ j.heightmap_dim_y ∷ []
 
 junction_of : List ℕ → NodeJunction
 junction_of vs = record {
@@ -187,14 +198,20 @@ junction_of vs = record {
 
 junction_fit : (j : NodeJunction) → JunctionFits j → Fit junction_widths (junction_values j)
 unfolding junction_widths junction_values
-junction_fit j h = field (bits_below j.max_z h.max_z) (field (bits_below j.position_x h.position_x) (field (bits_below j.position_y h.position_y) (field (bits_below j.min_z h.min_z) (field h.heightmap_ptr (field h.heightmap_dim_x (field h.heightmap_dim_y none))))))
+junction_fit j h = field (bits_below j.max_z h.max_z)
+    (field (bits_below j.position_x h.position_x)
+    (field (bits_below j.position_y h.position_y)
+    (field (bits_below j.min_z h.min_z)
+    (field h.heightmap_ptr (field h.heightmap_dim_x (field h.heightmap_dim_y none))))))
 
 junction_own : (j : NodeJunction) → JunctionFits j → junction_of (junction_values j) ≡ j
 unfolding junction_of junction_values
 junction_own j h =
-    rw (signed_back j.max_z h.max_z, signed_back j.position_x h.position_x, signed_back j.position_y h.position_y, signed_back j.min_z h.min_z)
+    rw (signed_back j.max_z h.max_z, signed_back j.position_x h.position_x, signed_back j.position_y h.position_y,
+        signed_back j.min_z h.min_z)
 
-pub junction_back : (j : NodeJunction) → JunctionFits j → (s : List ℕ) (at : ℕ) → Stands s at (junction_bytes j) → junction_at s at ≡ j
+pub junction_back : (j : NodeJunction) → JunctionFits j → (s : List ℕ) (at : ℕ) → Stands s at (junction_bytes j)
+    → junction_at s at ≡ j
 unfolding junction_at junction_bytes number_bytes junction_of junction_widths junction_values fields_at field_bytes
 junction_back j h s at there = ap junction_of (fields_back s at 0 (junction_fit j h) there) ∙ junction_own j h
 

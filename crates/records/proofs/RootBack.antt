@@ -33,7 +33,10 @@ root_widths = 4 ∷ 4 ∷ 8 ∷ 8 ∷ 4 ∷ 4 ∷ 4 ∷ 4 ∷ 8 ∷ 4 ∷ 4 ∷ 
 
 root_values : Root → List ℕ
 root_values r =
-    r.vft ∷ 1 ∷ pages_address ∷ r.nodes ∷ r.node_count ∷ r.vehicle_node_count ∷ r.ped_node_count ∷ get_or r.unknowns 0 0 ∷ r.links ∷ r.link_count ∷ get_or r.unknowns 1 0 ∷ r.junctions ∷ r.heightmap ∷ get_or r.unknowns 2 0 ∷ get_or r.unknowns 3 0 ∷ r.refs ∷ r.ref_count ∷ r.ref_count ∷ get_or r.unknowns 4 0 ∷ r.junction_count ∷ r.heightmap_count ∷ get_or r.unknowns 5 0 ∷ get_or r.unknowns 6 0 ∷ []
+    r.vft ∷ 1 ∷ pages_address ∷ r.nodes ∷ r.node_count ∷ r.vehicle_node_count ∷ r.ped_node_count
+        ∷ get_or r.unknowns 0 0 ∷ r.links ∷ r.link_count ∷ get_or r.unknowns 1 0 ∷ r.junctions ∷ r.heightmap
+        ∷ get_or r.unknowns 2 0 ∷ get_or r.unknowns 3 0 ∷ r.refs ∷ r.ref_count ∷ r.ref_count ∷ get_or r.unknowns 4 0
+        ∷ r.junction_count ∷ r.heightmap_count ∷ get_or r.unknowns 5 0 ∷ get_or r.unknowns 6 0 ∷ []
 
 root_from : List ℕ → Root
 root_from vs = record {
@@ -50,12 +53,21 @@ root_from vs = record {
   ref_count = get_or vs 17 0;
   junction_count = get_or vs 19 0;
   heightmap_count = get_or vs 20 0;
-  unknowns = get_or vs 7 0 ∷ get_or vs 10 0 ∷ get_or vs 13 0 ∷ get_or vs 14 0 ∷ get_or vs 18 0 ∷ get_or vs 21 0 ∷ get_or vs 22 0 ∷ [];
+  unknowns = get_or vs 7 0 ∷ get_or vs 10 0 ∷ get_or vs 13 0 ∷ get_or vs 14 0 ∷ get_or vs 18 0 ∷ get_or vs 21 0
+      ∷ get_or vs 22 0 ∷ [];
 }
 
 root_fit : (r : Root) → RootFits r → Fit root_widths (root_values r)
 unfolding root_widths root_values
-root_fit r h = field h.vft (field {w = 4} {v = 1} (omega arith) (field {w = 8} {v = pages_address} (omega arith) (field h.nodes (field h.node_count (field h.vehicle_node_count (field h.ped_node_count (field (h.words 0) (field h.links (field h.link_count (field (h.words 1) (field h.junctions (field h.heightmap (field (h.words 2) (field (h.words 3) (field h.refs (field h.ref_count (field h.ref_count (field (h.words 4) (field h.junction_count (field h.heightmap_count (field (h.words 5) (field (h.words 6) none))))))))))))))))))))))
+root_fit r h = field h.vft (field {w = 4} {v = 1} (omega arith)
+    (field {w = 8} {v = pages_address} (omega arith)
+    (field h.nodes (field h.node_count (field h.vehicle_node_count
+    (field h.ped_node_count (field (h.words 0) (field h.links (field h.link_count
+    (field (h.words 1) (field h.junctions
+    (field h.heightmap (field (h.words 2)
+    (field (h.words 3) (field h.refs (field h.ref_count (field h.ref_count
+    (field (h.words 4) (field h.junction_count
+    (field h.heightmap_count (field (h.words 5) (field (h.words 6) none))))))))))))))))))))))
 
 -- n elements from k on, one by one
 entries : ℕ → List ℕ → ℕ → List ℕ
@@ -65,7 +77,8 @@ entries (suc n) u k = get_or u k 0 ∷ entries n u (suc k)
 entries_all : (n : ℕ) (u : List ℕ) (k : ℕ) → k + n ≡ length u → entries n u k ≡ drop k u
 unfolding entries
 entries_all zero u k e = sym (drop_of_length-le u (let h : length u ≤ k = omega arith in h))
-entries_all (suc n) u k e = ap (λ (l : List ℕ). get_or u k 0 ∷ l) (entries_all n u (suc k) (omega arith)) ∙ sym (drop-cons u k 0 (omega arith))
+entries_all (suc n) u k e = ap (λ (l : List ℕ). get_or u k 0 ∷ l) (entries_all n u (suc k) (omega arith))
+    ∙ sym (drop-cons u k 0 (omega arith))
 
 root_own : (r : Root) → RootFits r → root_from (root_values r) ≡ r
 unfolding root_from root_values entries

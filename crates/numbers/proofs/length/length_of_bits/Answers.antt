@@ -10,7 +10,8 @@ At b r = IsPartitionPoint (λ y. leb y b ≡ true) (λ y. leb y b ≡ false) thr
 
 found : (c : goal.After-partition_point) → At c.args.b c.partition_point.result
 unfolding thresholds
-found c = IsPartitionPoint-from_clause (λ y. leb y c.args.b) thresholds c.partition_point.result c.partition_point.ensures.partitioned (partitioned c.args.b) (λ a r f k. search (rules, tests))
+found c = IsPartitionPoint-from_clause (λ y. leb y c.args.b) thresholds c.partition_point.result
+    c.partition_point.ensures.partitioned (partitioned c.args.b) (λ a r f k. search (rules, tests))
 
 pub overflow_sub-result : goal.overflow_sub-result
 overflow_sub-result c = point_some c.args.b c.partition_point.result (found c)
