@@ -34,4 +34,5 @@ samples:
 
 -include judge/judge.mk
 include handheld.mk
+include install.mk
 include tools/bofrashem/tool.mk

@@ -6,6 +6,7 @@
 #   make valgrind        the same under valgrind, which sees the archive's code too
 #   make fuzz            the libFuzzer target for FUZZ_SECONDS (clang); make fuzz-rounds: that of round files
 #   make stack           how much stack each call takes
+#   make hostile         how much memory small files can ask for, and what walks take whose numbers are not places
 # What a target needs and does not find it names. YND_ARCHIVE names another archive.
 YND_ARCHIVE ?= target/staticlib/libexports.a
 FUZZ_SECONDS ?= 60
@@ -23,7 +24,7 @@ PROVED_CRATES = numbers records cells walks reach rounds paths sets set_rounds e
 PROVED = $(shell find $(wildcard $(foreach c,$(PROVED_CRATES),$(addprefix crates/$(c)/,src specs proofs))) -name '*.rt' -o -name '*.antt')
 need = @command -v $(1) >/dev/null || { echo '$(1) is missing: apt-get install $(2)'; exit 1; }
 
-.PHONY: archive example test-header bindings asan valgrind fuzz fuzz-rounds stack seeds
+.PHONY: archive example test-header bindings asan valgrind fuzz fuzz-rounds stack hostile seeds
 
 archive: $(YND_ARCHIVE)
 
@@ -102,3 +103,10 @@ target/hard/stack: hard/stack.c include/bofrashem.h $(YND_ARCHIVE)
 
 stack: target/hard/stack
 	@target/hard/stack samples/yard.section
+
+target/hard/hostile: hard/hostile.c include/bofrashem.h $(YND_ARCHIVE)
+	@mkdir -p $(@D)
+	$(CC_HANDHELD) $(C_FLAGS) -O2 hard/hostile.c $(YND_ARCHIVE) -o $@
+
+hostile: target/hard/hostile
+	@target/hard/hostile

@@ -29,7 +29,9 @@ typedef struct {
 static void accepted(const char *what, uint32_t number, const size_t *place)
 {
     if (number) {
-        printf("%s: refused %u %zu\n", what, (unsigned)number, *place);
+        char text[YND_TEXT_MOST];
+        ynd_refusal_text(number, text, sizeof text);
+        printf("%s: refused %u %zu, %s\n", what, (unsigned)number, *place, text);
         exit(EXIT_FAILURE);
     }
 }

@@ -10,7 +10,7 @@
 
 #include "bofrashem.h"
 
-enum { CHOICES_MOST = 256, STEPS = 8, REACH = 80, SHOWN = 12 };
+enum { CHOICES_MOST = 256, STEPS = 8, REACH = 80, SHOWN = 12, MEMORY_MOST = 16 << 20 };
 
 /* A cell with the memory that is lent for it. All of it is ours: the library keeps nothing. */
 typedef struct {
@@ -23,32 +23,11 @@ typedef struct {
     ynd_ref_entry *refs;
 } yard;
 
-static const char *const REFUSALS[] = {
-    "accepted",
-    "1 to 111 system bytes",
-    "a section over 16,777,216 bytes",
-    "an array's address or extent is bad",
-    "a node's links leave the list of links",
-    "a junction's heightmap leaves the heightmap bytes",
-    "more than 65,536 nodes or 4,096 junctions",
-    "lent memory too short",
-    "over 31 links on writing",
-    "links before this node, which has links, over 65,535 on writing",
-    "heightmap bytes before a junction over 65,535 on writing",
-    "refs over 65,535 on writing",
-    "heightmap values not width times height",
-    "no such place",
-    "the cell is at a limit",
-    "no round file of a version that is read",
-    "a round file of another length than its count says",
-    "no walk joins the two places",
-    "the area is already in the set",
-    "the round is of another cell"
-};
-
 static int refused(const char *what, uint32_t number, size_t place)
 {
-    printf("%s: refused %u %zu, %s\n", what, (unsigned)number, place, number < sizeof REFUSALS / sizeof *REFUSALS ? REFUSALS[number] : "?");
+    char text[YND_TEXT_MOST];
+    ynd_refusal_text(number, text, sizeof text);
+    printf("%s: refused %u %zu, %s\n", what, (unsigned)number, place, text);
     return EXIT_FAILURE;
 }
 
@@ -82,6 +61,13 @@ static void give_back(yard *y)
     free(y->junctions);
     free(y->heights);
     free(y->refs);
+}
+
+/* How many bytes a cell's lists take. A small file can ask for hundreds of megabytes, by ranges that overlap. */
+static size_t bytes_of(const ynd_counts *held)
+{
+    return held->nodes * sizeof(ynd_node_entry) + held->links * sizeof(ynd_link_entry)
+        + held->junctions * sizeof(ynd_junction_entry) + held->heights + held->refs * sizeof(ynd_ref_entry);
 }
 
 /* The whole file, or NULL. */
@@ -314,7 +300,9 @@ int main(int argc, char **argv)
     ynd_counts counts;
     int status = EXIT_FAILURE;
     uint32_t number = ynd_count(section, length, NULL, 0, &counts, &place);
-    if (!number) {
+    if (!number && bytes_of(&counts) > MEMORY_MOST) {
+        printf("%s: asks for %zu bytes\n", argv[1], bytes_of(&counts));
+    } else if (!number) {
         yard y = lend(counts);
         number = ynd_read(&y.ynd, section, length, NULL, 0, y.nodes, counts.nodes, y.links, counts.links, y.junctions, counts.junctions,
             y.heights, counts.heights, y.refs, counts.refs, &place);

@@ -1,4 +1,4 @@
-/* The calls that the other checks leave out: the fields of nodes and links, records, and empty lists as NULL. */
+/* The calls that the other checks leave out: fields of nodes and links, records, texts, and empty lists as NULL. */
 #include "drive.h"
 
 typedef bool node_bit(const ynd_node_entry *);
@@ -229,6 +229,38 @@ static void empty_lists(void)
     unblock(zeros, YND_ROOT_BYTES);
 }
 
+/* A refusal's text in every length of memory: what fits, a zero, and the later bytes as they were. */
+static void text(uint32_t number, const char *whole)
+{
+    size_t n = strlen(whole);
+    CHECK(n < YND_TEXT_MOST && ynd_refusal_text(number, NULL, 0) == n);
+    for (size_t room = 1; room < n + 4; room++) {
+        char *bytes = block(room);
+        size_t kept = n < room - 1 ? n : room - 1;
+        CHECK(ynd_refusal_text(number, bytes, room) == n);
+        CHECK(memcmp(bytes, whole, kept) == 0 && bytes[kept] == 0);
+        for (size_t i = kept + 1; i < room; i++)
+            CHECK((uint8_t)bytes[i] == KEPT);
+        unblock(bytes, room);
+    }
+}
+
+/* Each number has a text of its own, and those that no refusal has have one. */
+static void texts(void)
+{
+    static char known[YND_OTHER_AREA + 2][YND_TEXT_MOST];
+    for (uint32_t k = 0; k < YND_OTHER_AREA + 2; k++) {
+        ynd_refusal_text(k, known[k], YND_TEXT_MOST);
+        text(k, known[k]);
+        for (uint32_t i = 0; i < k; i++)
+            CHECK(strcmp(known[i], known[k]) != 0);
+    }
+    CHECK(strcmp(known[YND_ACCEPTED], "accepted") == 0);
+    CHECK(strcmp(known[YND_LENT_TOO_SHORT], "lent memory too short") == 0);
+    text(UINT32_MAX, known[YND_OTHER_AREA + 1]);
+    CHECK(ynd_version() == BOFRASHEM_VERSION_NUMBER);
+}
+
 void every_call(void)
 {
     ynd_node_entry *v = block(sizeof *v);
@@ -242,6 +274,7 @@ void every_call(void)
     unblock(v, sizeof *v);
     records();
     undrawn();
+    texts();
     empty_lists();
     most_choices();
     most_choices_of_area();

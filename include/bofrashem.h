@@ -1,20 +1,28 @@
-/* Bofrashem: the calls on path node cells, for programs in C. Link target/staticlib/libexports.a. The guide is docs/LINKING.md.
+/* Bofrashem: the calls on path node cells, for programs in C and C++. Link libbofrashem. The guide is
+ * docs/LINKING.md.
  *
- * Memory. Nothing in the library allocates, frees or keeps anything: every list, section and struct is the caller's, before,
- * during and after a call. A cell is one ynd_cell beside five lists: nodes, links, junctions, heights (heightmap values), refs.
- * A list is passed as pointer and length, the length counted in entries; it may be longer than what the cell holds. An empty list
- * has length 0, and its pointer may be NULL. What is lent for changing (no const) may not overlap anything else that is lent to the
- * same call. Pointers other than those of empty lists may not be NULL, and are aligned as their type says.
+ * Memory. Nothing in the library allocates, frees or keeps anything: every list, section and struct is the caller's,
+ * before, during and after a call. A cell is one ynd_cell beside five lists: nodes, links, junctions, heights
+ * (heightmap values), refs. A list is passed as pointer and length, the length counted in entries; it may be longer
+ * than what the cell holds. An empty list has length 0, and its pointer may be NULL. What is lent for changing (no
+ * const) may not overlap anything else that is lent to the same call. Pointers other than those of empty lists may
+ * not be NULL, and are aligned as their type says.
  *
- * Refusals. A call that can be refused returns the refusal's number, or 0 (YND_ACCEPTED), and always sets *place: to the place
- * that the number speaks of, or 0. A refusal changes nothing else that was lent. Where several causes fit, the first one in the
- * order given with the call is returned, with the lowest place. "14 over a limit" is a struct made by hand, with over
- * 65,536 nodes or 4,096 junctions, whichever lists the call is lent. A place, link or value that the struct counts and the lists
- * don't hold is 7.
+ * Refusals. A call that can be refused returns the refusal's number, or 0 (YND_ACCEPTED), and always sets *place: to
+ * the place that the number speaks of, or 0. A refusal changes nothing else that was lent. Where several causes fit,
+ * the first one in the order given with the call is returned, with the lowest place. "14 over a limit" is a struct
+ * made by hand, with over 65,536 nodes or 4,096 junctions, whichever lists the call is lent. A place, link or value
+ * that the struct counts and the lists don't hold is 7.
  *
  * Threads. There is no state beside what is lent: calls on different memory may run at the same time.
  *
- * Places count from 0. A node's place is its index in the list; its number (node_id) is what links name. */
+ * Costs. A call with no "Time:" in its comment takes the same time whatever the cell holds. "Linear in" names what is
+ * gone through once: n nodes, l links, j junctions, h heightmap values, r refs. A list longer than what the cell
+ * holds costs nothing. No call takes more memory than it is lent, and some kilobytes of stack (docs/LINKING.md).
+ *
+ * Places count from 0. A node's place is its index in the list; its number (node_id) is what links name. Where each
+ * node's number is its place, as after renumbering, a node is found by its number at once; elsewhere by a look at up
+ * to n nodes. */
 #ifndef BOFRASHEM_H
 #define BOFRASHEM_H
 
@@ -22,6 +30,15 @@
 #include <stdbool.h>
 #include <stddef.h>
 #include <stdint.h>
+
+/* The version of this header. ynd_version() is that of the library that a program runs with: the same number, or a
+ * later one with the same major number. What each version changed for a caller: CHANGELOG.md. */
+#define BOFRASHEM_VERSION_MAJOR 1
+#define BOFRASHEM_VERSION_MINOR 0
+#define BOFRASHEM_VERSION_PATCH 0
+#define BOFRASHEM_VERSION "1.0.0"
+#define BOFRASHEM_VERSION_NUMBER \
+    (BOFRASHEM_VERSION_MAJOR * 10000 + BOFRASHEM_VERSION_MINOR * 100 + BOFRASHEM_VERSION_PATCH)
 
 #ifdef __cplusplus
 extern "C" {
@@ -115,7 +132,8 @@ enum {
     YND_MEMBERS_MOST = 9,           /* members of a set, of YND_NODES_MOST nodes together */
     YND_GRID = 32,                  /* grid cells along x and y */
     YND_FILE_NAME_BYTES = 13,
-    YND_ROOT_WORDS = 28
+    YND_ROOT_WORDS = 28,
+    YND_TEXT_MOST = 128             /* bytes that hold any text of ynd_refusal_text and its zero */
 };
 
 /* A cell: the words of the root, and how many entries the five lists hold. */
@@ -244,10 +262,24 @@ YND_ASSERT(sizeof(ynd_counts) == 5 * 8 && sizeof(ynd_walk_end) == 3 * 4 && sizeo
     && sizeof(ynd_seen_junction) == 6 * 4 && sizeof(ynd_seen_link) == 5 && sizeof(ynd_part) == 3 * 8
     && sizeof(ynd_addresses) == 5 * 8, "answers");
 
+/* ---- Version and texts ---- */
+
+/* The version of the library, made of its three parts as BOFRASHEM_VERSION_NUMBER is. Never refused. */
+uint32_t ynd_version(void);
+
+/* What a refusal's number says in words: "accepted" for 0, the cause of the table above for 1 to 19 ("times" for its
+ * sign), "no refusal has this number" for all others. As much of it as leaves room for a zero goes to the front of
+ * `text` as bytes of ASCII, with the zero behind it; later bytes stay, and of none nothing is stored. Returns the
+ * length of the whole text, the zero aside: as snprintf does. YND_TEXT_MOST bytes always do. Never refused. */
+size_t ynd_refusal_text(uint32_t number, char *text, size_t text_len);
+
 /* ---- Reading ---- */
 
 /* How many entries of each kind a file holds: what ynd_read has to be lent. Stores nothing but `counts`. A system
- * section of no bytes is a yard not drawn yet: it holds nothing. Refused, in this order: 2, 1, 3, 6, 4, 5. */
+ * section of no bytes is a yard not drawn yet: it holds nothing. Time: linear in the nodes and junctions of the
+ * file. Ranges may overlap, so that a small file can count far more than its bytes hold: hold the counts to a limit
+ * of your own before memory is asked for (docs/LINKING.md, "Files that nobody vouches for"). Refused, in this
+ * order: 2, 1, 3, 6, 4, 5. */
 uint32_t ynd_count(
     const uint8_t *system, size_t system_len, const uint8_t *graphics, size_t graphics_len, ynd_counts *counts,
     size_t *place);
@@ -256,8 +288,10 @@ uint32_t ynd_count(
 void ynd_new(ynd_cell *ynd);
 
 /* Reads a cell from its two sections into the lent lists, from their front on; later entries stay. `ynd` gets the
- * counts and the words of the root; what it held before does not matter. A system section of no bytes gives the cell
- * of ynd_new and leaves the lists. The sections may be given back after the call. Refused, in this order: 2, 1, 3, 6, 4, 5, then 7 at 0 to 4 where a list is shorter than ynd_count says. */
+ * counts and the words of the root; what it held before does not matter. A system section of no bytes gives the
+ * cell of ynd_new and leaves the lists. The sections may be given back after the call. Time: linear in what
+ * ynd_count says. Refused, in this order: 2, 1, 3, 6, 4, 5, then 7 at 0 to 4 where a list is shorter than ynd_count
+ * says. */
 uint32_t ynd_read(
     ynd_cell *ynd, const uint8_t *system, size_t system_len, const uint8_t *graphics, size_t graphics_len,
     ynd_node_entry *nodes, size_t nodes_len, ynd_link_entry *links, size_t links_len,
@@ -271,9 +305,9 @@ uint32_t ynd_read(
 
 /* Renumbers: nodes that are no ped nodes come first, then ped nodes, each in their old order, numbered by place.
  * Links and refs of the own area follow; both node counts of `ynd` are set. `places` gets the new place of the node
- * at each old place. The scratch holds anything after an accepted call. Refused, in this order: 14 over a limit; 7
- * at 0 to 4 where a list is shorter than its count, 7 at 6 where the scratch has under YND_SCRATCH entries, 7 at 7
- * where `places` has fewer entries than there are nodes. */
+ * at each old place. The scratch holds anything after an accepted call. Time: linear in n, l and r. Refused, in
+ * this order: 14 over a limit; 7 at 0 to 4 where a list is shorter than its count, 7 at 6 where the scratch has
+ * under YND_SCRATCH entries, 7 at 7 where `places` has fewer entries than there are nodes. */
 uint32_t ynd_renumber(
     ynd_cell *ynd, ynd_node_entry *nodes, size_t nodes_len, ynd_link_entry *links, size_t links_len,
     const ynd_junction_entry *junctions, size_t junctions_len, const uint8_t *heights, size_t heights_len,
@@ -283,9 +317,10 @@ uint32_t ynd_renumber(
 /* ---- Writing ---- */
 
 /* Writes the cell into `section`, from its first byte on; later bytes stay. `length` gets how many bytes were
- * written. Refused, in this order: 14 over a limit, 12 where a junction made by hand has fewer than width × height
- * of the values that the struct counts, 8 and 9 node by node, 10, 11, 7 at 0 to 4 where a list is shorter than its
- * count, 7 at 5 where the section is too short. What is written is never refused on reading, but for memory (7). */
+ * written. Time: linear in what is written. Refused, in this order: 14 over a limit, 12 where a junction made by
+ * hand has fewer than width × height of the values that the struct counts, 8 and 9 node by node, 10, 11, 7 at 0 to
+ * 4 where a list is shorter than its count, 7 at 5 where the section is too short. What is written is never refused
+ * on reading, but for memory (7). */
 uint32_t ynd_write(
     const ynd_cell *ynd, const ynd_node_entry *nodes, size_t nodes_len,
     const ynd_link_entry *links, size_t links_len, const ynd_junction_entry *junctions, size_t junctions_len,
@@ -293,8 +328,9 @@ uint32_t ynd_write(
     uint8_t *section, size_t section_len, size_t *length, size_t *place);
 
 /* Writes the cell into `section` and reads just those bytes back into the cell's own lists. `length` gets how many
- * bytes were written. Refused as ynd_write is; a cell made by hand is also refused with 7 at 0 to 4 where a list is
- * too short for copies of ranges that overlap. A refusal leaves cell, lists and section as they were. */
+ * bytes were written. Time: linear in what is written. Refused as ynd_write is; a cell made by hand is also refused
+ * with 7 at 0 to 4 where a list is too short for copies of ranges that overlap. A refusal leaves cell, lists and
+ * section as they were. */
 uint32_t ynd_write_then_read(
     ynd_cell *ynd, ynd_node_entry *nodes, size_t nodes_len, ynd_link_entry *links, size_t links_len,
     ynd_junction_entry *junctions, size_t junctions_len, uint8_t *heights, size_t heights_len,
@@ -304,18 +340,19 @@ uint32_t ynd_write_then_read(
 
 /* Walks from the node at place `start`, by a byte a choice: each byte chooses a link by its place among the node's
  * links. `end` gets how the walk ended, `visited` the places from its front on (later entries stay), `count` how
- * many they are: one more than the links followed. Refused, in this order: 13 no such place; 14 over a limit; 7 at
- * 0 and 1 where a list is shorter than its count; 7 at 8 where `visited` is too short (choices_len + 1 entries
- * always do). */
+ * many they are: one more than the links followed. Time: a node is found by its number for each choice, so that
+ * where numbers are not places each may look at n nodes: renumber a cell that was read before long walks, or bound
+ * the choices. Refused, in this order: 13 no such place; 14 over a limit; 7 at 0 and 1 where a list is shorter than
+ * its count; 7 at 8 where `visited` is too short (choices_len + 1 entries always do). */
 uint32_t ynd_walk(
     const ynd_cell *ynd, const ynd_node_entry *nodes, size_t nodes_len,
     const ynd_link_entry *links, size_t links_len, size_t start, const uint8_t *choices, size_t choices_len,
     uint32_t *visited, size_t visited_len, ynd_walk_end *end, size_t *count, size_t *place);
 
 /* Whether the cell is sound: all nodes have one area, their numbers differ, and each link and ref of the own area
- * names a node of the cell. The scratch then holds at each number the last place that has it. Refused, in this
- * order: 14 over a limit; 7 at 0, 1 and 4 where a list is shorter than its count; 7 at 6 where the scratch has
- * under YND_SCRATCH entries. */
+ * names a node of the cell. The scratch then holds at each number the last place that has it. Time: linear in n,
+ * the nodes' links and r. Refused, in this order: 14 over a limit; 7 at 0, 1 and 4 where a list is shorter than its
+ * count; 7 at 6 where the scratch has under YND_SCRATCH entries. */
 uint32_t ynd_sound(
     const ynd_cell *ynd, const ynd_node_entry *nodes, size_t nodes_len,
     const ynd_link_entry *links, size_t links_len, const ynd_ref_entry *refs, size_t refs_len,
@@ -323,8 +360,8 @@ uint32_t ynd_sound(
 
 /* ---- What a walk shows ---- */
 
-/* What a walk shows of the node at place `at`. Fills `shown`. Refused, in this order: 13 no such place; 14 over a
- * limit; 7 at 0, 1, 2 and 4 where a list is shorter than its count. */
+/* What a walk shows of the node at place `at`. Fills `shown`. Time: linear in r. Refused, in this order: 13 no such
+ * place; 14 over a limit; 7 at 0, 1, 2 and 4 where a list is shorter than its count. */
 uint32_t ynd_shown_node(
     const ynd_cell *ynd, const ynd_node_entry *nodes, size_t nodes_len,
     const ynd_link_entry *links, size_t links_len, const ynd_junction_entry *junctions, size_t junctions_len,
@@ -337,8 +374,9 @@ uint32_t ynd_shown_junction(
     ynd_seen_junction *shown, size_t *place);
 
 /* Copies the heightmap values of the junction at place `at` to the front of `values` (later entries stay) and how
- * many they are into `count`: 65,025 entries always do. Refused, in this order: 13 no such place; 14 over a limit;
- * 7 at 2 and 3 where a list is shorter than its count; 7 at 3 where `values` is too short. */
+ * many they are into `count`: 65,025 entries always do. Time: linear in the values. Refused, in this order: 13 no
+ * such place; 14 over a limit; 7 at 2 and 3 where a list is shorter than its count; 7 at 3 where `values` is too
+ * short. */
 uint32_t ynd_shown_values(
     const ynd_cell *ynd, const ynd_junction_entry *junctions, size_t junctions_len,
     const uint8_t *heights, size_t heights_len, size_t at, uint8_t *values, size_t values_len, size_t *count,
@@ -355,13 +393,15 @@ uint32_t ynd_shown_link(
 /* ---- Lookups. Nothing found is no refusal ---- */
 
 /* The place of the node that has a number: `found` says whether there is one, `at` gets its place (else `at`
- * stays). Refused: 14 over a limit; 7 at 0 where a list is shorter than its count. */
+ * stays). Time: at once where the node at the place of that number has it, else linear in n. Refused: 14 over a
+ * limit; 7 at 0 where a list is shorter than its count. */
 uint32_t ynd_node(
     const ynd_cell *ynd, const ynd_node_entry *nodes, size_t nodes_len, uint16_t node_id, bool *found,
     size_t *at, size_t *place);
 
 /* The place of the junction that the refs give to a node, by area and number: `found`, and then `at` (else `at`
- * stays). A ref of the own area counts as naming the first node's area, with the island's bit. Refused: 14 over a limit; 7 at 0 and 4 where a list is shorter than its count. */
+ * stays). A ref of the own area counts as naming the first node's area, with the island's bit. Time: linear in r.
+ * Refused: 14 over a limit; 7 at 0 and 4 where a list is shorter than its count. */
 uint32_t ynd_junction_of(
     const ynd_cell *ynd, const ynd_node_entry *nodes, size_t nodes_len,
     const ynd_ref_entry *refs, size_t refs_len, uint16_t area_id, uint16_t node_id, bool *found, size_t *at,
@@ -375,18 +415,20 @@ uint32_t ynd_area_of_cell(
 
 /* ---- Nodes within reach of a point. Point, radius and distances count quarter-metre steps ---- */
 
-/* The places of all nodes whose stored x and y (as writing stores them) lie at most `radius` from the point, each once
- * and no other: `count` gets how many they are, the first entries of `places` their places, later entries stay. The
- * nearest comes first: they ascend by squared distance, equal distances by place. Radius 0 lists the nodes exactly
- * there. Refused, in this order: 14 a struct over a limit; 7 at 0 where a list is shorter than its count; 7 at 8 where
- * `places` has fewer entries than there are such nodes (node_count entries always do, and spare a count). */
+/* The places of all nodes whose stored x and y (as writing stores them) lie at most `radius` from the point, each
+ * once and no other: `count` gets how many they are, the first entries of `places` their places, later entries
+ * stay. The nearest comes first: they ascend by squared distance, equal distances by place. Radius 0 lists the
+ * nodes exactly there. Time: linear in n, with k log k for k places listed; n are gone through once more where
+ * `places` is shorter than n. Refused, in this order: 14 a struct over a limit; 7 at 0 where a list is shorter than
+ * its count; 7 at 8 where `places` has fewer entries than there are such nodes (node_count entries always do, and
+ * spare a count). */
 uint32_t ynd_within(
     const ynd_cell *ynd, const ynd_node_entry *nodes, size_t nodes_len, int16_t x, int16_t y, uint16_t radius,
     uint32_t *places, size_t places_len, size_t *count, size_t *place);
 
-/* The node nearest to the point, the lowest place where distances are equal: `found` is false in a cell with no node;
- * else `at` gets its place and `square` its squared distance (else they stay). Refused, in this order: 14 a struct
- * over a limit; 7 at 0 where a list is shorter than its count. */
+/* The node nearest to the point, the lowest place where distances are equal: `found` is false in a cell with no
+ * node; else `at` gets its place and `square` its squared distance (else they stay). Time: linear in n. Refused, in
+ * this order: 14 a struct over a limit; 7 at 0 where a list is shorter than its count. */
 uint32_t ynd_nearest(
     const ynd_cell *ynd, const ynd_node_entry *nodes, size_t nodes_len, int16_t x, int16_t y, bool *found,
     size_t *at, uint64_t *square, size_t *place);
@@ -394,25 +436,25 @@ uint32_t ynd_nearest(
 /* ---- Round files, and rounds followed. A round is the number of its start node and a byte a choice. Its file has the
  * mark RND, version 1 (two bytes), the number (two), the count of choices (two) and the choices; low bytes first ---- */
 
-/* Reads a round file: `start` gets the number, `count` how many choices there are, the first entries of `choices` the
- * choices, later entries stay (YND_CHOICES_MOST entries always do). Refused, in this order: 15 the first five bytes
- * aren't the mark and version 1; 16 under 9 bytes, or another length than 9 plus the count; 7 at 8 where `choices` has
- * fewer entries than the count. */
+/* Reads a round file: `start` gets the number, `count` how many choices there are, the first entries of `choices`
+ * the choices, later entries stay (YND_CHOICES_MOST entries always do). Time: linear in the choices. Refused, in
+ * this order: 15 the first five bytes aren't the mark and version 1; 16 under 9 bytes, or another length than 9
+ * plus the count; 7 at 8 where `choices` has fewer entries than the count. */
 uint32_t ynd_read_round(
     const uint8_t *file, size_t file_len, uint8_t *choices, size_t choices_len, uint16_t *start, size_t *count,
     size_t *place);
 
-/* Writes a round file of 9 + choices_len bytes: `length` gets how many they are, later bytes of `file` stay. Refused,
- * in this order: 16 over 65,535 choices; 7 at 8 where `file` is shorter. */
+/* Writes a round file of 9 + choices_len bytes: `length` gets how many they are, later bytes of `file` stay. Time:
+ * linear in the choices. Refused, in this order: 16 over 65,535 choices; 7 at 8 where `file` is shorter. */
 uint32_t ynd_write_round(
     uint16_t start, const uint8_t *choices, size_t choices_len, uint8_t *file, size_t file_len, size_t *length,
     size_t *place);
 
-/* Follows a round: the walk from the place that ynd_node finds for the number `start`, with all that ynd_walk leaves.
- * Renumbering gives nodes new numbers: a file from before it starts at whichever node then has its number, so write it
- * again with the node's new number. Refused, in this order: 14 over a limit; 7 at 0 where the nodes are fewer than
- * their count; 13 no node has the number; 7 at 1 where the links are fewer than their count; 7 at 8 where `visited` is
- * too short (choices_len + 1 entries always do). */
+/* Follows a round: the walk from the place that ynd_node finds for the number `start`, with all that ynd_walk
+ * leaves. Renumbering gives nodes new numbers: a file from before it starts at whichever node then has its number,
+ * so write it again with the node's new number. Time: that of ynd_node and of ynd_walk. Refused, in this order: 14
+ * over a limit; 7 at 0 where the nodes are fewer than their count; 13 no node has the number; 7 at 1 where the
+ * links are fewer than their count; 7 at 8 where `visited` is too short (choices_len + 1 entries always do). */
 uint32_t ynd_follow_round(
     const ynd_cell *ynd, const ynd_node_entry *nodes, size_t nodes_len,
     const ynd_link_entry *links, size_t links_len, uint16_t start, const uint8_t *choices, size_t choices_len,
@@ -422,26 +464,28 @@ uint32_t ynd_follow_round(
  * all else is as in version 1. A version 1 round is of the cell that it is followed in ---- */
 
 /* Reads a round file of version 1 or 2: `version` gets which (1 or 2), `area` the area of version 2, or 0 for
- * version 1; all else is as for ynd_read_round. Write a round back in the version that it was read in. Refused, in
- * this order: 15 the first five bytes aren't the mark and version 1 or 2; 16 under 9 bytes, or another length than 9
- * plus the count (in version 2: 11); 7 at 8 where `choices` has fewer entries than the count. */
+ * version 1; all else is as for ynd_read_round. Write a round back in the version that it was read in. Time: linear
+ * in the choices. Refused, in this order: 15 the first five bytes aren't the mark and version 1 or 2; 16 under 9
+ * bytes, or another length than 9 plus the count (in version 2: 11); 7 at 8 where `choices` has fewer entries than
+ * the count. */
 uint32_t ynd_read_round_versioned(
     const uint8_t *file, size_t file_len, uint8_t *choices, size_t choices_len, uint16_t *version, uint16_t *area,
     uint16_t *start, size_t *count, size_t *place);
 
 /* Writes a round file of this version: 9 + choices_len bytes in version 1, which has no area (`area` is not looked
- * at), 11 + choices_len in version 2; `length` gets how many they are, later bytes of `file` stay. Refused, in this
- * order: 15 a version that is neither 1 nor 2; 16 over 65,535 choices; 7 at 8 where `file` is shorter. */
+ * at), 11 + choices_len in version 2; `length` gets how many they are, later bytes of `file` stay. Time: linear in
+ * the choices. Refused, in this order: 15 a version that is neither 1 nor 2; 16 over 65,535 choices; 7 at 8 where
+ * `file` is shorter. */
 uint32_t ynd_write_round_versioned(
     uint16_t version, uint16_t area, uint16_t start, const uint8_t *choices, size_t choices_len,
     uint8_t *file, size_t file_len, size_t *length, size_t *place);
 
-/* Follows a round of this version, as ynd_follow_round follows one of version 1: of version 2 only in the cell whose
- * own area (the first node's, with the island's bit; 0 in a cell with no node) is `area`. In version 1 `area` is not
- * looked at. Refused, in this order: 15 a version that is neither 1 nor 2; 14 over a limit; 7 at 0 where the nodes
- * are fewer than their count; 19 a version 2 round whose area isn't the cell's; 13 no node has the number; 7 at 1
- * where the links are fewer than their count; 7 at 8 where `visited` is too short (choices_len + 1 entries always
- * do). */
+/* Follows a round of this version, as ynd_follow_round follows one of version 1: of version 2 only in the cell
+ * whose own area (the first node's, with the island's bit; 0 in a cell with no node) is `area`. In version 1 `area`
+ * is not looked at. Time: that of ynd_node and of ynd_walk. Refused, in this order: 15 a version that is neither 1
+ * nor 2; 14 over a limit; 7 at 0 where the nodes are fewer than their count; 19 a version 2 round whose area isn't
+ * the cell's; 13 no node has the number; 7 at 1 where the links are fewer than their count; 7 at 8 where `visited`
+ * is too short (choices_len + 1 entries always do). */
 uint32_t ynd_follow_round_versioned(
     const ynd_cell *ynd, const ynd_node_entry *nodes, size_t nodes_len,
     const ynd_link_entry *links, size_t links_len, uint16_t version, uint16_t area, uint16_t start,
@@ -455,11 +499,11 @@ uint32_t ynd_follow_round_versioned(
  * lists that is shorter than the members' parts together, or a member's part that is shorter than its count ---- */
 
 /* A cell joins: what `ynd` says of its lists is copied behind the other members' parts, and its own parts get
- * `sizes` entries, at least as many as the cell holds. The set's members are the first `count` of `members`; `count`
- * then is one more. Refused, in this order: 18 a member has the cell's area; 14 a tenth member, more than 65,536
- * nodes together, or over a limit; 7 at 0 to 4 where the set's list has no room for `sizes` entries more, the cell's
- * list is shorter than its count, or `sizes` is less than that or passes 32 bits; 7 at 10 where `members` has no
- * free entry. */
+ * `sizes` entries, at least as many as the cell holds. The set's members are the first `count` of `members`;
+ * `count` then is one more. Time: linear in what is copied. Refused, in this order: 18 a member has the cell's
+ * area; 14 a tenth member, more than 65,536 nodes together, or over a limit; 7 at 0 to 4 where the set's list has
+ * no room for `sizes` entries more, the cell's list is shorter than its count, or `sizes` is less than that or
+ * passes 32 bits; 7 at 10 where `members` has no free entry. */
 uint32_t ynd_set_join(
     size_t *count, ynd_member *members, size_t members_len, ynd_node_entry *nodes, size_t nodes_len,
     ynd_link_entry *links, size_t links_len, ynd_junction_entry *junctions, size_t junctions_len,
@@ -470,19 +514,19 @@ uint32_t ynd_set_join(
     size_t *place);
 
 /* The member of this area leaves, the first joined of several; the parts behind its own move up. `members` are the
- * set's and no more; `count` gets how many are left, the first of `members`. Refused, in this order: 13 no member
- * has the area; 14 over a limit; 7 at 0 to 4. */
+ * set's and no more; `count` gets how many are left, the first of `members`. Time: linear in the parts that move
+ * up. Refused, in this order: 13 no member has the area; 14 over a limit; 7 at 0 to 4. */
 uint32_t ynd_set_leave(
     ynd_member *members, size_t members_len, ynd_node_entry *nodes, size_t nodes_len,
     ynd_link_entry *links, size_t links_len, ynd_junction_entry *junctions, size_t junctions_len,
     uint8_t *heights, size_t heights_len, ynd_ref_entry *refs, size_t refs_len, uint16_t area, size_t *count,
     size_t *place);
 
-/* The cell that ynd_set_leave would take out by this area, copied into lists of the caller's own; the set stays as it
- * is, and ynd_set_leave follows where it is to leave. `ynd` gets its words (what it held before does not matter), the
- * five lists its entries from their front on; later entries stay. `members` are the set's and no more. Refused, in
- * this order: 13 no member has the area; 14 over a limit; 7 at 0 to 4; 7 at 0 to 4 where the caller's own list is
- * shorter than the cell's count. */
+/* The cell that ynd_set_leave would take out by this area, copied into lists of the caller's own; the set stays as
+ * it is, and ynd_set_leave follows where it is to leave. `ynd` gets its words (what it held before does not
+ * matter), the five lists its entries from their front on; later entries stay. `members` are the set's and no more.
+ * Time: linear in what is copied. Refused, in this order: 13 no member has the area; 14 over a limit; 7 at 0 to 4;
+ * 7 at 0 to 4 where the caller's own list is shorter than the cell's count. */
 uint32_t ynd_set_hand_back(
     const ynd_member *members, size_t members_len, const ynd_node_entry *nodes, size_t nodes_len,
     const ynd_link_entry *links, size_t links_len, const ynd_junction_entry *junctions, size_t junctions_len,
@@ -495,9 +539,9 @@ uint32_t ynd_set_hand_back(
  * others that name its area, and that aren't of their own, follow where it is the first of its area; their refs
  * don't. `places` gets the new place of each of its nodes. The scratch holds anything after an accepted call. A
  * plain ynd_walk in another member may show its YND_LEFT with another number afterwards; a crossing walk from the
- * same node goes the same way in a sound set. Refused, in this order: 13 no such member; 14 over a limit; 7 at 0 to
- * 4; 7 at 6 where the scratch has under YND_SCRATCH entries; 7 at 7 where `places` has fewer entries than the member
- * has nodes. */
+ * same node goes the same way in a sound set. Time: linear in the member's n, l and r, in YND_SCRATCH and in the
+ * links of the others. Refused, in this order: 13 no such member; 14 over a limit; 7 at 0 to 4; 7 at 6 where the
+ * scratch has under YND_SCRATCH entries; 7 at 7 where `places` has fewer entries than the member has nodes. */
 uint32_t ynd_set_renumber(
     ynd_member *members, size_t members_len, ynd_node_entry *nodes, size_t nodes_len,
     ynd_link_entry *links, size_t links_len, const ynd_junction_entry *junctions, size_t junctions_len,
@@ -506,9 +550,9 @@ uint32_t ynd_set_renumber(
 
 /* Walks from the node at place `start` of a member, as ynd_walk does, and goes on in the first member of the area
  * that a link names where it leaves its cell: YND_LEFT if no member has it, YND_NO_NODE if that one hasn't the
- * number. `visited` gets member and place of each node. `members` are the set's and no more. Refused, in this order:
- * 13 no such member or place; 14 over a limit; 7 at 0 and 1; 7 at 8 where `visited` is too short (choices_len + 1
- * entries always do). */
+ * number. `visited` gets member and place of each node. `members` are the set's and no more. Time: that of
+ * ynd_walk, in each member by its own numbers. Refused, in this order: 13 no such member or place; 14 over a limit;
+ * 7 at 0 and 1; 7 at 8 where `visited` is too short (choices_len + 1 entries always do). */
 uint32_t ynd_set_crossing_walk(
     const ynd_member *members, size_t members_len, const ynd_node_entry *nodes, size_t nodes_len,
     const ynd_link_entry *links, size_t links_len, size_t member, size_t start,
@@ -517,8 +561,9 @@ uint32_t ynd_set_crossing_walk(
 
 /* Whether the set is sound: each member is as ynd_sound asks it of a cell, and each link that leads into a member
  * names a node there. `members` are the set's and no more. The scratch then holds each member's numbers, one member
- * after the other, each with its last place. Refused, in this order: 14 over a limit; 7 at 0, 1 and 4; 7 at 6 where
- * the scratch has under YND_SCRATCH entries. */
+ * after the other, each with its last place. Time: linear in all nodes, their links and refs for each member: at
+ * most nine times the whole set. Refused, in this order: 14 over a limit; 7 at 0, 1 and 4; 7 at 6 where the scratch
+ * has under YND_SCRATCH entries. */
 uint32_t ynd_set_sound(
     const ynd_member *members, size_t members_len, const ynd_node_entry *nodes, size_t nodes_len,
     const ynd_link_entry *links, size_t links_len, const ynd_ref_entry *refs, size_t refs_len,
@@ -531,10 +576,11 @@ void ynd_set_member_of_area(
     bool *found, size_t *member);
 
 /* Follows a round of this version across the set, as ynd_set_crossing_walk walks: from the node that has the number
- * `start` in the member of `area` (version 2, `member` is not looked at) or in the member named (version 1, `area` is
- * not looked at). `members` are the set's and no more. Refused, in this order: 15 a version that is neither 1 nor 2;
- * 19 a version 2 round whose area is no member's; 13 no such member; 14 over a limit; 7 at 0 and 1; 13 no node of the
- * member has the number; 7 at 8 where `visited` is too short (choices_len + 1 entries always do). */
+ * `start` in the member of `area` (version 2, `member` is not looked at) or in the member named (version 1, `area`
+ * is not looked at). `members` are the set's and no more. Time: that of ynd_member_node and of
+ * ynd_set_crossing_walk. Refused, in this order: 15 a version that is neither 1 nor 2; 19 a version 2 round whose
+ * area is no member's; 13 no such member; 14 over a limit; 7 at 0 and 1; 13 no node of the member has the number; 7
+ * at 8 where `visited` is too short (choices_len + 1 entries always do). */
 uint32_t ynd_set_follow_round(
     const ynd_member *members, size_t members_len, const ynd_node_entry *nodes, size_t nodes_len,
     const ynd_link_entry *links, size_t links_len, uint16_t version, uint16_t area, size_t member, uint16_t start,
@@ -546,7 +592,7 @@ uint32_t ynd_set_follow_round(
  * entry is here 7 where the member's part has none, whatever stands behind it. All else in the six lists stays: the
  * other members, and what is behind all parts. Each is refused first, in this order, with "the set's": 13 no such
  * member; 14 over a limit; 7 at 0 to 4, of which the lists that a call isn't lent count as long enough. What follows
- * with each call are the cell's own causes ---- */
+ * with each call are the cell's own causes. Time: that of the cell's call ---- */
 
 /* Writes the member as ynd_write does a cell: into `section` from its first byte on; `length` gets how many bytes
  * were written. Refused, in this order: the set's; 12, 8 and 9 node by node, 10 and 11 as ynd_write is; 7 at 5 where
@@ -745,14 +791,16 @@ uint32_t ynd_member_put_heightmap(
 
 /* ---- Shortest paths ---- */
 
-/* A walk from the node at `from` to the node at `to` by the cell's own links whose lengths add up to least: every other
- * walk between them has a sum at least as large. `distance` gets the sum in metres, `count` the number of links, the
- * first `count` bytes of `choices` the choices, the first `count + 1` entries of `places` the places, none of them
- * twice; later entries stay. ynd_walk by these choices visits these places and ends *done*. From a place to itself:
- * no choices, distance 0. Refused, in this order: 13 no such place, either of them; 14 a struct over a limit; 7 at 0
- * and 1 where a list is shorter than its count; 7 at 9 where the scratch has under YND_PATH_SCRATCH * node_count
- * entries; 17 where no walk joins the two places; 7 at 8 where `choices` or `places` has under node_count entries. From
- * 17 on, and where the call is accepted, the scratch may hold anything; all else that was lent stays on a refusal. */
+/* A walk from the node at `from` to the node at `to` by the cell's own links whose lengths add up to least: every
+ * other walk between them has a sum at least as large. `distance` gets the sum in metres, `count` the number of
+ * links, the first `count` bytes of `choices` the choices, the first `count + 1` entries of `places` the places,
+ * none of them twice; later entries stay. ynd_walk by these choices visits these places and ends *done*. From a
+ * place to itself: no choices, distance 0. Time: n log n and l log n steps, for all nodes that a walk reaches,
+ * however near `to` is; where numbers are not places, a link looks at up to 256 nodes more. Refused, in this order:
+ * 13 no such place, either of them; 14 a struct over a limit; 7 at 0 and 1 where a list is shorter than its count;
+ * 7 at 9 where the scratch has under YND_PATH_SCRATCH * node_count entries; 17 where no walk joins the two places;
+ * 7 at 8 where `choices` or `places` has under node_count entries. From 17 on, and where the call is accepted, the
+ * scratch may hold anything; all else that was lent stays on a refusal. */
 uint32_t ynd_shortest_path(
     const ynd_cell *ynd, const ynd_node_entry *nodes, size_t nodes_len,
     const ynd_link_entry *links, size_t links_len, size_t from, size_t to, uint32_t *scratch, size_t scratch_len,
@@ -768,8 +816,9 @@ uint32_t ynd_add_node(
     size_t *place);
 
 /* Adds a link as the last one of the node at place `at`; the links behind it move up by one, and so do the ranges
- * there. Refused, in this order: 13 no such place; 14 over a limit, or at 255 links of the node; 7 at 0 where
- * `nodes` is shorter than its count, 7 at 1 where `links` has no free entry. */
+ * there. Time: linear in n and in the links that move: to draw many links, store each node's at once by
+ * ynd_put_links. Refused, in this order: 13 no such place; 14 over a limit, or at 255 links of the node; 7 at 0
+ * where `nodes` is shorter than its count, 7 at 1 where `links` has no free entry. */
 uint32_t ynd_add_link(
     ynd_cell *ynd, ynd_node_entry *nodes, size_t nodes_len, ynd_link_entry *links, size_t links_len, size_t at,
     const ynd_link_entry *link, size_t *place);
@@ -780,9 +829,9 @@ uint32_t ynd_add_ref(
     ynd_cell *ynd, ynd_ref_entry *refs, size_t refs_len, const ynd_ref_entry *added, size_t *place);
 
 /* Adds a junction behind all others, and its heightmap values behind all others; `junction` says width and height,
- * its heightmap_start is not looked at. Refused, in this order: 14 over a limit, at 4,096 junctions, or where the
- * count of values would pass 32 bits; 12 where the values are not width times height; 7 at 2 and 3 where
- * `junctions` or `heights` have no room. */
+ * its heightmap_start is not looked at. Time: linear in the values. Refused, in this order: 14 over a limit, at
+ * 4,096 junctions, or where the count of values would pass 32 bits; 12 where the values are not width times height;
+ * 7 at 2 and 3 where `junctions` or `heights` have no room. */
 uint32_t ynd_add_junction(
     ynd_cell *ynd, ynd_junction_entry *junctions, size_t junctions_len, uint8_t *heights, size_t heights_len,
     const ynd_junction_entry *junction, const uint8_t *values, size_t values_len, size_t *place);
@@ -884,18 +933,19 @@ uint32_t ynd_truncate_refs(ynd_cell *ynd, size_t count, size_t *place);
 
 /* The links of the node at place `at` are the given ones, in their order; none clear it. No more than the node has
  * stand where these stood, more stand behind all links, and link_count grows by them; the node's old ones then stay
- * in the list, and no node has them. Refused, in this order: 13 no such place; 14 over 65,536 nodes or 4,096
- * junctions, over 255 given links, or where link_count would pass 32 bits; 7 at 0 where `nodes` is shorter than its
- * count, 7 at 1 where `links` is shorter than its count afterwards (link_count + given_len entries always do). */
+ * in the list, and no node has them. Time: linear in the given links. Refused, in this order: 13 no such place; 14
+ * over 65,536 nodes or 4,096 junctions, over 255 given links, or where link_count would pass 32 bits; 7 at 0 where
+ * `nodes` is shorter than its count, 7 at 1 where `links` is shorter than its count afterwards (link_count +
+ * given_len entries always do). */
 uint32_t ynd_put_links(
     ynd_cell *ynd, ynd_node_entry *nodes, size_t nodes_len, ynd_link_entry *links, size_t links_len, size_t at,
     const ynd_link_entry *given, size_t given_len, size_t *place);
 
 /* The heightmap of the junction at place `at` is width times height of the given values; other fields stay. Where
- * they stand is as for ynd_put_links. Refused, in this order: 13 no such place; 14 over 65,536 nodes or 4,096
- * junctions, or where heightmap_count would pass 32 bits; 12 where the values are not width times height; 7 at 2
- * where `junctions` is shorter than its count, 7 at 3 where `heights` is shorter than its count afterwards
- * (heightmap_count + values_len entries always do). */
+ * they stand is as for ynd_put_links. Time: linear in the values. Refused, in this order: 13 no such place; 14 over
+ * 65,536 nodes or 4,096 junctions, or where heightmap_count would pass 32 bits; 12 where the values are not width
+ * times height; 7 at 2 where `junctions` is shorter than its count, 7 at 3 where `heights` is shorter than its
+ * count afterwards (heightmap_count + values_len entries always do). */
 uint32_t ynd_put_heightmap(
     ynd_cell *ynd, ynd_junction_entry *junctions, size_t junctions_len, uint8_t *heights, size_t heights_len,
     size_t at, uint8_t width, uint8_t height, const uint8_t *values, size_t values_len, size_t *place);
@@ -1132,7 +1182,7 @@ uint32_t ynd_cell_bounds(uint32_t cx, uint32_t cy, float bounds[4], size_t *plac
 uint32_t ynd_cell_file_name(uint32_t cx, uint32_t cy, uint8_t name[13], size_t *count, size_t *place);
 
 /* Whether a file name names an area, which then goes into `area` (else `area` stays). Only what follows the last /
- * or \ counts. The name is bytes, with no zero behind them. Never refused. */
+ * or \ counts. The name is bytes, with no zero behind them. Time: linear in the name. Never refused. */
 bool ynd_area_id_from_file_name(const uint8_t *name, size_t name_len, uint32_t *area);
 
 /* ---- Sections, the root and the four records ---- */

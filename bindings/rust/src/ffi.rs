@@ -4,6 +4,8 @@ use crate::entries::{Entry, Junction, Link, Location, Node, Ref, Words};
 // The wrapper reads entries and single steps itself and calls no `get`; all functions are declared, so that this is the header.
 #[allow(dead_code)]
 extern "C" {
+    pub(crate) fn ynd_version() -> u32;
+    pub(crate) fn ynd_refusal_text(number: u32, text: *mut u8, text_len: usize) -> usize;
     pub(crate) fn ynd_steps_xy(x: f32) -> i16;
     pub(crate) fn ynd_steps_z(x: f32) -> i16;
     pub(crate) fn ynd_steps_xy_of_bits(bits: u32) -> i16;

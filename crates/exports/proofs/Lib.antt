@@ -1,2 +1,4 @@
 -- Closed facts.
 pub mod Worked
+-- What holds of all texts.
+pub mod TextLaws

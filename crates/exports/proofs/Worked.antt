@@ -1,5 +1,5 @@
--- Closed facts: what a caller in C gets of an address, and of a round's version, at named inputs. A wrong definition
--- is refused here.
+-- Closed facts: what a caller in C gets of an address, of a round's version, and of a refusal's text, at named inputs.
+-- A wrong definition is refused here.
 use mathlib.Core.Path.{◌≡◌, refl}
 use mathlib.Core.List.{[], ◌∷◌}
 use Rattle.records.specs.Sections.{located}
@@ -7,7 +7,10 @@ use Rattle.rounds.specs.Round.{head_bytes, written, written_left}
 use Rattle.rounds.specs.declared.file.Version.TheVariants.{One, Two}
 use Rattle.exports.specs.Found.{told}
 use Rattle.exports.specs.Parts.{part_or}
+use Rattle.exports.specs.Texts.{version_number, texts, text_of, text_put}
 use Rattle.exports.specs.Versions.{version_head, version_told, written_as}
+use Rattle.records.specs.Put.{put}
+use Rattle.std.specs.Prelude.{codes}
 use Rattle.std.specs.Prelude.{Ok, Err}
 use Rattle.numbers.specs.declared.refusal.Refusal.TheVariants.{NoRoundFile}
 
@@ -44,3 +47,41 @@ no_version_3 = refl
 
 version_2 : written_as 2 1027 258 [] (9 ∷ []) ≡ written (head_bytes (Two 1027)) 258 [] (9 ∷ [])
 version_2 = refl
+
+-- 1.2.3 is 10203
+version_1_2_3 : version_number 1 2 3 ≡ 10203
+version_1_2_3 = refl
+
+-- the first text, the last of the table, and what no refusal has
+accepted_text : text_of 0 ≡ codes "accepted"
+unfolding text_of texts
+accepted_text = refl
+
+last_text : text_of 19 ≡ codes "a version 2 round's area isn't the cell's"
+unfolding text_of texts
+last_text = refl
+
+no_text : text_of 20 ≡ codes "no refusal has this number"
+unfolding text_of texts
+no_text = refl
+
+-- "ab" in five bytes, in three, in two, in one and in none: the zero stands in all but the last
+room_left : text_put (97 ∷ 98 ∷ []) (9 ∷ 9 ∷ 9 ∷ 9 ∷ 9 ∷ []) ≡ 97 ∷ 98 ∷ 0 ∷ 9 ∷ 9 ∷ []
+unfolding text_put put
+room_left = refl
+
+just_room : text_put (97 ∷ 98 ∷ []) (9 ∷ 9 ∷ 9 ∷ []) ≡ 97 ∷ 98 ∷ 0 ∷ []
+unfolding text_put put
+just_room = refl
+
+cut_off : text_put (97 ∷ 98 ∷ []) (9 ∷ 9 ∷ []) ≡ 97 ∷ 0 ∷ []
+unfolding text_put put
+cut_off = refl
+
+zero_alone : text_put (97 ∷ 98 ∷ []) (9 ∷ []) ≡ 0 ∷ []
+unfolding text_put put
+zero_alone = refl
+
+no_bytes : text_put (97 ∷ 98 ∷ []) [] ≡ []
+unfolding text_put put
+no_bytes = refl

@@ -7,4 +7,5 @@ pub mod Parts
 pub mod Paths
 pub mod RoundTold
 pub mod SetTold
+pub mod Texts
 pub mod Versions

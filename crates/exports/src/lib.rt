@@ -36,6 +36,7 @@ pub mod set_members;
 pub mod showing;
 pub mod steps;
 pub mod storing;
+pub mod texts;
 pub mod walking;
 mod words;
 pub mod writing;
