@@ -1,7 +1,8 @@
-# The handheld's library: archive, header, example, wrapper, hard use. Included by the repository's Makefile, at whose root these run.
+# The handheld's library: archive, header, example, wrappers, hard use. Included by the repository's Makefile, at whose root these run.
 #   make archive         target/staticlib/libexports.a, proved and compiled (some minutes after a change)
 #   make example         the C examples, built and run; the header held to the archive
-#   make bindings        the tests of the Rust wrapper (cargo)
+#   make bindings        the tests of the Rust crates, bofrashem-sys and bofrashem, and their examples (cargo)
+#   make python-test     the tests of the Python module, over the shared library (python3)
 #   make asan            the C calls on samples, vectors and inputs, the caller under AddressSanitizer (gcc)
 #   make valgrind        the same under valgrind, which sees the archive's code too
 #   make fuzz            the libFuzzer target for FUZZ_SECONDS (clang); make fuzz-rounds: that of round files
@@ -9,6 +10,7 @@
 #   make hostile         how much memory small files can ask for, and what walks take whose numbers are not places
 # What a target needs and does not find it names. YND_ARCHIVE names another archive.
 YND_ARCHIVE ?= target/staticlib/libexports.a
+PYTHON_LIBRARY ?= target/lib/libbofrashem.so
 FUZZ_SECONDS ?= 60
 CC_HANDHELD ?= gcc
 C_FLAGS = -std=c11 -g -Wall -Wextra -Wpedantic -Werror -Iinclude
@@ -24,7 +26,7 @@ PROVED_CRATES = numbers records cells walks reach rounds paths sets set_rounds e
 PROVED = $(shell find $(wildcard $(foreach c,$(PROVED_CRATES),$(addprefix crates/$(c)/,src specs proofs))) -name '*.rt' -o -name '*.antt')
 need = @command -v $(1) >/dev/null || { echo '$(1) is missing: apt-get install $(2)'; exit 1; }
 
-.PHONY: archive example test-header bindings asan valgrind fuzz fuzz-rounds stack hostile seeds
+.PHONY: archive example test-header bindings python-test asan valgrind fuzz fuzz-rounds stack hostile seeds
 
 archive: $(YND_ARCHIVE)
 
@@ -50,7 +52,11 @@ test-header: $(YND_ARCHIVE)
 
 bindings: $(YND_ARCHIVE)
 	$(call need,cargo,cargo)
-	cd bindings/rust && YND_ARCHIVE=$(abspath $(YND_ARCHIVE)) cargo test --offline
+	cd bindings/rust && YND_ARCHIVE=$(abspath $(YND_ARCHIVE)) cargo test --offline --workspace
+
+python-test: shared
+	$(call need,python3,python3)
+	BOFRASHEM_LIBRARY=$(abspath $(PYTHON_LIBRARY)) python3 -B -m unittest discover -s bindings/python
 
 seeds:
 	@python3 hard/seeds.py $(CORPUS) $(ROUNDS)

@@ -1,6 +1,6 @@
 //! Copies the judged Rust, unmodified, into the build's own folder and puts the stubs beside it; no line of it is kept
-//! in the repository. YND_RUST_SRC names the folder of the published text (files end in .rs.txt); the archive of the
-//! port is linked where it is at hand.
+//! in the repository. YND_RUST_SRC names the folder of the published text (files end in .rs.txt). The port's archive is
+//! linked by bofrashem-sys.
 use std::path::{Path, PathBuf};
 use std::{env, fs};
 
@@ -32,7 +32,6 @@ fn main() {
     }).collect();
     fs::write(copy.join("modules.rs"), modules).unwrap();
     println!("cargo:rerun-if-env-changed=YND_RUST_SRC");
-    link_port(&home);
 }
 
 fn bring(from: &Path, to: &Path) {
@@ -40,14 +39,4 @@ fn bring(from: &Path, to: &Path) {
         .unwrap_or_else(|e| panic!("{}: {e}; YND_RUST_SRC names the folder of the Rust's text", from.display()));
     fs::write(to, text).unwrap();
     println!("cargo:rerun-if-changed={}", from.display());
-}
-
-/// The archive that `make archive` writes.
-fn link_port(home: &Path) {
-    let archive = env::var("YND_ARCHIVE").map(PathBuf::from)
-        .unwrap_or_else(|_| home.join("../target/staticlib/libexports.a"));
-    println!("cargo:rerun-if-env-changed=YND_ARCHIVE");
-    println!("cargo:rerun-if-changed={}", archive.display());
-    println!("cargo:rustc-link-search=native={}", archive.parent().unwrap().display());
-    println!("cargo:rustc-link-lib=static=exports");
 }

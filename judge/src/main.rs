@@ -1,6 +1,11 @@
 //! The Rust as judge: the Rust, a model of document 01 and the port on the same inputs.
+#![cfg_attr(feature = "drop-in", allow(dead_code, unused_imports))]
+#[cfg(not(feature = "drop-in"))]
 include!(concat!(env!("OUT_DIR"), "/rust/modules.rs"));
+#[cfg(feature = "drop-in")]
+pub use bofrashem::{math, ynd};
 
+#[cfg(not(feature = "drop-in"))]
 mod bench;
 mod compare;
 mod inputs;
@@ -8,6 +13,7 @@ mod model;
 mod port;
 mod rust;
 mod slips;
+#[cfg(not(feature = "drop-in"))]
 mod vectors;
 
 const USE: &str = "judge diff [--seed N] [--seconds S] [--full] [--only FAMILY] [--slip NAME]
@@ -29,7 +35,9 @@ fn main() {
         Some("soak") => compare::diff::soak(seed, option("--lists").unwrap_or(1e6) as u64),
         Some("slips") => slips::run::slips(seed, word("--only")),
         Some("families") => print!("{}", compare::page::page()),
+        #[cfg(not(feature = "drop-in"))]
         Some("bench") => bench::bench(word("--only")),
+        #[cfg(not(feature = "drop-in"))]
         Some("vectors") if args.len() == 2 => vectors::write(&args[1]),
         _ => { eprintln!("{USE}"); std::process::exit(2); }
     }

@@ -1,6 +1,7 @@
 //! A cell that owns its memory: reading, renumbering, writing, lookups.
+use bofrashem_sys as ffi;
+use crate::edits::grow;
 use crate::entries::{Junction, Link, Node, Ref, Words};
-use crate::ffi;
 use crate::refusal::{answered, Refusal};
 
 /// How many entries of each kind a file holds.
@@ -18,14 +19,43 @@ pub struct Counts {
 pub(crate) const SCRATCH: usize = 65_536;
 
 /// Counts what two sections hold, with all of reading's checks. Refused: 2, 1, 3, 6, 4, 5, in this order.
+///
+/// Nodes may share links: a file of 115 KB can ask for 266 MB of them. To bound what a file gets, count first.
+///
+/// ```
+/// let section = std::fs::read("../../samples/dock.section")?;
+/// let counts = bofrashem::count(&section, &[])?;
+/// assert_eq!((counts.nodes, counts.links), (13, 22));
+/// # Ok::<(), Box<dyn std::error::Error>>(())
+/// ```
 pub fn count(system: &[u8], graphics: &[u8]) -> Result<Counts, Refusal> {
-    let mut counts = [0; 5];
-    answered(|place| unsafe { ffi::ynd_count(system.as_ptr(), system.len(), graphics.as_ptr(), graphics.len(), &mut counts, place) })?;
-    let [nodes, links, junctions, heights, refs] = counts;
+    let mut counts = ffi::ynd_counts::default();
+    answered(|place| unsafe {
+        ffi::ynd_count(system.as_ptr(), system.len(), graphics.as_ptr(), graphics.len(), &mut counts, place)
+    })?;
+    let ffi::ynd_counts { nodes, links, junctions, heights, refs } = counts;
     Ok(Counts { nodes, links, junctions, heights, refs })
 }
 
 /// A cell of path nodes, with its links, junctions, heightmaps and refs.
+///
+/// ```
+/// use bofrashem::{Cell, End, Link, Refusal};
+/// let mut cell = Cell::new();
+/// let gate = cell.add_node(489, [10.0, 20.0, 0.0])?;
+/// let ramp = cell.add_node(489, [13.0, 24.0, 0.0])?;
+/// cell.add_link(gate, Link { length: 5, ..Link::to(489, ramp as u16) })?;
+/// let walk = cell.walk(gate, &[0])?;
+/// assert_eq!((walk.end, walk.visited), (End::Done, vec![0, 1]));
+///
+/// let section = cell.write()?;
+/// assert_eq!(Cell::read(&section, &[])?, cell);
+/// assert_eq!(cell.add_link(7, Link::to(489, 0)), Err(Refusal::NoSuchPlace));
+/// # Ok::<(), Refusal>(())
+/// ```
+///
+/// Lists grow where an edit needs room. A refused edit has grown none; an accepted one keeps what it took, until the
+/// cell is dropped.
 #[derive(Clone, Debug)]
 pub struct Cell {
     // Each list has at least as many entries as the words say.
@@ -57,25 +87,43 @@ impl Cell {
     pub fn new() -> Cell {
         let mut words = Words::default();
         unsafe { ffi::ynd_new(&mut words) };
-        Cell { words, nodes: Vec::new(), links: Vec::new(), junctions: Vec::new(), heights: Vec::new(), refs: Vec::new() }
+        let (nodes, links, junctions) = (Vec::new(), Vec::new(), Vec::new());
+        Cell { words, nodes, links, junctions, heights: Vec::new(), refs: Vec::new() }
+    }
+
+    /// A cell of these nodes, without links.
+    pub(crate) fn of_nodes(nodes: Vec<Node>) -> Cell {
+        let mut cell = Cell::new();
+        cell.words.node_count = nodes.len() as u32;
+        Cell { nodes, ..cell }
+    }
+
+    /// An empty cell whose lists have so many entries.
+    pub(crate) fn with_room(counts: [usize; 5]) -> Cell {
+        let mut cell = Cell::new();
+        cell.make_room(counts);
+        cell
+    }
+
+    /// Lists of at least so many entries.
+    pub(crate) fn make_room(&mut self, [nodes, links, junctions, heights, refs]: [usize; 5]) {
+        grow(&mut self.nodes, nodes);
+        grow(&mut self.links, links);
+        grow(&mut self.junctions, junctions);
+        grow(&mut self.heights, heights);
+        grow(&mut self.refs, refs);
     }
 
     /// Reads a cell from its two sections; no system bytes are the cell of [`Cell::new`]. Refused as [`count`] is.
     pub fn read(system: &[u8], graphics: &[u8]) -> Result<Cell, Refusal> {
         let c = count(system, graphics)?;
-        let mut cell = Cell {
-            words: Words::default(),
-            nodes: vec![Node::default(); c.nodes],
-            links: vec![Link::default(); c.links],
-            junctions: vec![Junction::default(); c.junctions],
-            heights: vec![0; c.heights],
-            refs: vec![Ref::default(); c.refs],
-        };
+        let mut cell = Cell::with_room([c.nodes, c.links, c.junctions, c.heights, c.refs]);
         answered(|place| unsafe {
             ffi::ynd_read(
-                &mut cell.words, system.as_ptr(), system.len(), graphics.as_ptr(), graphics.len(), cell.nodes.as_mut_ptr(), c.nodes,
-                cell.links.as_mut_ptr(), c.links, cell.junctions.as_mut_ptr(), c.junctions, cell.heights.as_mut_ptr(), c.heights,
-                cell.refs.as_mut_ptr(), c.refs, place,
+                &mut cell.words, system.as_ptr(), system.len(), graphics.as_ptr(), graphics.len(),
+                cell.nodes.as_mut_ptr().cast(), c.nodes, cell.links.as_mut_ptr().cast(), c.links,
+                cell.junctions.as_mut_ptr().cast(), c.junctions, cell.heights.as_mut_ptr(), c.heights,
+                cell.refs.as_mut_ptr().cast(), c.refs, place,
             )
         })?;
         Ok(cell)
@@ -99,7 +147,8 @@ impl Cell {
     /// The heightmap values of the junction at a place, row by row. Refused: 13.
     pub fn values_of(&self, at: usize) -> Result<&[u8], Refusal> {
         let j = self.junctions().get(at).ok_or(Refusal::NoSuchPlace)?;
-        Ok(held(&self.heights[..self.words.heightmap_count as usize], j.heightmap_start as usize, j.width as usize * j.height as usize))
+        let values = &self.heights[..self.words.heightmap_count as usize];
+        Ok(held(values, j.heightmap_start as usize, j.width as usize * j.height as usize))
     }
 
     /// How many links the cell holds over all nodes.
@@ -118,13 +167,26 @@ impl Cell {
     /// The root's words unk24, unk34, unk48, unk4c, unk5c, unk68 and unk6c.
     pub fn unknowns(&self) -> [u32; 7] { self.words.unknowns }
 
-    /// Renumbers the cell: ped nodes come last. Returns each node's new place, by its old one. Refused: never for a cell made by these calls.
+    /// Renumbers the cell: ped nodes come last. Returns each node's new place, by its old one. Refused: never for a
+    /// cell made by these calls.
+    ///
+    /// ```
+    /// use bofrashem::Cell;
+    /// let mut cell = Cell::read(&std::fs::read("../../samples/hall.section")?, &[])?;
+    /// let before = cell.walk(3, &[0, 1, 0])?;
+    /// let places = cell.renumber()?;
+    /// let after = cell.walk(places[3] as usize, &[0, 1, 0])?;
+    /// let moved: Vec<u32> = before.visited.iter().map(|&p| places[p as usize]).collect();
+    /// assert_eq!((before.end, moved), (after.end, after.visited));
+    /// # Ok::<(), Box<dyn std::error::Error>>(())
+    /// ```
     pub fn renumber(&mut self) -> Result<Vec<u32>, Refusal> {
         let (mut scratch, mut places) = (vec![0; SCRATCH], vec![0; self.nodes().len()]);
         answered(|place| unsafe {
             ffi::ynd_renumber(
-                &mut self.words, self.nodes.as_mut_ptr(), self.nodes.len(), self.links.as_mut_ptr(), self.links.len(), self.junctions.as_ptr(),
-                self.junctions.len(), self.heights.as_ptr(), self.heights.len(), self.refs.as_mut_ptr(), self.refs.len(), scratch.as_mut_ptr(),
+                &mut self.words, self.nodes.as_mut_ptr().cast(), self.nodes.len(), self.links.as_mut_ptr().cast(),
+                self.links.len(), self.junctions.as_ptr().cast(), self.junctions.len(), self.heights.as_ptr(),
+                self.heights.len(), self.refs.as_mut_ptr().cast(), self.refs.len(), scratch.as_mut_ptr(),
                 scratch.len(), places.as_mut_ptr(), places.len(), place,
             )
         })?;
@@ -133,10 +195,8 @@ impl Cell {
 
     /// How long the cell is once it is written. Refused: 2 over 16,777,216 bytes, which writing is refused for, too.
     pub fn written_length(&self) -> Result<usize, Refusal> {
-        let (mut addresses, mut total, w) = ([0; 5], 0, &self.words);
-        let (n, l, j, h) = (w.node_count, self.link_count() as u32, w.junction_count, self.value_count() as u32);
-        answered(|place| unsafe { ffi::ynd_lay_out(w.ref_count, h, j, l, n, &mut addresses, &mut total, place) })?;
-        Ok(total)
+        let (w, links, values) = (&self.words, self.link_count() as u32, self.value_count() as u32);
+        Ok(lay_out([w.ref_count, values, w.junction_count, links, w.node_count])?.1)
     }
 
     /// A section for writing. Where the cell is too long to be written there is none: writing names the cause.
@@ -147,8 +207,10 @@ impl Cell {
         let (mut section, mut length) = (self.section(), 0);
         answered(|place| unsafe {
             ffi::ynd_write(
-                &self.words, self.nodes.as_ptr(), self.nodes.len(), self.links.as_ptr(), self.links.len(), self.junctions.as_ptr(), self.junctions.len(),
-                self.heights.as_ptr(), self.heights.len(), self.refs.as_ptr(), self.refs.len(), section.as_mut_ptr(), section.len(), &mut length, place,
+                &self.words, self.nodes.as_ptr().cast(), self.nodes.len(), self.links.as_ptr().cast(),
+                self.links.len(), self.junctions.as_ptr().cast(), self.junctions.len(), self.heights.as_ptr(),
+                self.heights.len(), self.refs.as_ptr().cast(), self.refs.len(), section.as_mut_ptr(), section.len(),
+                &mut length, place,
             )
         })?;
         section.truncate(length);
@@ -160,8 +222,9 @@ impl Cell {
         let (mut section, mut length) = (self.section(), 0);
         answered(|place| unsafe {
             ffi::ynd_write_then_read(
-                &mut self.words, self.nodes.as_mut_ptr(), self.nodes.len(), self.links.as_mut_ptr(), self.links.len(), self.junctions.as_mut_ptr(),
-                self.junctions.len(), self.heights.as_mut_ptr(), self.heights.len(), self.refs.as_mut_ptr(), self.refs.len(), section.as_mut_ptr(),
+                &mut self.words, self.nodes.as_mut_ptr().cast(), self.nodes.len(), self.links.as_mut_ptr().cast(),
+                self.links.len(), self.junctions.as_mut_ptr().cast(), self.junctions.len(), self.heights.as_mut_ptr(),
+                self.heights.len(), self.refs.as_mut_ptr().cast(), self.refs.len(), section.as_mut_ptr(),
                 section.len(), &mut length, place,
             )
         })?;
@@ -170,10 +233,17 @@ impl Cell {
     }
 
     /// The place of the node that has a number.
-    pub fn node(&self, node_id: u16) -> Option<usize> {
+    pub fn node(&self, node_id: u16) -> Option<usize> { self.find(node_id).expect("the cell's lists hold its counts") }
+
+    /// The same. Refused: 14 a cell of too many nodes, which only [`Cell::of_nodes`] makes.
+    pub(crate) fn find(&self, node_id: u16) -> Result<Option<usize>, Refusal> {
         let (mut found, mut at) = (false, 0);
-        lookup(|place| unsafe { ffi::ynd_node(&self.words, self.nodes.as_ptr(), self.nodes.len(), node_id, &mut found, &mut at, place) });
-        found.then_some(at)
+        answered(|place| unsafe {
+            ffi::ynd_node(
+                &self.words, self.nodes.as_ptr().cast(), self.nodes.len(), node_id, &mut found, &mut at, place,
+            )
+        })?;
+        Ok(found.then_some(at))
     }
 
     /// The place of the junction that the refs give to a node.
@@ -181,22 +251,55 @@ impl Cell {
         let (mut found, mut at) = (false, 0);
         lookup(|place| unsafe {
             ffi::ynd_junction_of(
-                &self.words, self.nodes.as_ptr(), self.nodes.len(), self.refs.as_ptr(), self.refs.len(), area_id, node_id, &mut found, &mut at, place,
+                &self.words, self.nodes.as_ptr().cast(), self.nodes.len(), self.refs.as_ptr().cast(), self.refs.len(),
+                area_id, node_id, &mut found, &mut at, place,
             )
         });
         found.then_some(at)
     }
 
+    /// The place of the junction that other refs give to a node, of so many junctions. Refused: 14 over 4,096
+    /// junctions.
+    pub(crate) fn junction_of_refs(
+        &self, refs: &[Ref], junctions: usize, area_id: u16, node_id: u16,
+    ) -> Result<Option<usize>, Refusal> {
+        let (junction_count, ref_count) = (junctions as u32, refs.len() as u32);
+        let (words, mut found, mut at) = (Words { junction_count, ref_count, ..self.words }, false, 0);
+        answered(|place| unsafe {
+            let (nodes, n) = (self.nodes.as_ptr().cast(), self.nodes.len());
+            let (refs, r) = (refs.as_ptr().cast(), refs.len());
+            ffi::ynd_junction_of(&words, nodes, n, refs, r, area_id, node_id, &mut found, &mut at, place)
+        })?;
+        Ok(found.then_some(at))
+    }
+
     /// The cell's own area: the first node's.
     pub fn area(&self) -> Option<u32> {
         let (mut found, mut area) = (false, 0);
-        lookup(|place| unsafe { ffi::ynd_area_of_cell(&self.words, self.nodes.as_ptr(), self.nodes.len(), &mut found, &mut area, place) });
+        lookup(|place| unsafe {
+            ffi::ynd_area_of_cell(
+                &self.words, self.nodes.as_ptr().cast(), self.nodes.len(), &mut found, &mut area, place,
+            )
+        });
         found.then_some(area)
     }
 }
 
+/// Where the blocks of a written section lie, by how many refs, heightmap values, junctions, links and nodes it has,
+/// and its length.
+pub(crate) fn lay_out(counts: [u32; 5]) -> Result<(ffi::ynd_addresses, usize), Refusal> {
+    let [refs, values, junctions, links, nodes] = counts;
+    let (mut addresses, mut total) = (ffi::ynd_addresses::default(), 0);
+    answered(|place| unsafe {
+        ffi::ynd_lay_out(refs, values, junctions, links, nodes, &mut addresses, &mut total, place)
+    })?;
+    Ok((addresses, total))
+}
+
 /// A range of a list, cut where it leaves the list.
-fn held<T>(list: &[T], start: usize, count: usize) -> &[T] { &list[start.min(list.len())..(start + count).min(list.len())] }
+fn held<T>(list: &[T], start: usize, count: usize) -> &[T] {
+    &list[start.min(list.len())..(start + count).min(list.len())]
+}
 
 /// A call that is refused only where a count passes its list or its limit, which a cell's own counts do not.
 pub(crate) fn lookup(call: impl FnOnce(&mut usize) -> u32) {

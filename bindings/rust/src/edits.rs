@@ -1,7 +1,7 @@
 //! Entries added and stored. Lists grow as they need to.
+use bofrashem_sys as ffi;
 use crate::cell::Cell;
 use crate::entries::{Junction, Link, Node, Ref};
-use crate::ffi;
 use crate::refusal::{answered, Refusal};
 
 impl Cell {
@@ -9,7 +9,7 @@ impl Cell {
     /// Refused: 14 at 65,536 nodes.
     pub fn add_node(&mut self, area_id: u16, [x, y, z]: [f32; 3]) -> Result<usize, Refusal> {
         let add = |c: &mut Cell| answered(|place| unsafe {
-            ffi::ynd_add_node(&mut c.words, c.nodes.as_mut_ptr(), c.nodes.len(), area_id, x, y, z, place)
+            ffi::ynd_add_node(&mut c.words, c.nodes.as_mut_ptr().cast(), c.nodes.len(), area_id, x, y, z, place)
         });
         self.asked(add, |c| grow(&mut c.nodes, c.words.node_count as usize + 1))?;
         Ok(self.words.node_count as usize - 1)
@@ -18,8 +18,8 @@ impl Cell {
     /// Adds a link, the last of the node at a place. Refused: 13; 14 at 255 links of the node.
     pub fn add_link(&mut self, at: usize, link: Link) -> Result<(), Refusal> {
         let add = |c: &mut Cell| answered(|place| unsafe {
-            let (nodes, links) = (c.nodes.as_mut_ptr(), c.links.as_mut_ptr());
-            ffi::ynd_add_link(&mut c.words, nodes, c.nodes.len(), links, c.links.len(), at, &link, place)
+            let (nodes, links) = (c.nodes.as_mut_ptr().cast(), c.links.as_mut_ptr().cast());
+            ffi::ynd_add_link(&mut c.words, nodes, c.nodes.len(), links, c.links.len(), at, link.raw(), place)
         });
         self.asked(add, |c| grow(&mut c.links, c.words.link_count as usize + 1))
     }
@@ -27,18 +27,18 @@ impl Cell {
     /// Adds a ref behind all others.
     pub fn add_ref(&mut self, added: Ref) -> Result<(), Refusal> {
         let add = |c: &mut Cell| answered(|place| unsafe {
-            ffi::ynd_add_ref(&mut c.words, c.refs.as_mut_ptr(), c.refs.len(), &added, place)
+            ffi::ynd_add_ref(&mut c.words, c.refs.as_mut_ptr().cast(), c.refs.len(), added.raw(), place)
         });
         self.asked(add, |c| grow(&mut c.refs, c.words.ref_count as usize + 1))
     }
 
-    /// Adds a junction with its heightmap values, row by row; returns its place. Refused: 14 at 4,096 junctions; 12 where
-    /// the values are not width × height.
+    /// Adds a junction with its heightmap values, row by row; returns its place. Refused: 14 at 4,096 junctions; 12
+    /// where the values are not width × height.
     pub fn add_junction(&mut self, junction: Junction, values: &[u8]) -> Result<usize, Refusal> {
         let add = |c: &mut Cell| answered(|place| unsafe {
             ffi::ynd_add_junction(
-                &mut c.words, c.junctions.as_mut_ptr(), c.junctions.len(), c.heights.as_mut_ptr(), c.heights.len(),
-                &junction, values.as_ptr(), values.len(), place,
+                &mut c.words, c.junctions.as_mut_ptr().cast(), c.junctions.len(), c.heights.as_mut_ptr(),
+                c.heights.len(), junction.raw(), values.as_ptr(), values.len(), place,
             )
         });
         self.asked(add, |c| {
@@ -48,8 +48,8 @@ impl Cell {
         Ok(self.words.junction_count as usize - 1)
     }
 
-    /// Asks first, and lets lists grow only where the call says that they are too short. 7 is the last cause, so what is
-    /// refused for another one leaves the lists as long as they were.
+    /// Asks first, and lets lists grow only where the call says that they are too short. 7 is the last cause, so what
+    /// is refused for another one leaves the lists as long as they were.
     pub(crate) fn asked<T>(
         &mut self, call: impl Fn(&mut Cell) -> Result<T, Refusal>, room: impl FnOnce(&mut Cell),
     ) -> Result<T, Refusal> {
@@ -64,36 +64,51 @@ impl Cell {
 
     /// Stores every field of the node at a place; it keeps its links. Refused: 13.
     pub fn put_node(&mut self, at: usize, node: Node) -> Result<(), Refusal> {
-        answered(|place| unsafe { ffi::ynd_put_node(&self.words, self.nodes.as_mut_ptr(), self.nodes.len(), at, &node, place) })
+        answered(|place| unsafe {
+            ffi::ynd_put_node(&self.words, self.nodes.as_mut_ptr().cast(), self.nodes.len(), at, node.raw(), place)
+        })
     }
 
     /// Stores a position, in whole steps, of the node at a place. Refused: 13.
     pub fn set_position(&mut self, at: usize, [x, y, z]: [f32; 3]) -> Result<(), Refusal> {
-        answered(|place| unsafe { ffi::ynd_set_position(&self.words, self.nodes.as_mut_ptr(), self.nodes.len(), at, x, y, z, place) })
+        answered(|place| unsafe {
+            ffi::ynd_set_position(&self.words, self.nodes.as_mut_ptr().cast(), self.nodes.len(), at, x, y, z, place)
+        })
     }
 
     /// Stores link k of the node at a place. Refused: 13.
     pub fn put_link(&mut self, at: usize, k: usize, link: Link) -> Result<(), Refusal> {
         answered(|place| unsafe {
-            ffi::ynd_put_link(&self.words, self.nodes.as_ptr(), self.nodes.len(), self.links.as_mut_ptr(), self.links.len(), at, k, &link, place)
+            ffi::ynd_put_link(
+                &self.words, self.nodes.as_ptr().cast(), self.nodes.len(), self.links.as_mut_ptr().cast(),
+                self.links.len(), at, k, link.raw(), place,
+            )
         })
     }
 
     /// Stores the ref at a place. Refused: 13.
     pub fn put_ref(&mut self, at: usize, put: Ref) -> Result<(), Refusal> {
-        answered(|place| unsafe { ffi::ynd_put_ref(&self.words, self.refs.as_mut_ptr(), self.refs.len(), at, &put, place) })
+        answered(|place| unsafe {
+            ffi::ynd_put_ref(&self.words, self.refs.as_mut_ptr().cast(), self.refs.len(), at, put.raw(), place)
+        })
     }
 
-    /// Stores every field of the junction at a place; it keeps its values. Refused: 13; 12 where width × height is not what it was.
+    /// Stores every field of the junction at a place; it keeps its values. Refused: 13; 12 where width × height is not
+    /// what it was.
     pub fn put_junction(&mut self, at: usize, junction: Junction) -> Result<(), Refusal> {
-        answered(|place| unsafe { ffi::ynd_put_junction(&self.words, self.junctions.as_mut_ptr(), self.junctions.len(), at, &junction, place) })
+        answered(|place| unsafe {
+            ffi::ynd_put_junction(
+                &self.words, self.junctions.as_mut_ptr().cast(), self.junctions.len(), at, junction.raw(), place,
+            )
+        })
     }
 
     /// Stores heightmap value k of the junction at a place. Refused: 13.
     pub fn put_height(&mut self, at: usize, k: usize, value: u8) -> Result<(), Refusal> {
         answered(|place| unsafe {
             ffi::ynd_put_height(
-                &self.words, self.junctions.as_ptr(), self.junctions.len(), self.heights.as_mut_ptr(), self.heights.len(), at, k, value, place,
+                &self.words, self.junctions.as_ptr().cast(), self.junctions.len(), self.heights.as_mut_ptr(),
+                self.heights.len(), at, k, value, place,
             )
         })
     }

@@ -1,7 +1,8 @@
 //! The entries of a cell's lists, as they lie in memory.
+use bofrashem_sys as ffi;
 
-/// A node. Its links are those of [`crate::Cell::links_of`]; two nodes are equal wherever these stand in memory. The five unused
-/// fields of the file's record are the caller's: they stay with the node and are written.
+/// A node. Its links are those of [`crate::Cell::links_of`]; two nodes are equal wherever these stand in memory. The
+/// five unused fields of the file's record are the caller's: they stay with the node and are written.
 #[repr(C)]
 #[derive(Clone, Copy, Debug, Default)]
 #[allow(missing_docs)]
@@ -33,7 +34,8 @@ pub struct Link {
     pub length: u8,
 }
 
-/// A junction. Its heightmap values are those of [`crate::Cell::values_of`]; two junctions are equal wherever these stand in memory.
+/// A junction. Its heightmap values are those of [`crate::Cell::values_of`]; two junctions are equal wherever these
+/// stand in memory.
 #[repr(C)]
 #[derive(Clone, Copy, Debug, Default)]
 #[allow(missing_docs)]
@@ -69,37 +71,32 @@ impl PartialEq for Node {
     fn eq(&self, o: &Node) -> bool {
         (self.area_id, self.node_id, self.street_name, self.position, self.flags, self.link_count)
             == (o.area_id, o.node_id, o.street_name, o.position, o.flags, o.link_count)
-            && (self.unused0, self.unused1, self.unused2, self.unused3, self.unused4) == (o.unused0, o.unused1, o.unused2, o.unused3, o.unused4)
+            && (self.unused0, self.unused1, self.unused2, self.unused3, self.unused4)
+                == (o.unused0, o.unused1, o.unused2, o.unused3, o.unused4)
     }
 }
 
 impl PartialEq for Junction {
     fn eq(&self, o: &Junction) -> bool {
-        (self.corner, self.min_z, self.max_z, self.width, self.height) == (o.corner, o.min_z, o.max_z, o.width, o.height)
+        (self.corner, self.min_z, self.max_z, self.width, self.height)
+            == (o.corner, o.min_z, o.max_z, o.width, o.height)
     }
 }
 
 /// The cell's own words.
-#[repr(C)]
-#[derive(Clone, Copy, Debug, Default, PartialEq, Eq)]
-pub(crate) struct Words {
-    pub vft: u32,
-    pub vehicle_node_count: u32,
-    pub ped_node_count: u32,
-    pub unknowns: [u32; 7],
-    pub node_count: u32,
-    pub link_count: u32,
-    pub junction_count: u32,
-    pub heightmap_count: u32,
-    pub ref_count: u32,
-}
+pub(crate) type Words = ffi::ynd_cell;
 
 /// A member's entry in a set: its cell's own words, and how many entries its parts of the five lists have.
-#[repr(C)]
-#[derive(Clone, Copy, Debug, Default, PartialEq, Eq)]
-pub(crate) struct Entry {
-    pub words: Words,
-    pub sizes: [u32; 5],
+pub(crate) type Entry = ffi::ynd_member;
+
+/// How many entries a member's part of a list has.
+pub(crate) fn size(e: &Entry, list: usize) -> usize {
+    [e.nodes, e.links, e.junctions, e.heights, e.refs][list] as usize
+}
+
+/// So many more.
+pub(crate) fn add_to_size(e: &mut Entry, list: usize, more: usize) {
+    *[&mut e.nodes, &mut e.links, &mut e.junctions, &mut e.heights, &mut e.refs][list] += more as u32;
 }
 
 /// A node that a crossing walk visits: its member, by the order of joining, and its place there.
@@ -111,14 +108,23 @@ pub struct Location {
     pub place: u32,
 }
 
-// The archive sees words: the layouts have to be these.
-const _: () = {
-    assert!(std::mem::size_of::<Node>() == 13 * 4 && std::mem::align_of::<Node>() == 4);
-    assert!(std::mem::size_of::<Link>() == 4 * 2 && std::mem::align_of::<Link>() == 2);
-    assert!(std::mem::size_of::<Junction>() == 6 * 4 && std::mem::align_of::<Junction>() == 4);
-    assert!(std::mem::size_of::<Ref>() == 4 * 2 && std::mem::align_of::<Ref>() == 2);
-    assert!(std::mem::size_of::<Words>() == 15 * 4 && std::mem::align_of::<Words>() == 4);
-    assert!(std::mem::size_of::<Entry>() == 20 * 4 && std::mem::align_of::<Entry>() == 4);
-    assert!(std::mem::size_of::<Location>() == 2 * 4 && std::mem::align_of::<Location>() == 4);
-    assert!(cfg!(target_arch = "x86_64"));
-};
+/// The entries as the library sees them.
+macro_rules! laid_out_as {
+    ($($entry:ident is $raw:ident),*) => {$(
+        impl $entry {
+            #[allow(dead_code)]
+            pub(crate) fn raw(&self) -> *const ffi::$raw { std::ptr::from_ref(self).cast() }
+
+            #[allow(dead_code)]
+            pub(crate) fn raw_mut(&mut self) -> *mut ffi::$raw { std::ptr::from_mut(self).cast() }
+        }
+
+        const _: () = {
+            assert!(std::mem::size_of::<$entry>() == std::mem::size_of::<ffi::$raw>());
+            assert!(std::mem::align_of::<$entry>() == std::mem::align_of::<ffi::$raw>());
+        };
+    )*};
+}
+
+laid_out_as!(Node is ynd_node_entry, Link is ynd_link_entry, Junction is ynd_junction_entry, Ref is ynd_ref_entry);
+laid_out_as!(Location is ynd_location);

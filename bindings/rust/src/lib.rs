@@ -1,27 +1,27 @@
-//! Path node cells, read, renumbered, edited, written and walked by a library whose every function is proved to meet its contract.
+//! Path node cells, read, renumbered, edited, written and walked by a library whose every function is proved to meet
+//! its contract.
 //!
 //! A [`Cell`] owns its memory and lends it to the library's calls; a [`Yard`] owns a set of cells whose walks cross. A
 //! refusal is a [`Refusal`] and changes nothing. The calls that need no cell (steps, grid, lengths, file names) are in
-//! [`numbers`].
+//! [`numbers`]. [`ynd`] has the names and types of the Rust that the library was moved from, for code written over it.
 //!
-//! ```no_run
-//! # fn main() -> Result<(), Box<dyn std::error::Error>> {
-//! let mut cell = bofrashem::Cell::read(&std::fs::read("samples/dock.section")?, &[])?;
+//! ```
+//! let mut cell = bofrashem::Cell::read(&std::fs::read("../../samples/dock.section")?, &[])?;
 //! let first = cell.walk(0, &[0, 1, 1])?;
 //! let places = cell.renumber()?;
 //! let again = cell.walk(places[0] as usize, &[0, 1, 1])?;
 //! assert_eq!(first.end, again.end);
-//! # Ok(())
-//! # }
+//! # Ok::<(), Box<dyn std::error::Error>>(())
 //! ```
 //!
-//! The archive is x86-64 code: `make archive` at the repository's root makes it.
-#![warn(missing_docs)]
+//! The wrapper is tested, not proved; the calls beneath it are `bofrashem-sys`, whose build script finds the library.
+//! It is x86-64 code: `make archive` at the repository's root makes it.
+#![deny(missing_docs, unsafe_op_in_unsafe_fn)]
 mod cell;
 mod edits;
 mod entries;
-mod ffi;
 mod fields;
+pub mod math;
 mod member;
 mod member_edits;
 pub mod numbers;
@@ -32,6 +32,7 @@ mod rounds;
 mod stores;
 mod walks;
 mod yard;
+pub mod ynd;
 
 pub use cell::{count, Cell, Counts};
 pub use entries::{Junction, Link, Location, Node, Ref};
@@ -44,3 +45,13 @@ pub use refusal::Refusal;
 pub use rounds::{Round, VersionedRound};
 pub use walks::{End, SeenJunction, SeenLink, SeenNode, Walk};
 pub use yard::{CrossingWalk, Yard};
+
+/// The version of the library that is linked: its three numbers.
+///
+/// ```
+/// assert!(bofrashem::version() >= [1, 0, 0]);
+/// ```
+pub fn version() -> [u32; 3] {
+    let number = unsafe { bofrashem_sys::ynd_version() };
+    [number / 10_000, number / 100 % 100, number % 100]
+}

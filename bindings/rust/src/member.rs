@@ -1,7 +1,7 @@
 //! A member of a yard: lookups, entries, and what a walk shows.
+use bofrashem_sys as ffi;
 use crate::cell::{lookup, Counts};
 use crate::entries::{Junction, Link, Node, Ref, Words};
-use crate::ffi;
 use crate::refusal::{answered, Refusal};
 use crate::walks::{SeenJunction, SeenLink, SeenNode};
 use crate::yard::Yard;
@@ -49,7 +49,7 @@ impl Member<'_> {
     pub fn area(&self) -> Option<u32> {
         let (y, mut found, mut area) = (self.yard, false, 0);
         lookup(|place| unsafe {
-            let (nodes, n) = (y.nodes.as_ptr(), y.nodes.len());
+            let (nodes, n) = (y.nodes.as_ptr().cast(), y.nodes.len());
             ffi::ynd_member_area(y.members.as_ptr(), y.len(), nodes, n, self.at, &mut found, &mut area, place)
         });
         found.then_some(area)
@@ -59,7 +59,7 @@ impl Member<'_> {
     pub fn node(&self, node_id: u16) -> Option<usize> {
         let (y, mut found, mut at) = (self.yard, false, 0);
         lookup(|place| unsafe {
-            let (nodes, n) = (y.nodes.as_ptr(), y.nodes.len());
+            let (nodes, n) = (y.nodes.as_ptr().cast(), y.nodes.len());
             ffi::ynd_member_node(y.members.as_ptr(), y.len(), nodes, n, self.at, node_id, &mut found, &mut at, place)
         });
         found.then_some(at)
@@ -70,8 +70,8 @@ impl Member<'_> {
         let (y, mut found, mut at) = (self.yard, false, 0);
         lookup(|place| unsafe {
             ffi::ynd_member_junction_of(
-                y.members.as_ptr(), y.len(), y.nodes.as_ptr(), y.nodes.len(), y.refs.as_ptr(), y.refs.len(), self.at,
-                area_id, node_id, &mut found, &mut at, place,
+                y.members.as_ptr(), y.len(), y.nodes.as_ptr().cast(), y.nodes.len(), y.refs.as_ptr().cast(),
+                y.refs.len(), self.at, area_id, node_id, &mut found, &mut at, place,
             )
         });
         found.then_some(at)
@@ -81,8 +81,8 @@ impl Member<'_> {
     pub fn get_node(&self, at: usize) -> Result<Node, Refusal> {
         let (y, mut node) = (self.yard, Node::default());
         answered(|place| unsafe {
-            let (nodes, n) = (y.nodes.as_ptr(), y.nodes.len());
-            ffi::ynd_member_get_node(y.members.as_ptr(), y.len(), nodes, n, self.at, at, &mut node, place)
+            let (nodes, n) = (y.nodes.as_ptr().cast(), y.nodes.len());
+            ffi::ynd_member_get_node(y.members.as_ptr(), y.len(), nodes, n, self.at, at, node.raw_mut(), place)
         })?;
         Ok(node)
     }
@@ -92,8 +92,8 @@ impl Member<'_> {
         let (y, mut link) = (self.yard, Link::default());
         answered(|place| unsafe {
             ffi::ynd_member_get_link(
-                y.members.as_ptr(), y.len(), y.nodes.as_ptr(), y.nodes.len(), y.links.as_ptr(), y.links.len(), self.at,
-                at, k, &mut link, place,
+                y.members.as_ptr(), y.len(), y.nodes.as_ptr().cast(), y.nodes.len(), y.links.as_ptr().cast(),
+                y.links.len(), self.at, at, k, link.raw_mut(), place,
             )
         })?;
         Ok(link)
@@ -103,8 +103,8 @@ impl Member<'_> {
     pub fn get_ref(&self, at: usize) -> Result<Ref, Refusal> {
         let (y, mut taken) = (self.yard, Ref::default());
         answered(|place| unsafe {
-            let (refs, n) = (y.refs.as_ptr(), y.refs.len());
-            ffi::ynd_member_get_ref(y.members.as_ptr(), y.len(), refs, n, self.at, at, &mut taken, place)
+            let (refs, n) = (y.refs.as_ptr().cast(), y.refs.len());
+            ffi::ynd_member_get_ref(y.members.as_ptr(), y.len(), refs, n, self.at, at, taken.raw_mut(), place)
         })?;
         Ok(taken)
     }
@@ -113,8 +113,10 @@ impl Member<'_> {
     pub fn get_junction(&self, at: usize) -> Result<Junction, Refusal> {
         let (y, mut junction) = (self.yard, Junction::default());
         answered(|place| unsafe {
-            let (junctions, n) = (y.junctions.as_ptr(), y.junctions.len());
-            ffi::ynd_member_get_junction(y.members.as_ptr(), y.len(), junctions, n, self.at, at, &mut junction, place)
+            let (junctions, n) = (y.junctions.as_ptr().cast(), y.junctions.len());
+            ffi::ynd_member_get_junction(
+                y.members.as_ptr(), y.len(), junctions, n, self.at, at, junction.raw_mut(), place,
+            )
         })?;
         Ok(junction)
     }
@@ -124,7 +126,7 @@ impl Member<'_> {
         let (y, mut value) = (self.yard, 0);
         answered(|place| unsafe {
             ffi::ynd_member_get_height(
-                y.members.as_ptr(), y.len(), y.junctions.as_ptr(), y.junctions.len(), y.heights.as_ptr(),
+                y.members.as_ptr(), y.len(), y.junctions.as_ptr().cast(), y.junctions.len(), y.heights.as_ptr(),
                 y.heights.len(), self.at, at, k, &mut value, place,
             )
         })?;
@@ -133,11 +135,12 @@ impl Member<'_> {
 
     /// What a walk shows of the node at a place. Refused: 13.
     pub fn shown_node(&self, at: usize) -> Result<SeenNode, Refusal> {
-        let (y, mut s) = (self.yard, [0; 19]);
+        let (y, mut s) = (self.yard, ffi::ynd_seen_node::default());
         answered(|place| unsafe {
             ffi::ynd_member_shown_node(
-                y.members.as_ptr(), y.len(), y.nodes.as_ptr(), y.nodes.len(), y.links.as_ptr(), y.links.len(),
-                y.junctions.as_ptr(), y.junctions.len(), y.refs.as_ptr(), y.refs.len(), self.at, at, &mut s, place,
+                y.members.as_ptr(), y.len(), y.nodes.as_ptr().cast(), y.nodes.len(), y.links.as_ptr().cast(),
+                y.links.len(), y.junctions.as_ptr().cast(), y.junctions.len(), y.refs.as_ptr().cast(), y.refs.len(),
+                self.at, at, &mut s, place,
             )
         })?;
         Ok(SeenNode::of(s))
@@ -145,12 +148,12 @@ impl Member<'_> {
 
     /// What a walk shows of the junction at a place. Refused: 13.
     pub fn shown_junction(&self, at: usize) -> Result<SeenJunction, Refusal> {
-        let (y, mut s, mut n) = (self.yard, [0; 6], 0);
-        let (junctions, j) = (y.junctions.as_ptr(), y.junctions.len());
+        let (y, mut s, mut n) = (self.yard, ffi::ynd_seen_junction::default(), 0);
+        let (junctions, j) = (y.junctions.as_ptr().cast(), y.junctions.len());
         answered(|place| unsafe {
             ffi::ynd_member_shown_junction(y.members.as_ptr(), y.len(), junctions, j, self.at, at, &mut s, place)
         })?;
-        let mut values = vec![0; SeenJunction::size(s)];
+        let mut values = vec![0; SeenJunction::size(&s)];
         answered(|place| unsafe {
             ffi::ynd_member_shown_values(
                 y.members.as_ptr(), y.len(), junctions, j, y.heights.as_ptr(), y.heights.len(), self.at, at,
@@ -163,11 +166,11 @@ impl Member<'_> {
 
     /// What a walk shows of the link that a byte chooses at a place; none where there is no such link. Refused: 13.
     pub fn shown_link(&self, at: usize, choice: u8) -> Result<Option<SeenLink>, Refusal> {
-        let (y, mut s) = (self.yard, [0; 5]);
+        let (y, mut s) = (self.yard, ffi::ynd_seen_link::default());
         answered(|place| unsafe {
             ffi::ynd_member_shown_link(
-                y.members.as_ptr(), y.len(), y.nodes.as_ptr(), y.nodes.len(), y.links.as_ptr(), y.links.len(), self.at,
-                at, choice, &mut s, place,
+                y.members.as_ptr(), y.len(), y.nodes.as_ptr().cast(), y.nodes.len(), y.links.as_ptr().cast(),
+                y.links.len(), self.at, at, choice, &mut s, place,
             )
         })?;
         Ok(SeenLink::of(s))

@@ -1,6 +1,6 @@
 //! Edits of a member of a yard. Its parts grow as they need to.
-use crate::entries::{Junction, Link, Node, Ref};
-use crate::ffi;
+use bofrashem_sys as ffi;
+use crate::entries::{add_to_size, Junction, Link, Node, Ref};
 use crate::member::Member;
 use crate::refusal::{answered, Refusal};
 use crate::yard::Yard;
@@ -26,7 +26,9 @@ impl MemberMut<'_> {
         let at = self.look().counts().nodes;
         self.asked(&[(0, at + 1)], |s, m| answered(|place| unsafe {
             let (members, count) = (s.members.as_mut_ptr(), s.members.len());
-            ffi::ynd_member_add_node(members, count, s.nodes.as_mut_ptr(), s.nodes.len(), m, area_id, x, y, z, place)
+            ffi::ynd_member_add_node(
+                members, count, s.nodes.as_mut_ptr().cast(), s.nodes.len(), m, area_id, x, y, z, place,
+            )
         }))?;
         Ok(at)
     }
@@ -36,8 +38,8 @@ impl MemberMut<'_> {
         let need = self.look().counts().links + 1;
         self.asked(&[(1, need)], |s, m| answered(|place| unsafe {
             ffi::ynd_member_add_link(
-                s.members.as_mut_ptr(), s.members.len(), s.nodes.as_mut_ptr(), s.nodes.len(), s.links.as_mut_ptr(),
-                s.links.len(), m, at, &link, place,
+                s.members.as_mut_ptr(), s.members.len(), s.nodes.as_mut_ptr().cast(), s.nodes.len(),
+                s.links.as_mut_ptr().cast(), s.links.len(), m, at, link.raw(), place,
             )
         }))
     }
@@ -47,8 +49,8 @@ impl MemberMut<'_> {
         let need = self.look().counts().links + given.len();
         self.asked(&[(1, need)], |s, m| answered(|place| unsafe {
             ffi::ynd_member_put_links(
-                s.members.as_mut_ptr(), s.members.len(), s.nodes.as_mut_ptr(), s.nodes.len(), s.links.as_mut_ptr(),
-                s.links.len(), m, at, given.as_ptr(), given.len(), place,
+                s.members.as_mut_ptr(), s.members.len(), s.nodes.as_mut_ptr().cast(), s.nodes.len(),
+                s.links.as_mut_ptr().cast(), s.links.len(), m, at, given.as_ptr().cast(), given.len(), place,
             )
         }))
     }
@@ -58,7 +60,7 @@ impl MemberMut<'_> {
         let need = self.look().counts().refs + 1;
         self.asked(&[(4, need)], |s, m| answered(|place| unsafe {
             let (members, count) = (s.members.as_mut_ptr(), s.members.len());
-            ffi::ynd_member_add_ref(members, count, s.refs.as_mut_ptr(), s.refs.len(), m, &added, place)
+            ffi::ynd_member_add_ref(members, count, s.refs.as_mut_ptr().cast(), s.refs.len(), m, added.raw(), place)
         }))
     }
 
@@ -68,8 +70,8 @@ impl MemberMut<'_> {
         let held = self.look().counts();
         self.asked(&[(2, held.junctions + 1), (3, held.heights + values.len())], |s, m| answered(|place| unsafe {
             ffi::ynd_member_add_junction(
-                s.members.as_mut_ptr(), s.members.len(), s.junctions.as_mut_ptr(), s.junctions.len(),
-                s.heights.as_mut_ptr(), s.heights.len(), m, &junction, values.as_ptr(), values.len(), place,
+                s.members.as_mut_ptr(), s.members.len(), s.junctions.as_mut_ptr().cast(), s.junctions.len(),
+                s.heights.as_mut_ptr(), s.heights.len(), m, junction.raw(), values.as_ptr(), values.len(), place,
             )
         }))?;
         Ok(held.junctions)
@@ -81,7 +83,7 @@ impl MemberMut<'_> {
         let need = self.look().counts().heights + values.len();
         self.asked(&[(3, need)], |s, m| answered(|place| unsafe {
             ffi::ynd_member_put_heightmap(
-                s.members.as_mut_ptr(), s.members.len(), s.junctions.as_mut_ptr(), s.junctions.len(),
+                s.members.as_mut_ptr(), s.members.len(), s.junctions.as_mut_ptr().cast(), s.junctions.len(),
                 s.heights.as_mut_ptr(), s.heights.len(), m, at, width, height, values.as_ptr(), values.len(), place,
             )
         }))
@@ -92,7 +94,9 @@ impl MemberMut<'_> {
         let s = &mut *self.yard;
         answered(|place| unsafe {
             let (members, count) = (s.members.as_ptr(), s.members.len());
-            ffi::ynd_member_put_node(members, count, s.nodes.as_mut_ptr(), s.nodes.len(), self.at, at, &node, place)
+            ffi::ynd_member_put_node(
+                members, count, s.nodes.as_mut_ptr().cast(), s.nodes.len(), self.at, at, node.raw(), place,
+            )
         })
     }
 
@@ -100,7 +104,7 @@ impl MemberMut<'_> {
     pub fn set_position(&mut self, at: usize, [x, y, z]: [f32; 3]) -> Result<(), Refusal> {
         let s = &mut *self.yard;
         answered(|place| unsafe {
-            let (nodes, n) = (s.nodes.as_mut_ptr(), s.nodes.len());
+            let (nodes, n) = (s.nodes.as_mut_ptr().cast(), s.nodes.len());
             ffi::ynd_member_set_position(s.members.as_ptr(), s.members.len(), nodes, n, self.at, at, x, y, z, place)
         })
     }
@@ -110,8 +114,8 @@ impl MemberMut<'_> {
         let s = &mut *self.yard;
         answered(|place| unsafe {
             ffi::ynd_member_put_link(
-                s.members.as_ptr(), s.members.len(), s.nodes.as_ptr(), s.nodes.len(), s.links.as_mut_ptr(),
-                s.links.len(), self.at, at, k, &link, place,
+                s.members.as_ptr(), s.members.len(), s.nodes.as_ptr().cast(), s.nodes.len(),
+                s.links.as_mut_ptr().cast(), s.links.len(), self.at, at, k, link.raw(), place,
             )
         })
     }
@@ -121,7 +125,9 @@ impl MemberMut<'_> {
         let s = &mut *self.yard;
         answered(|place| unsafe {
             let (members, count) = (s.members.as_ptr(), s.members.len());
-            ffi::ynd_member_put_ref(members, count, s.refs.as_mut_ptr(), s.refs.len(), self.at, at, &put, place)
+            ffi::ynd_member_put_ref(
+                members, count, s.refs.as_mut_ptr().cast(), s.refs.len(), self.at, at, put.raw(), place,
+            )
         })
     }
 
@@ -131,8 +137,8 @@ impl MemberMut<'_> {
         let s = &mut *self.yard;
         answered(|place| unsafe {
             let (members, m) = (s.members.as_ptr(), s.members.len());
-            let (junctions, n) = (s.junctions.as_mut_ptr(), s.junctions.len());
-            ffi::ynd_member_put_junction(members, m, junctions, n, self.at, at, &junction, place)
+            let (junctions, n) = (s.junctions.as_mut_ptr().cast(), s.junctions.len());
+            ffi::ynd_member_put_junction(members, m, junctions, n, self.at, at, junction.raw(), place)
         })
     }
 
@@ -141,8 +147,8 @@ impl MemberMut<'_> {
         let s = &mut *self.yard;
         answered(|place| unsafe {
             ffi::ynd_member_put_height(
-                s.members.as_ptr(), s.members.len(), s.junctions.as_ptr(), s.junctions.len(), s.heights.as_mut_ptr(),
-                s.heights.len(), self.at, at, k, value, place,
+                s.members.as_ptr(), s.members.len(), s.junctions.as_ptr().cast(), s.junctions.len(),
+                s.heights.as_mut_ptr(), s.heights.len(), self.at, at, k, value, place,
             )
         })
     }
@@ -208,7 +214,7 @@ impl MemberMut<'_> {
             3 => insert(&mut s.heights, at, more),
             _ => insert(&mut s.refs, at, more),
         }
-        s.members[self.at].sizes[list] += more as u32;
+        add_to_size(&mut s.members[self.at], list, more);
     }
 }
 

@@ -1,8 +1,20 @@
 //! Steps, positions, the grid of cells, lengths and file names: calls that need no cell.
-use crate::ffi;
+//!
+//! ```
+//! use bofrashem::numbers::*;
+//! assert_eq!(quantise([-0.3, 9000.0, f32::NAN]), [-1, 32_767, 0]);
+//! assert_eq!(stored_position([-0.3, 8191.75, 1.0]), [-0.25, 8191.75, 1.0]);
+//! assert_eq!(length_between([0.0; 3], [3.0, 4.0, 0.0]), 5);
+//! let cell = cell_for_position(-3500.0, 100.0);
+//! assert_eq!((cell, area_id(cell)?, cell_file_name(cell)?), ([9, 16], 521, "nodes521.ynd".into()));
+//! assert_eq!(area_id_from_file_name(b"yards/NODES521.ynd"), Some(521));
+//! # Ok::<(), bofrashem::Refusal>(())
+//! ```
+use bofrashem_sys as ffi;
 use crate::refusal::{answered, Refusal};
 
-/// The steps in which a position is stored: x and y times 4, z times 32, cut towards zero and limited to an i16; NaN gives 0.
+/// The steps in which a position is stored: x and y times 4, z times 32, cut towards zero and limited to an i16; NaN
+/// gives 0.
 pub fn quantise([x, y, z]: [f32; 3]) -> [i16; 3] {
     let mut steps = [0; 3];
     unsafe { ffi::ynd_quantise(x, y, z, &mut steps) };
@@ -24,7 +36,9 @@ pub fn stored_position([x, y, z]: [f32; 3]) -> [f32; 3] {
 }
 
 /// The length of a link in whole metres: the correctly rounded root, cut, at most 255; NaN gives 255.
-pub fn length_between(a: [f32; 3], b: [f32; 3]) -> u8 { unsafe { ffi::ynd_length_between(a[0], a[1], a[2], b[0], b[1], b[2]) } }
+pub fn length_between(a: [f32; 3], b: [f32; 3]) -> u8 {
+    unsafe { ffi::ynd_length_between(a[0], a[1], a[2], b[0], b[1], b[2]) }
+}
 
 /// The grid cell that holds a position: its numbers along x and y.
 pub fn cell_for_position(x: f32, y: f32) -> [u32; 2] {

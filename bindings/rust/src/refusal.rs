@@ -1,9 +1,22 @@
 //! Document 01's causes of refusal.
+use bofrashem_sys as ffi;
 use std::fmt;
 
-/// Why a call was refused. Nothing was changed. What stands in brackets is the place that the cause names: of a node, of a junction,
-/// or of one of two sections, two limits, or of the lists.
+/// Why a call was refused. Nothing was changed. What stands in brackets is the place that the cause names: of a node,
+/// of a junction, or of one of two sections, two limits, or of the lists.
+///
+/// Later versions may have more causes.
+///
+/// ```
+/// use bofrashem::{Cell, Refusal};
+/// let refused = Cell::read(&[0; 111], &[]).unwrap_err();
+/// assert_eq!((refused, refused.number(), refused.place()), (Refusal::FewSystemBytes, 1, 0));
+/// assert_eq!(refused.to_string(), "refused 1 0: 1 to 111 system bytes");
+/// let error: Box<dyn std::error::Error + Send + Sync> = refused.into();
+/// # drop(error);
+/// ```
 #[derive(Clone, Copy, Debug, PartialEq, Eq, Hash)]
+#[non_exhaustive]
 pub enum Refusal {
     /// 1: 1 to 111 system bytes.
     FewSystemBytes,
@@ -44,6 +57,8 @@ pub enum Refusal {
     AreaInSet,
     /// 19: a version 2 round's area isn't the cell's.
     OtherArea,
+    /// A number that this version of the wrapper doesn't know, with its place: the library is a later one.
+    Unknown(u32, usize),
 }
 
 impl Refusal {
@@ -74,32 +89,19 @@ impl Refusal {
             Refusal::Unreachable => (17, 0),
             Refusal::AreaInSet => (18, 0),
             Refusal::OtherArea => (19, 0),
+            Refusal::Unknown(number, place) => (number, place),
         }
     }
 
-    fn words(self) -> &'static str {
-        match self {
-            Refusal::FewSystemBytes => "1 to 111 system bytes",
-            Refusal::SectionTooLong(_) => "a section over 16,777,216 bytes",
-            Refusal::BadArray(_) => "an array's address or extent is bad",
-            Refusal::BadLinkRange(_) => "a node's link start, or start plus count, over the list's length",
-            Refusal::BadHeightmapRange(_) => "a junction's heightmap start, or start plus width × height, over the bytes' length",
-            Refusal::TooMany(_) => "more than 65,536 nodes or 4,096 junctions",
-            Refusal::LentTooShort(_) => "lent memory too short",
-            Refusal::OverThirtyOneLinks(_) => "over 31 links on writing",
-            Refusal::LinksBeforeNode(_) => "links before this node, which has links, over 65,535 on writing",
-            Refusal::HeightsBeforeJunction(_) => "heightmap bytes before a junction over 65,535 on writing",
-            Refusal::TooManyRefs => "refs over 65,535 on writing",
-            Refusal::ValuesNotSize => "heightmap values not width × height",
-            Refusal::NoSuchPlace => "no such place, a round's start that no node has, or a grid number over 31",
-            Refusal::AtLimit => "the cell is at a limit: 65,536 nodes, 4,096 junctions, 255 links of a node",
-            Refusal::NoRoundFile => "a round file's first five bytes aren't the mark and a version that the reader takes",
-            Refusal::BadRoundLength =>
-                "a round file under 9 bytes (version 2: 11), or not that plus its count; over 65,535 choices on writing",
-            Refusal::Unreachable => "no walk joins the two places",
-            Refusal::AreaInSet => "the area is already in the set",
-            Refusal::OtherArea => "a version 2 round's area isn't the cell's",
-        }
+    /// The cause in the library's words.
+    ///
+    /// ```
+    /// assert_eq!(bofrashem::Refusal::ValuesNotSize.text(), "heightmap values not width times height");
+    /// ```
+    pub fn text(self) -> String {
+        let mut text = [0u8; ffi::YND_TEXT_MOST];
+        let length = unsafe { ffi::ynd_refusal_text(self.number(), text.as_mut_ptr().cast(), text.len()) };
+        String::from_utf8_lossy(&text[..length.min(text.len() - 1)]).into_owned()
     }
 
     fn of(number: u32, place: usize) -> Refusal {
@@ -123,7 +125,7 @@ impl Refusal {
             17 => Refusal::Unreachable,
             18 => Refusal::AreaInSet,
             19 => Refusal::OtherArea,
-            _ => unreachable!("the documents have the numbers 1 to 19, not {number}"),
+            _ => Refusal::Unknown(number, place),
         }
     }
 }
@@ -138,7 +140,9 @@ pub(crate) fn answered(call: impl FnOnce(&mut usize) -> u32) -> Result<(), Refus
 }
 
 impl fmt::Display for Refusal {
-    fn fmt(&self, f: &mut fmt::Formatter<'_>) -> fmt::Result { write!(f, "refused {} {}: {}", self.number(), self.place(), self.words()) }
+    fn fmt(&self, f: &mut fmt::Formatter<'_>) -> fmt::Result {
+        write!(f, "refused {} {}: {}", self.number(), self.place(), self.text())
+    }
 }
 
 impl std::error::Error for Refusal {}

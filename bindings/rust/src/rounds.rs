@@ -1,6 +1,6 @@
 //! Round files, and rounds followed in a cell.
+use bofrashem_sys as ffi;
 use crate::cell::Cell;
-use crate::ffi;
 use crate::refusal::{answered, Refusal};
 use crate::walks::Walk;
 
@@ -8,6 +8,15 @@ use crate::walks::Walk;
 ///
 /// It names a number, no node: renumbering gives nodes new numbers, so a file from before it starts at whichever node
 /// then has that number. Write it again with the node's new number, which is its new place.
+///
+/// ```
+/// use bofrashem::{Cell, End, Round};
+/// let dock = Cell::read(&std::fs::read("../../samples/dock.section")?, &[])?;
+/// let round = Round::from_bytes(&std::fs::read("../../samples/dock.round")?)?;
+/// assert_eq!(dock.follow(&round)?.end, End::Done);
+/// assert_eq!(round.to_bytes()?, std::fs::read("../../samples/dock.round")?);
+/// # Ok::<(), Box<dyn std::error::Error>>(())
+/// ```
 #[derive(Clone, Debug, Default, PartialEq, Eq)]
 #[allow(missing_docs)]
 pub struct Round {
@@ -16,6 +25,16 @@ pub struct Round {
 }
 
 /// A round that may say which cell it is of. With an area its file is of version 2, without one of version 1.
+///
+/// ```
+/// use bofrashem::{Cell, Refusal, Round, VersionedRound};
+/// let mut cell = Cell::new();
+/// cell.add_node(489, [0.0; 3])?;
+/// let round = VersionedRound { area: Some(490), round: Round { start: 0, choices: vec![] } };
+/// assert_eq!(VersionedRound::from_bytes(&round.to_bytes()?), Ok(round.clone()));
+/// assert_eq!(cell.follow_versioned(&round), Err(Refusal::OtherArea));
+/// # Ok::<(), Refusal>(())
+/// ```
 #[derive(Clone, Debug, Default, PartialEq, Eq)]
 #[allow(missing_docs)]
 pub struct VersionedRound {
@@ -93,11 +112,12 @@ impl Cell {
     /// Walks a round from the node that [`Cell::node`] finds for its start. Refused: 13 no node has that number.
     pub fn follow(&self, round: &Round) -> Result<Walk, Refusal> {
         let choices = &round.choices;
-        let (mut visited, mut end, mut n) = (vec![0; choices.len() + 1], [0; 3], 0);
+        let (mut visited, mut end, mut n) = (vec![0; choices.len() + 1], ffi::ynd_walk_end::default(), 0);
         answered(|place| unsafe {
             ffi::ynd_follow_round(
-                &self.words, self.nodes.as_ptr(), self.nodes.len(), self.links.as_ptr(), self.links.len(), round.start,
-                choices.as_ptr(), choices.len(), visited.as_mut_ptr(), visited.len(), &mut end, &mut n, place,
+                &self.words, self.nodes.as_ptr().cast(), self.nodes.len(), self.links.as_ptr().cast(),
+                self.links.len(), round.start, choices.as_ptr(), choices.len(), visited.as_mut_ptr(), visited.len(),
+                &mut end, &mut n, place,
             )
         })?;
         Ok(Walk::of(end, visited, n))
@@ -109,12 +129,12 @@ impl Cell {
     pub fn follow_versioned(&self, versioned: &VersionedRound) -> Result<Walk, Refusal> {
         let Round { start, choices } = &versioned.round;
         let (version, area) = versioned.version();
-        let (mut visited, mut end, mut n) = (vec![0; choices.len() + 1], [0; 3], 0);
+        let (mut visited, mut end, mut n) = (vec![0; choices.len() + 1], ffi::ynd_walk_end::default(), 0);
         answered(|place| unsafe {
             ffi::ynd_follow_round_versioned(
-                &self.words, self.nodes.as_ptr(), self.nodes.len(), self.links.as_ptr(), self.links.len(), version,
-                area, *start, choices.as_ptr(), choices.len(), visited.as_mut_ptr(), visited.len(), &mut end, &mut n,
-                place,
+                &self.words, self.nodes.as_ptr().cast(), self.nodes.len(), self.links.as_ptr().cast(),
+                self.links.len(), version, area, *start, choices.as_ptr(), choices.len(), visited.as_mut_ptr(),
+                visited.len(), &mut end, &mut n, place,
             )
         })?;
         Ok(Walk::of(end, visited, n))

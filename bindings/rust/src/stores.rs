@@ -1,7 +1,8 @@
 //! The cell's own words, and lists and heightmaps as a whole. Lists grow where a call asks for it.
+use bofrashem_sys as ffi;
 use crate::cell::Cell;
+use crate::edits::grow;
 use crate::entries::{Junction, Link};
-use crate::ffi;
 use crate::refusal::{answered, Refusal};
 
 impl Cell {
@@ -42,28 +43,37 @@ impl Cell {
     }
 
     /// The links of the node at a place are these, in their order. Refused: 13; 14 over 255 links.
+    ///
+    /// Where a node gets more links than it had, they go behind all others, and its old entries stay unused until
+    /// [`Cell::write_then_read`].
+    ///
+    /// ```
+    /// use bofrashem::{Cell, Link, Refusal};
+    /// let mut cell = Cell::new();
+    /// let post = cell.add_node(489, [0.0; 3])?;
+    /// cell.set_links(post, &[Link::to(489, 1), Link::to(490, 7)])?;
+    /// assert_eq!(cell.links_of(post)?.len(), 2);
+    /// assert_eq!(cell.set_links(post, &[Link::to(489, 0); 256]), Err(Refusal::AtLimit));
+    /// assert_eq!(cell.links_of(post)?.len(), 2);
+    /// # Ok::<(), Refusal>(())
+    /// ```
     pub fn set_links(&mut self, at: usize, links: &[Link]) -> Result<(), Refusal> {
-        let first = self.put_links(at, links);
-        if first != Err(Refusal::LentTooShort(1)) { return first; }
-        self.links.resize(self.words.link_count as usize + links.len(), Link::default());
-        self.put_links(at, links)
+        self.asked(|c| c.put_links(at, links), |c| grow(&mut c.links, c.words.link_count as usize + links.len()))
     }
 
     /// The heightmap of the junction at a place is this one, row by row. Refused: 13; 12 where the values are not
     /// width × height.
     pub fn set_heightmap(&mut self, at: usize, width: u8, height: u8, values: &[u8]) -> Result<(), Refusal> {
-        let first = self.put_heightmap(at, width, height, values);
-        if first != Err(Refusal::LentTooShort(3)) { return first; }
-        self.heights.resize(self.words.heightmap_count as usize + values.len(), 0);
-        self.put_heightmap(at, width, height, values)
+        let put = |c: &mut Cell| c.put_heightmap(at, width, height, values);
+        self.asked(put, |c| grow(&mut c.heights, c.words.heightmap_count as usize + values.len()))
     }
 
     fn put_links(&mut self, at: usize, given: &[Link]) -> Result<(), Refusal> {
         let (nodes, links) = (&mut self.nodes, &mut self.links);
         answered(|place| unsafe {
             ffi::ynd_put_links(
-                &mut self.words, nodes.as_mut_ptr(), nodes.len(), links.as_mut_ptr(), links.len(), at,
-                given.as_ptr(), given.len(), place,
+                &mut self.words, nodes.as_mut_ptr().cast(), nodes.len(), links.as_mut_ptr().cast(), links.len(), at,
+                given.as_ptr().cast(), given.len(), place,
             )
         })
     }
@@ -72,8 +82,8 @@ impl Cell {
         let (junctions, heights): (&mut Vec<Junction>, &mut Vec<u8>) = (&mut self.junctions, &mut self.heights);
         answered(|place| unsafe {
             ffi::ynd_put_heightmap(
-                &mut self.words, junctions.as_mut_ptr(), junctions.len(), heights.as_mut_ptr(), heights.len(), at,
-                width, height, values.as_ptr(), values.len(), place,
+                &mut self.words, junctions.as_mut_ptr().cast(), junctions.len(), heights.as_mut_ptr(), heights.len(),
+                at, width, height, values.as_ptr(), values.len(), place,
             )
         })
     }

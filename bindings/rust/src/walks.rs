@@ -1,6 +1,6 @@
 //! Walks, what they show, and soundness.
+use bofrashem_sys as ffi;
 use crate::cell::{Cell, SCRATCH};
-use crate::ffi;
 use crate::refusal::{answered, Refusal};
 
 /// How a walk ended.
@@ -63,11 +63,11 @@ pub struct SeenLink {
 
 impl End {
     /// An end by its words.
-    pub(crate) fn of(end: [u32; 3]) -> End {
-        match end {
-            [0, ..] => End::Done,
-            [1, ..] => End::NoLink,
-            [2, area, number] => End::Left(area as u16, number as u16),
+    pub(crate) fn of(end: ffi::ynd_walk_end) -> End {
+        match end.how {
+            ffi::YND_DONE => End::Done,
+            ffi::YND_NO_LINK => End::NoLink,
+            ffi::YND_LEFT => End::Left(end.area_id as u16, end.node_id as u16),
             _ => End::NoNode,
         }
     }
@@ -75,54 +75,56 @@ impl End {
 
 impl Walk {
     /// The end's words, and the places, as many as were visited.
-    pub(crate) fn of(end: [u32; 3], mut visited: Vec<u32>, count: usize) -> Walk {
+    pub(crate) fn of(end: ffi::ynd_walk_end, mut visited: Vec<u32>, count: usize) -> Walk {
         visited.truncate(count);
         Walk { end: End::of(end), visited }
     }
 }
 
 impl SeenNode {
-    pub(crate) fn of(s: [usize; 19]) -> SeenNode {
+    pub(crate) fn of(s: ffi::ynd_seen_node) -> SeenNode {
         SeenNode {
-            area_id: s[0] as u16,
-            street_name: s[1] as u32,
-            position: [s[2], s[3], s[4]].map(|x| x as u32),
-            flags: [s[5], s[6], s[7], s[8], s[9], s[10]].map(|x| x as u8),
-            unused0: s[11] as u32,
-            unused1: s[12] as u32,
-            unused2: s[13] as u32,
-            unused3: s[14] as u32,
-            unused4: s[15] as u16,
-            link_count: s[16],
-            junction: (s[17] == 1).then_some(s[18]),
+            area_id: s.area_id as u16,
+            street_name: s.street_name as u32,
+            position: [s.x_bits, s.y_bits, s.z_bits].map(|x| x as u32),
+            flags: s.flags.map(|x| x as u8),
+            unused0: s.unused[0] as u32,
+            unused1: s.unused[1] as u32,
+            unused2: s.unused[2] as u32,
+            unused3: s.unused[3] as u32,
+            unused4: s.unused[4] as u16,
+            link_count: s.link_count,
+            junction: (s.has_junction == 1).then_some(s.junction),
         }
     }
 }
 
 impl SeenJunction {
     /// How many values it has.
-    pub(crate) fn size(s: [u32; 6]) -> usize { s[4] as usize * s[5] as usize }
+    pub(crate) fn size(s: &ffi::ynd_seen_junction) -> usize { s.width as usize * s.height as usize }
 
-    pub(crate) fn of(s: [u32; 6], values: Vec<u8>) -> SeenJunction {
-        SeenJunction { corner: [s[0], s[1]], min_z: s[2], max_z: s[3], width: s[4] as u8, height: s[5] as u8, values }
+    pub(crate) fn of(s: ffi::ynd_seen_junction, values: Vec<u8>) -> SeenJunction {
+        let (min_z, max_z, width, height) = (s.min_z_bits, s.max_z_bits, s.width as u8, s.height as u8);
+        SeenJunction { corner: [s.x_bits, s.y_bits], min_z, max_z, width, height, values }
     }
 }
 
 impl SeenLink {
     /// None where nothing was found.
-    pub(crate) fn of(s: [u8; 5]) -> Option<SeenLink> {
-        (s[0] == 1).then_some(SeenLink { flags: [s[1], s[2], s[3]], length: s[4] })
+    pub(crate) fn of(s: ffi::ynd_seen_link) -> Option<SeenLink> {
+        (s.found == 1).then_some(SeenLink { flags: [s.flags0, s.flags1, s.flags2], length: s.length })
     }
 }
 
 impl Cell {
     /// Walks from the node at a place; each byte chooses a link by its place among the node's links. Refused: 13.
     pub fn walk(&self, start: usize, choices: &[u8]) -> Result<Walk, Refusal> {
-        let (mut visited, mut end, mut n) = (vec![0; choices.len() + 1], [0; 3], 0);
+        let (mut visited, mut end, mut n) = (vec![0; choices.len() + 1], ffi::ynd_walk_end::default(), 0);
         answered(|place| unsafe {
             ffi::ynd_walk(
-                &self.words, self.nodes.as_ptr(), self.nodes.len(), self.links.as_ptr(), self.links.len(), start, choices.as_ptr(), choices.len(),
-                visited.as_mut_ptr(), visited.len(), &mut end, &mut n, place,
+                &self.words, self.nodes.as_ptr().cast(), self.nodes.len(), self.links.as_ptr().cast(),
+                self.links.len(), start, choices.as_ptr(), choices.len(), visited.as_mut_ptr(), visited.len(),
+                &mut end, &mut n, place,
             )
         })?;
         Ok(Walk::of(end, visited, n))
@@ -133,8 +135,9 @@ impl Cell {
         let (mut scratch, mut sound) = (vec![0; SCRATCH], false);
         answered(|place| unsafe {
             ffi::ynd_sound(
-                &self.words, self.nodes.as_ptr(), self.nodes.len(), self.links.as_ptr(), self.links.len(), self.refs.as_ptr(), self.refs.len(),
-                scratch.as_mut_ptr(), scratch.len(), &mut sound, place,
+                &self.words, self.nodes.as_ptr().cast(), self.nodes.len(), self.links.as_ptr().cast(),
+                self.links.len(), self.refs.as_ptr().cast(), self.refs.len(), scratch.as_mut_ptr(), scratch.len(),
+                &mut sound, place,
             )
         })
         .expect("the cell's lists hold its counts");
@@ -143,11 +146,12 @@ impl Cell {
 
     /// What a walk shows of the node at a place. Refused: 13.
     pub fn shown_node(&self, at: usize) -> Result<SeenNode, Refusal> {
-        let mut s = [0; 19];
+        let mut s = ffi::ynd_seen_node::default();
         answered(|place| unsafe {
             ffi::ynd_shown_node(
-                &self.words, self.nodes.as_ptr(), self.nodes.len(), self.links.as_ptr(), self.links.len(), self.junctions.as_ptr(),
-                self.junctions.len(), self.refs.as_ptr(), self.refs.len(), at, &mut s, place,
+                &self.words, self.nodes.as_ptr().cast(), self.nodes.len(), self.links.as_ptr().cast(),
+                self.links.len(), self.junctions.as_ptr().cast(), self.junctions.len(), self.refs.as_ptr().cast(),
+                self.refs.len(), at, &mut s, place,
             )
         })?;
         Ok(SeenNode::of(s))
@@ -155,13 +159,17 @@ impl Cell {
 
     /// What a walk shows of the junction at a place. Refused: 13.
     pub fn shown_junction(&self, at: usize) -> Result<SeenJunction, Refusal> {
-        let (mut s, mut n) = ([0; 6], 0);
-        answered(|place| unsafe { ffi::ynd_shown_junction(&self.words, self.junctions.as_ptr(), self.junctions.len(), at, &mut s, place) })?;
-        let mut values = vec![0; SeenJunction::size(s)];
+        let (mut s, mut n) = (ffi::ynd_seen_junction::default(), 0);
+        answered(|place| unsafe {
+            ffi::ynd_shown_junction(
+                &self.words, self.junctions.as_ptr().cast(), self.junctions.len(), at, &mut s, place,
+            )
+        })?;
+        let mut values = vec![0; SeenJunction::size(&s)];
         answered(|place| unsafe {
             ffi::ynd_shown_values(
-                &self.words, self.junctions.as_ptr(), self.junctions.len(), self.heights.as_ptr(), self.heights.len(), at, values.as_mut_ptr(),
-                values.len(), &mut n, place,
+                &self.words, self.junctions.as_ptr().cast(), self.junctions.len(), self.heights.as_ptr(),
+                self.heights.len(), at, values.as_mut_ptr(), values.len(), &mut n, place,
             )
         })?;
         values.truncate(n);
@@ -170,9 +178,12 @@ impl Cell {
 
     /// What a walk shows of the link that a byte chooses at a place; none where there is no such link. Refused: 13.
     pub fn shown_link(&self, at: usize, choice: u8) -> Result<Option<SeenLink>, Refusal> {
-        let mut s = [0; 5];
+        let mut s = ffi::ynd_seen_link::default();
         answered(|place| unsafe {
-            ffi::ynd_shown_link(&self.words, self.nodes.as_ptr(), self.nodes.len(), self.links.as_ptr(), self.links.len(), at, choice, &mut s, place)
+            ffi::ynd_shown_link(
+                &self.words, self.nodes.as_ptr().cast(), self.nodes.len(), self.links.as_ptr().cast(),
+                self.links.len(), at, choice, &mut s, place,
+            )
         })?;
         Ok(SeenLink::of(s))
     }

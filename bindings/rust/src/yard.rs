@@ -1,8 +1,8 @@
 //! Sets of cells whose walks cross from one into another.
-use crate::cell::{Cell, SCRATCH};
+use bofrashem_sys as ffi;
+use crate::cell::{lay_out, Cell, SCRATCH};
 use crate::edits::grow;
-use crate::entries::{Entry, Junction, Link, Location, Node, Ref};
-use crate::ffi;
+use crate::entries::{size, Entry, Junction, Link, Location, Node, Ref};
 use crate::member::Member;
 use crate::member_edits::MemberMut;
 use crate::refusal::{answered, Refusal};
@@ -15,6 +15,28 @@ use std::ops::Range;
 ///
 /// A walk that crosses ([`Yard::crossing_walk`]) goes the same way after members of a sound yard were renumbered. A
 /// plain walk in one cell ([`Cell::walk`]) may then end with another number where it leaves: it isn't protected.
+///
+/// ```
+/// use bofrashem::{Cell, End, Link, Refusal, Yard};
+/// let mut cells = [Cell::new(), Cell::new()];
+/// for (cell, [own, other]) in cells.iter_mut().zip([[489, 490], [490, 489]]) {
+///     cell.add_node(own, [0.0; 3])?;
+///     cell.add_link(0, Link::to(other, 0))?;
+/// }
+/// let mut yard = Yard::new();
+/// for cell in &cells { yard.join(cell)?; }
+/// assert!(yard.is_sound());
+/// assert_eq!(yard.crossing_walk(0, 0, &[0, 0, 0])?.end, End::Done);
+/// assert_eq!(cells[0].walk(0, &[0, 0, 0])?.end, End::Left(490, 0));
+///
+/// let mut member = yard.member_mut(1)?;
+/// member.add_node(490, [1.0, 0.0, 0.0])?;
+/// assert_eq!(member.look().counts().nodes, 2);
+/// assert_eq!(yard.join(&cells[0]), Err(Refusal::AreaInSet));
+/// # Ok::<(), Refusal>(())
+/// ```
+///
+/// Parts grow where an edit or a cell that joins needs room. A refused call has grown none.
 #[derive(Clone, Debug, Default)]
 pub struct Yard {
     // Each list has at least as many entries as the members' parts together.
@@ -69,11 +91,13 @@ impl Yard {
     fn join_as(&mut self, mut count: usize, c: &Cell, sizes: &[usize; 5]) -> Result<(), Refusal> {
         answered(|place| unsafe {
             ffi::ynd_set_join(
-                &mut count, self.members.as_mut_ptr(), self.members.len(), self.nodes.as_mut_ptr(), self.nodes.len(),
-                self.links.as_mut_ptr(), self.links.len(), self.junctions.as_mut_ptr(), self.junctions.len(),
-                self.heights.as_mut_ptr(), self.heights.len(), self.refs.as_mut_ptr(), self.refs.len(), &c.words,
-                c.nodes.as_ptr(), c.nodes.len(), c.links.as_ptr(), c.links.len(), c.junctions.as_ptr(),
-                c.junctions.len(), c.heights.as_ptr(), c.heights.len(), c.refs.as_ptr(), c.refs.len(), sizes, place,
+                &mut count, self.members.as_mut_ptr(), self.members.len(), self.nodes.as_mut_ptr().cast(),
+                self.nodes.len(), self.links.as_mut_ptr().cast(), self.links.len(),
+                self.junctions.as_mut_ptr().cast(), self.junctions.len(), self.heights.as_mut_ptr(),
+                self.heights.len(), self.refs.as_mut_ptr().cast(), self.refs.len(), &c.words, c.nodes.as_ptr().cast(),
+                c.nodes.len(), c.links.as_ptr().cast(), c.links.len(), c.junctions.as_ptr().cast(), c.junctions.len(),
+                c.heights.as_ptr(), c.heights.len(), c.refs.as_ptr().cast(), c.refs.len(),
+                std::ptr::from_ref(sizes).cast(), place,
             )
         })
     }
@@ -84,9 +108,10 @@ impl Yard {
         let (mut count, m) = (0, self.members.len());
         answered(|place| unsafe {
             ffi::ynd_set_leave(
-                self.members.as_mut_ptr(), m, self.nodes.as_mut_ptr(), self.nodes.len(), self.links.as_mut_ptr(),
-                self.links.len(), self.junctions.as_mut_ptr(), self.junctions.len(), self.heights.as_mut_ptr(),
-                self.heights.len(), self.refs.as_mut_ptr(), self.refs.len(), area, &mut count, place,
+                self.members.as_mut_ptr(), m, self.nodes.as_mut_ptr().cast(), self.nodes.len(),
+                self.links.as_mut_ptr().cast(), self.links.len(), self.junctions.as_mut_ptr().cast(),
+                self.junctions.len(), self.heights.as_mut_ptr(), self.heights.len(), self.refs.as_mut_ptr().cast(),
+                self.refs.len(), area, &mut count, place,
             )
         })?;
         self.members.truncate(count);
@@ -110,11 +135,12 @@ impl Yard {
         c.refs.resize(self.refs.len(), Ref::default());
         answered(|place| unsafe {
             ffi::ynd_set_hand_back(
-                self.members.as_ptr(), self.members.len(), self.nodes.as_ptr(), self.nodes.len(), self.links.as_ptr(),
-                self.links.len(), self.junctions.as_ptr(), self.junctions.len(), self.heights.as_ptr(),
-                self.heights.len(), self.refs.as_ptr(), self.refs.len(), area, &mut c.words, c.nodes.as_mut_ptr(),
-                c.nodes.len(), c.links.as_mut_ptr(), c.links.len(), c.junctions.as_mut_ptr(), c.junctions.len(),
-                c.heights.as_mut_ptr(), c.heights.len(), c.refs.as_mut_ptr(), c.refs.len(), place,
+                self.members.as_ptr(), self.members.len(), self.nodes.as_ptr().cast(), self.nodes.len(),
+                self.links.as_ptr().cast(), self.links.len(), self.junctions.as_ptr().cast(), self.junctions.len(),
+                self.heights.as_ptr(), self.heights.len(), self.refs.as_ptr().cast(), self.refs.len(), area,
+                &mut c.words, c.nodes.as_mut_ptr().cast(), c.nodes.len(), c.links.as_mut_ptr().cast(), c.links.len(),
+                c.junctions.as_mut_ptr().cast(), c.junctions.len(), c.heights.as_mut_ptr(), c.heights.len(),
+                c.refs.as_mut_ptr().cast(), c.refs.len(), place,
             )
         })?;
         c.nodes.truncate(c.words.node_count as usize);
@@ -133,9 +159,9 @@ impl Yard {
         let (mut scratch, mut places) = (vec![0; SCRATCH], vec![0; count]);
         answered(|place| unsafe {
             ffi::ynd_set_renumber(
-                self.members.as_mut_ptr(), self.members.len(), self.nodes.as_mut_ptr(), self.nodes.len(),
-                self.links.as_mut_ptr(), self.links.len(), self.junctions.as_ptr(), self.junctions.len(),
-                self.heights.as_ptr(), self.heights.len(), self.refs.as_mut_ptr(), self.refs.len(),
+                self.members.as_mut_ptr(), self.members.len(), self.nodes.as_mut_ptr().cast(), self.nodes.len(),
+                self.links.as_mut_ptr().cast(), self.links.len(), self.junctions.as_ptr().cast(), self.junctions.len(),
+                self.heights.as_ptr(), self.heights.len(), self.refs.as_mut_ptr().cast(), self.refs.len(),
                 scratch.as_mut_ptr(), scratch.len(), places.as_mut_ptr(), places.len(), member, place,
             )
         })?;
@@ -145,12 +171,13 @@ impl Yard {
     /// Walks from the node at a place of a member; a link that leads out of its cell goes on in the first member of
     /// the area that it names. It ends left where no member has it. Refused: 13 no such member or place.
     pub fn crossing_walk(&self, member: usize, start: usize, choices: &[u8]) -> Result<CrossingWalk, Refusal> {
-        let (mut visited, mut end, mut n) = (vec![Location::default(); choices.len() + 1], [0; 3], 0);
+        let mut visited = vec![Location::default(); choices.len() + 1];
+        let (mut end, mut n) = (ffi::ynd_walk_end::default(), 0);
         answered(|place| unsafe {
             ffi::ynd_set_crossing_walk(
-                self.members.as_ptr(), self.members.len(), self.nodes.as_ptr(), self.nodes.len(), self.links.as_ptr(),
-                self.links.len(), member, start, choices.as_ptr(), choices.len(), visited.as_mut_ptr(), visited.len(),
-                &mut end, &mut n, place,
+                self.members.as_ptr(), self.members.len(), self.nodes.as_ptr().cast(), self.nodes.len(),
+                self.links.as_ptr().cast(), self.links.len(), member, start, choices.as_ptr(), choices.len(),
+                visited.as_mut_ptr().cast(), visited.len(), &mut end, &mut n, place,
             )
         })?;
         visited.truncate(n);
@@ -162,25 +189,26 @@ impl Yard {
         let (mut found, mut member) = (false, 0);
         unsafe {
             ffi::ynd_set_member_of_area(
-                self.members.as_ptr(), self.members.len(), self.nodes.as_ptr(), self.nodes.len(), area, &mut found,
-                &mut member,
+                self.members.as_ptr(), self.members.len(), self.nodes.as_ptr().cast(), self.nodes.len(), area,
+                &mut found, &mut member,
             );
         }
         found.then_some(member)
     }
 
-    /// Follows a round across the yard, as [`Yard::crossing_walk`] walks: one with an area from its start number in the
-    /// member of that area, one without in the member named. Refused, in this order: 19 no member has the area; 13 no
-    /// such member, or none of its nodes has the number.
+    /// Follows a round across the yard, as [`Yard::crossing_walk`] walks: one with an area from its start number in
+    /// the member of that area, one without in the member named. Refused, in this order: 19 no member has the area; 13
+    /// no such member, or none of its nodes has the number.
     pub fn follow(&self, versioned: &VersionedRound, member: usize) -> Result<CrossingWalk, Refusal> {
         let Round { start, choices } = &versioned.round;
         let (version, area) = versioned.version();
-        let (mut visited, mut end, mut n) = (vec![Location::default(); choices.len() + 1], [0; 3], 0);
+        let mut visited = vec![Location::default(); choices.len() + 1];
+        let (mut end, mut n) = (ffi::ynd_walk_end::default(), 0);
         answered(|place| unsafe {
             ffi::ynd_set_follow_round(
-                self.members.as_ptr(), self.members.len(), self.nodes.as_ptr(), self.nodes.len(), self.links.as_ptr(),
-                self.links.len(), version, area, member, *start, choices.as_ptr(), choices.len(),
-                visited.as_mut_ptr(), visited.len(), &mut end, &mut n, place,
+                self.members.as_ptr(), self.members.len(), self.nodes.as_ptr().cast(), self.nodes.len(),
+                self.links.as_ptr().cast(), self.links.len(), version, area, member, *start, choices.as_ptr(),
+                choices.len(), visited.as_mut_ptr().cast(), visited.len(), &mut end, &mut n, place,
             )
         })?;
         visited.truncate(n);
@@ -192,9 +220,9 @@ impl Yard {
         let (mut scratch, mut sound) = (vec![0; SCRATCH], false);
         answered(|place| unsafe {
             ffi::ynd_set_sound(
-                self.members.as_ptr(), self.members.len(), self.nodes.as_ptr(), self.nodes.len(), self.links.as_ptr(),
-                self.links.len(), self.refs.as_ptr(), self.refs.len(), scratch.as_mut_ptr(), scratch.len(), &mut sound,
-                place,
+                self.members.as_ptr(), self.members.len(), self.nodes.as_ptr().cast(), self.nodes.len(),
+                self.links.as_ptr().cast(), self.links.len(), self.refs.as_ptr().cast(), self.refs.len(),
+                scratch.as_mut_ptr(), scratch.len(), &mut sound, place,
             )
         })
         .expect("the yard's lists hold its members");
@@ -206,10 +234,10 @@ impl Yard {
         let (mut section, mut length) = (self.section(member)?, 0);
         answered(|place| unsafe {
             ffi::ynd_member_write(
-                self.members.as_ptr(), self.members.len(), self.nodes.as_ptr(), self.nodes.len(), self.links.as_ptr(),
-                self.links.len(), self.junctions.as_ptr(), self.junctions.len(), self.heights.as_ptr(),
-                self.heights.len(), self.refs.as_ptr(), self.refs.len(), member, section.as_mut_ptr(), section.len(),
-                &mut length, place,
+                self.members.as_ptr(), self.members.len(), self.nodes.as_ptr().cast(), self.nodes.len(),
+                self.links.as_ptr().cast(), self.links.len(), self.junctions.as_ptr().cast(), self.junctions.len(),
+                self.heights.as_ptr(), self.heights.len(), self.refs.as_ptr().cast(), self.refs.len(), member,
+                section.as_mut_ptr(), section.len(), &mut length, place,
             )
         })?;
         section.truncate(length);
@@ -222,10 +250,10 @@ impl Yard {
         let (mut section, mut length) = (self.section(member)?, 0);
         answered(|place| unsafe {
             ffi::ynd_member_write_then_read(
-                self.members.as_mut_ptr(), self.members.len(), self.nodes.as_mut_ptr(), self.nodes.len(),
-                self.links.as_mut_ptr(), self.links.len(), self.junctions.as_mut_ptr(), self.junctions.len(),
-                self.heights.as_mut_ptr(), self.heights.len(), self.refs.as_mut_ptr(), self.refs.len(), member,
-                section.as_mut_ptr(), section.len(), &mut length, place,
+                self.members.as_mut_ptr(), self.members.len(), self.nodes.as_mut_ptr().cast(), self.nodes.len(),
+                self.links.as_mut_ptr().cast(), self.links.len(), self.junctions.as_mut_ptr().cast(),
+                self.junctions.len(), self.heights.as_mut_ptr(), self.heights.len(), self.refs.as_mut_ptr().cast(),
+                self.refs.len(), member, section.as_mut_ptr(), section.len(), &mut length, place,
             )
         })?;
         section.truncate(length);
@@ -240,11 +268,8 @@ impl Yard {
         let junctions = self.junctions[self.part(member, 2)].iter().take(w.junction_count as usize);
         let links = nodes.map(|n| n.link_count as u32).sum();
         let values = junctions.map(|j| j.width as u32 * j.height as u32).sum();
-        let (mut at, mut total) = ([0; 5], 0);
-        let _ = answered(|place| unsafe {
-            ffi::ynd_lay_out(w.ref_count, values, w.junction_count, links, w.node_count, &mut at, &mut total, place)
-        });
-        Ok(vec![0; total])
+        let laid_out = lay_out([w.ref_count, values, w.junction_count, links, w.node_count]);
+        Ok(vec![0; laid_out.map_or(0, |(_, total)| total)])
     }
 
     /// A member to look at, by the order of joining. Refused: 13 no such member.
@@ -254,11 +279,43 @@ impl Yard {
     pub fn member_mut(&mut self, place: usize) -> Result<MemberMut<'_>, Refusal> { MemberMut::of(self, place) }
 
     /// How many entries the members' parts of a list have together.
-    fn total(&self, list: usize) -> usize { self.members.iter().map(|m| m.sizes[list] as usize).sum() }
+    fn total(&self, list: usize) -> usize { self.members.iter().map(|m| size(m, list)).sum() }
 
     /// Where the part of a member in a list stands.
     pub(crate) fn part(&self, member: usize, list: usize) -> Range<usize> {
-        let start = self.members[..member].iter().map(|m| m.sizes[list] as usize).sum();
-        start..start + self.members[member].sizes[list] as usize
+        let start = self.members[..member].iter().map(|m| size(m, list)).sum();
+        start..start + size(&self.members[member], list)
+    }
+}
+
+#[cfg(test)]
+mod tests {
+    use super::*;
+    use crate::Refusal::{AreaInSet, AtLimit, NoSuchPlace, ValuesNotSize};
+
+    fn lengths(y: &Yard) -> [usize; 6] {
+        [y.members.len(), y.nodes.len(), y.links.len(), y.junctions.len(), y.heights.len(), y.refs.len()]
+    }
+
+    /// One node and one link, in lists that are just long enough.
+    fn cell(area: u16) -> Cell {
+        let mut cell = Cell::new();
+        cell.add_node(area, [0.0; 3]).unwrap();
+        cell.add_link(0, Link::to(area, 0)).unwrap();
+        cell
+    }
+
+    #[test]
+    fn a_refused_call_leaves_the_lists_as_long_as_they_were() {
+        let mut yard = Yard::new();
+        for area in [1, 2] { yard.join(&cell(area)).unwrap(); }
+        let held = lengths(&yard);
+        assert_eq!(yard.join(&cell(2)), Err(AreaInSet));
+        let mut m = yard.member_mut(0).unwrap();
+        assert_eq!(m.add_link(1, Link::to(1, 0)), Err(NoSuchPlace));
+        assert_eq!(m.set_links(0, &[Link::default(); 256]), Err(AtLimit));
+        assert_eq!(m.add_junction(Junction::new([0.0; 2], [0.0; 2], 200, 200), &[1; 3]), Err(ValuesNotSize));
+        assert_eq!(m.set_heightmap(0, 1, 1, &[1]), Err(NoSuchPlace));
+        assert_eq!(lengths(&yard), held);
     }
 }

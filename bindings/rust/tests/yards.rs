@@ -1,13 +1,18 @@
 //! The sample yards, and the refusals that a caller can meet. Run by `make bindings` at the repository's root.
 use bofrashem::{count, numbers, Cell, End, Junction, Link, NearNode, Node, Ref, Refusal};
 
-fn yard(name: &str) -> Vec<u8> { std::fs::read(format!("{}/../../samples/{name}.section", env!("CARGO_MANIFEST_DIR"))).expect("a sample yard") }
+fn yard(name: &str) -> Vec<u8> {
+    std::fs::read(format!("{}/../../samples/{name}.section", env!("CARGO_MANIFEST_DIR"))).expect("a sample yard")
+}
 
 fn read(name: &str) -> Cell { Cell::read(&yard(name), &[]).expect("a sample yard is read") }
 
 #[test]
 fn counts_of_the_samples() {
-    let counts = |name| { let c = count(&yard(name), &[]).unwrap(); [c.nodes, c.links, c.junctions, c.heights, c.refs] };
+    let counts = |name| {
+        let c = count(&yard(name), &[]).unwrap();
+        [c.nodes, c.links, c.junctions, c.heights, c.refs]
+    };
     assert_eq!(counts("dock"), [13, 22, 0, 0, 0]);
     assert_eq!(counts("hall"), [18, 42, 2, 34, 2]);
     assert_eq!(counts("yard"), [5000, 19700, 0, 0, 0]);
@@ -196,7 +201,11 @@ fn fields_of_a_node() {
 #[test]
 fn cells_go_between_threads() {
     let hall = std::sync::Arc::new(read("hall"));
-    let walks: Vec<_> = (0..4).map(|i| { let hall = hall.clone(); std::thread::spawn(move || hall.walk(i, &[0; 200]).unwrap().visited.len()) }).collect();
+    let walk = |i| {
+        let hall = hall.clone();
+        std::thread::spawn(move || hall.walk(i, &[0; 200]).unwrap().visited.len())
+    };
+    let walks: Vec<_> = (0..4).map(walk).collect();
     for walk in walks { assert_eq!(walk.join().unwrap(), 201); }
 }
 

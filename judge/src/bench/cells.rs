@@ -123,12 +123,12 @@ pub(super) fn cell(size: usize) -> Cell {
 
 /// Reads the sections lent. `Reader::open` takes them from the container, which is left out, so no copy of them is
 /// timed.
-fn read() -> Ynd { read_any().expect("a valid file") }
+pub(super) fn read() -> Ynd { read_any().expect("a valid file") }
 
 fn read_any() -> Option<Ynd> { Ynd::from_dictionary(&parse_node_dictionary(&[]).ok()?).ok() }
 
 /// `to_dictionary`, then the `Pod` writers, without the block graph's copies; root and page block come ready.
-fn written(ynd: &Ynd, head: &[u8]) -> Vec<u8> {
+pub(super) fn written(ynd: &Ynd, head: &[u8]) -> Vec<u8> {
     let d = ynd.to_dictionary().ok().expect("a cell that is written");
     let small = d.junction_refs.len() * 8 + d.junction_heightmap_bytes.len() + d.junctions.len() * 12;
     let size = 1152 + small + d.links.len() * 8 + d.nodes.len() * 40;

@@ -1,5 +1,6 @@
 //! The Rust and the port from one driver, on the same inputs, in one run; printed as a table for docs/BENCHMARKS.md.
 mod cells;
+mod drop_in;
 mod numbers;
 mod paths;
 mod reach;
@@ -52,7 +53,8 @@ pub fn bench(only: Option<String>) {
     println!("| Call | Nodes | Rust, ns | Port, ns | Ratio | Goal |");
     println!("|---|---|---|---|---|---|");
     let rows = numbers::rows(&wanted).into_iter().chain(cells::rows(&wanted)).chain(reach::rows(&wanted))
-        .chain(rounds::rows(&wanted)).chain(paths::rows(&wanted)).chain(sets::rows(&wanted));
+        .chain(rounds::rows(&wanted)).chain(paths::rows(&wanted)).chain(sets::rows(&wanted))
+        .chain(drop_in::rows(&wanted));
     for row in rows { println!("{}", row.line()); }
     println!();
     print!("Nanoseconds a node, or a call for steps, grid and lengths; the fastest of {TURNS} turns, ");

@@ -65,7 +65,7 @@ pub fn claims(cell: &Cell) -> bool {
 
 /// T-07: renumbered island cells are not asked of the Rust.
 fn renumbering(cell: &Cell, ynd: &Ynd) -> Verdict {
-    if cell.is_island() { return Ok(()); }
+    if cell.is_island() && !rust::BY_THE_DOCUMENTS { return Ok(()); }
     let mut model = cell.clone();
     let places = renumber::renumber(&mut model, 65_536, cell.nodes.len()).expect("room for all");
     let mut judged = ynd.clone();
@@ -85,11 +85,14 @@ fn writing(cell: &Cell, ynd: &Ynd) -> Verdict {
     let model = write::written(cell);
     let judged = rust::write(ynd);
     // T-05: refused by the Rust for a node without links behind more than 65,535 only: left out, and counted.
-    if model.is_ok() && judged.is_err() && write::has_late_post(cell) {
+    if model.is_ok() && write::has_late_post(cell) && (judged.is_err() || rust::BY_THE_DOCUMENTS) {
         seen::met(Met::LatePost);
-        return Ok(());
+        if !rust::BY_THE_DOCUMENTS { return Ok(()); }
     }
     same("whether writing is refused", MODEL, &model.is_err(), RUST, &judged.is_err())?;
+    if let (Err(m), Err(y)) = (&model, &judged) {
+        same("writing's refusal", MODEL, &rust::refusal(*m, y), RUST, y)?;
+    }
     let (Ok(bytes), Ok(judged)) = (model, judged) else { return Ok(()) };
     seen::met_times(Met::RustBytes, judged.len() as u64);
     same("bytes written", MODEL, &rust::masked_bytes(&bytes), RUST, &judged)?;
@@ -112,7 +115,7 @@ fn found(cell: &Cell, ynd: &Ynd, r: &mut Rng) -> Verdict {
         let place = ynd.node(number).map(|n| place_in(&ynd.nodes, n));
         same("node", MODEL, &cell.node(number), RUST, &place)?;
         // T-07: nor is this on an island.
-        if cell.is_island() { continue; }
+        if cell.is_island() && !rust::BY_THE_DOCUMENTS { continue; }
         let place = ynd.junction_of(area, number).map(|j| place_in(&ynd.junctions, j));
         same("junction_of", MODEL, &cell.junction_of(area, number), RUST, &place)?;
     }

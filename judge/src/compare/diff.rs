@@ -2,16 +2,18 @@
 use super::numbers::{area, cell_for_position, file_name, grid_cell, lane_offset, length_between, metres};
 use super::numbers::{next_to_square, position, steps_of};
 use super::run::Run;
-use super::{access, agree, cells, far, files, large, page, paths, posts, programs, reach, records, rounds};
+use super::{access, agree, cells, far, files, large, page, paths, posts, programs, reach, rounds};
 use super::{drawn, scripts, sets, soak, stores, versions};
+#[cfg(not(feature = "drop-in"))]
+use super::{drop_in, records};
 use super::{Mismatch, MODEL};
 use crate::inputs::{self, floats, limits, memories, names, rng::Rng, shrink, squares};
 use crate::model::length;
 
 /// The bits of 2^-24.
 const SMALL: u64 = 0x3380_0000;
-/// In a short run and in a full one: lists of calls, large cells, yards with posts, far memories and scripts, pairs for
-/// each target next to a square.
+/// In a short run and in a full one: lists of calls, large cells, yards with posts, far memories and scripts, pairs
+/// for each target next to a square.
 const LISTS: [u64; 2] = [20_000, 1_000_000];
 const LARGE: [u64; 2] = [60, 400];
 const POSTS: [u64; 2] = [60, 400];
@@ -24,31 +26,44 @@ pub fn diff(seed: u64, seconds: f64, full: bool, only: Option<String>) {
     let run = Run::new(seed, full, only);
     let of = |counts: [u64; 2]| counts[full as usize];
     numbers(&run, seconds, of(PAIRS));
-    let r = &mut Rng::new(seed);
-    run.list("files around limits", &limits::files(r), files::check);
-    run.list("cells around limits", &limits::cells(r), |c| cells::check(c, seed));
-    run.list("scripts around limits", &limits::scripts(r), scripts::check);
+    around_limits(&run);
     let (generate, small) = (files::generate, shrink::smaller_file);
-    run.random("sections and records", seconds * 0.1, generate, records::check, small);
     run.random("files", seconds * 0.3, generate, files::check, small);
-    let on_port = |(m, aux): &(_, u64)| cells::on_port(m, &mut Rng::new(*aux));
-    run.random("any memory", seconds * 0.1, memories::any, on_port, |_| Vec::new());
-    run.counted("far ranges", of(FAR), inputs::far::any, far::check, |_| Vec::new());
     run.counted("edits of far ranges", of(FAR_SCRIPTS), inputs::far::script, far::edits, |_| Vec::new());
     run.counted("large cells", of(LARGE), inputs::large::cell, large::check, |_| Vec::new());
     run.counted("nodes without links", of(POSTS), inputs::posts::file, posts::check, |_| Vec::new());
-    reach::family(&run);
-    rounds::families(&run);
-    versions::families(&run);
-    sets::families(&run);
-    agree::family(&run);
-    paths::family(&run);
-    lists(&run, of(LISTS));
     run.random("scripts", seconds * 0.25, inputs::scripts::script, scripts::check, inputs::scripts::smaller);
     run.random("stores", seconds * 0.1, inputs::stores::stores, stores::check, inputs::stores::smaller);
-    run.random("stores in any memory", seconds * 0.05, inputs::stores::any, stores::in_any, |_| Vec::new());
-    programs::programs(&run);
+    #[cfg(not(feature = "drop-in"))]
+    of_the_port(&run, seconds);
     run.report.close();
+}
+
+fn around_limits(run: &Run) {
+    let r = &mut Rng::new(run.seed);
+    run.list("files around limits", &limits::files(r), files::check);
+    run.list("cells around limits", &limits::cells(r), |c| cells::check(c, run.seed));
+    run.list("scripts around limits", &limits::scripts(r), scripts::check);
+}
+
+/// Families whose calls are not the Rust's, or that need its text.
+#[cfg(not(feature = "drop-in"))]
+fn of_the_port(run: &Run, seconds: f64) {
+    let (generate, small) = (files::generate, shrink::smaller_file);
+    run.random("sections and records", seconds * 0.1, generate, records::check, small);
+    run.random("drop-in", seconds * 0.05, generate, drop_in::check, small);
+    let on_port = |(m, aux): &(_, u64)| cells::on_port(m, &mut Rng::new(*aux));
+    run.random("any memory", seconds * 0.1, memories::any, on_port, |_| Vec::new());
+    run.counted("far ranges", FAR[run.full as usize], inputs::far::any, far::check, |_| Vec::new());
+    reach::family(run);
+    rounds::families(run);
+    versions::families(run);
+    sets::families(run);
+    agree::family(run);
+    paths::family(run);
+    lists(run, LISTS[run.full as usize]);
+    run.random("stores in any memory", seconds * 0.05, inputs::stores::any, stores::in_any, |_| Vec::new());
+    programs::programs(run);
 }
 
 /// Lists of calls alone, so many.

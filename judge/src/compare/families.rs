@@ -84,6 +84,10 @@ pub const FAMILIES: &[Family] = &[
     cells("sections and records", "random files: parts, root, records, layout", &[
         (Edge(Found), 100_000), (Edge(NotFound), 100_000), (Edge(Watched), 100_000),
     ]),
+    cells("drop-in", "files, half of them damaged: the wrapper's module `ynd` beside the Rust, field by field", &[
+        (Yes(Read), 1_000), (No(Read, 3), 200), (Yes(Renumber), 500), (Yes(Write), 1_000), (Edge(Found), 1_000),
+        (Edge(NotFound), 1_000),
+    ]),
     cells("files", "random files, half of them damaged: every call on what is read", &[
         (Yes(Read), 10_000), (No(Read, 1), 500), (At(Read, 3, 0), 500), (At(Read, 3, 1), 500), (At(Read, 3, 2), 500),
         (At(Read, 3, 3), 500), (At(Read, 3, 4), 500), (No(Read, 4), 200), (No(Read, 5), 200), (At(Read, 7, 0), 100),

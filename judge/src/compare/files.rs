@@ -22,10 +22,10 @@ pub fn check(f: &File) -> Verdict {
     seen::note(Call::Read, &model);
     seen::met_if(f.system.is_empty() && model.is_ok(), Met::Undrawn);
     // 2 and 6 are added by document 01; the Rust has no such limits. No system bytes it refuses: they are T-02's.
-    if !f.system.is_empty() && !matches!(model, Err(Refused(2 | 6, _))) {
+    if rust::BY_THE_DOCUMENTS || (!f.system.is_empty() && !matches!(model, Err(Refused(2 | 6, _)))) {
         match (&model, rust::read(&f.system, &f.graphics)) {
             (Ok(m), Ok(y)) => same("reading", MODEL, &rust::masked(m), RUST, &rust::cell_of(&y))?,
-            (Err(_), Err(_)) => {}
+            (Err(m), Err(y)) => same("reading's refusal", MODEL, &rust::refusal(*m, &y), RUST, &y)?,
             (m, y) => {
                 let judged = y.map(|y| rust::cell_of(&y));
                 let sides = [(MODEL, format!("{m:?}")), (RUST, format!("{judged:?}"))];

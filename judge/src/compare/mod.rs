@@ -4,6 +4,8 @@ pub mod agree;
 pub mod causes;
 pub mod cells;
 pub mod diff;
+#[cfg(not(feature = "drop-in"))]
+pub mod drop_in;
 pub mod drawn;
 pub mod families;
 pub mod far;
@@ -20,6 +22,7 @@ pub mod printed;
 pub mod programs;
 pub mod paths;
 pub mod reach;
+#[cfg(not(feature = "drop-in"))]
 pub mod records;
 pub mod report;
 pub mod rounds;
@@ -47,7 +50,7 @@ pub type Verdict = Result<(), Mismatch>;
 
 /// The sides that are asked.
 pub const MODEL: &str = "document 01";
-pub const RUST: &str = "the Rust";
+pub use crate::rust::NAME as RUST;
 pub const PORT: &str = "the port";
 
 pub fn same<T: PartialEq + Debug>(what: &str, left: &'static str, l: &T, right: &'static str, r: &T) -> Verdict {

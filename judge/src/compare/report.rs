@@ -2,6 +2,7 @@
 use super::families::{Family, DOMAINS};
 use super::page::grouped;
 use super::{seen, Mismatch};
+use crate::rust::NAME;
 use std::sync::atomic::{AtomicU64, Ordering::Relaxed};
 use std::sync::Mutex;
 use std::time::Instant;
@@ -40,7 +41,7 @@ impl Report {
         let counts = seen::take();
         let mut sums = self.sums.lock().expect("one thread reports");
         sums.0[row.domain as usize] += count;
-        let must = row.must.iter().map(|&(kind, least)| (kind, least, counts.of(kind)));
+        let must = row.must.iter().map(|&(kind, least)| (kind, seen::share(least), counts.of(kind)));
         let short: Vec<_> = must.clone().filter(|(_, least, met)| met < least).collect();
         for (kind, least, met) in &short {
             sums.1.push(format!("{}: {kind} met {met} times, must be {least}", row.name));
@@ -59,7 +60,7 @@ impl Report {
         let sums = self.sums.lock().expect("one thread reports");
         let parts = DOMAINS.iter().zip(sums.0).map(|(name, n)| format!("{} {name}", grouped(n)));
         let parts: Vec<String> = parts.collect();
-        println!("seed {}: {} compared, all agree", self.seed, parts.join(", "));
+        println!("seed {}: {} compared with {NAME}, all agree", self.seed, parts.join(", "));
         for line in &sums.1 { println!("MET TOO SELDOM: {line}"); }
         if !sums.1.is_empty() { std::process::exit(1); }
     }

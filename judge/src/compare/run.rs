@@ -5,6 +5,7 @@ use super::{seen, Mismatch, Verdict, MODEL, PORT};
 use crate::inputs::rng::Rng;
 use crate::inputs::shrink::shrink;
 use crate::port::lent;
+use crate::rust::SHARE;
 use crate::slips;
 use std::fmt::Debug;
 use std::sync::atomic::{AtomicU64, Ordering::Relaxed};
@@ -35,7 +36,7 @@ impl Run {
     /// it starts. An input that agrees costs no memory.
     pub fn sweep(&self, name: &str, total: u64, strides: [u64; 2], check: impl Fn(u64) -> Verdict + Sync) {
         if self.skips(name) { return; }
-        let stride = strides[self.full as usize];
+        let stride = strides[self.full as usize] * if total > BLOCK { SHARE } else { 1 };
         let first = if stride > 1 { self.seed % stride } else { 0 };
         let count = (total - first).div_ceil(stride);
         let next = AtomicU64::new(0);
@@ -86,6 +87,7 @@ impl Run {
         &self, name: &str, count: u64, generate: impl Fn(&mut Rng) -> I + Sync, check: impl Fn(&I) -> Verdict + Sync,
         smaller: impl Fn(&I) -> Vec<I> + Sync,
     ) {
+        let count = count.div_ceil(SHARE);
         let more = |index| { if index % 4_096 == 0 { self.report.tell(name, index, count); } index < count };
         self.drawn(families::row(name), more, generate, check, smaller);
     }

@@ -39,17 +39,20 @@ pub fn step(
 
 /// The cell that a script leaves, written by all sides.
 fn written(memory: &Memory, cell: &Cell, ynd: &Ynd, r: &mut Rng) -> Verdict {
-    let judged = rust::write(ynd).ok();
+    let judged = rust::write(ynd);
     let length = judged.as_ref().map_or(1_200, Vec::len);
     let mut section = r.bytes(length);
     let before = section.clone();
     let answer = memory.write(&mut section);
     let model = write::written(cell);
     seen::note(Call::Write, &model);
-    seen::met_times(Met::RustBytes, if judged.is_some() { length as u64 } else { 0 });
-    same("whether writing after all is refused", MODEL, &model.is_err(), RUST, &judged.is_none())?;
+    seen::met_times(Met::RustBytes, if judged.is_ok() { length as u64 } else { 0 });
+    same("whether writing after all is refused", MODEL, &model.is_err(), RUST, &judged.is_err())?;
+    if let (Err(m), Err(y)) = (&model, &judged) {
+        same("writing's refusal after all", MODEL, &rust::refusal(*m, y), RUST, y)?;
+    }
     same("writing after all", PORT, &answer, MODEL, &model.as_ref().map(|b| b.len()).map_err(|e| *e))?;
-    let Some(judged) = judged else { return same("bytes written after all", PORT, &section, MODEL, &before) };
+    let Ok(judged) = judged else { return same("bytes written after all", PORT, &section, MODEL, &before) };
     same("bytes written after all", PORT, &Ok(&section), MODEL, &model.as_ref())?;
     same("bytes written after all", PORT, &rust::masked_bytes(&section), RUST, &judged)
 }

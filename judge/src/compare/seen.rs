@@ -3,6 +3,7 @@
 use crate::model::walk::End;
 use crate::model::Answer;
 use crate::port::lent;
+use crate::rust::SHARE;
 use std::cell::RefCell;
 use std::fmt::{Display, Formatter, Result};
 use std::sync::Mutex;
@@ -139,11 +140,14 @@ pub fn give() {
     });
 }
 
-/// Whether the family's sums so far have all of these.
+/// Whether the family's sums so far have all of these, each as often as it must.
 pub fn enough(must: &[(Kind, u64)]) -> bool {
     let sums = SUMS.lock().expect("no thread ends while it counts");
-    must.iter().all(|&(kind, least)| sums.of(kind) >= least)
+    must.iter().all(|&(kind, least)| sums.of(kind) >= share(least))
 }
+
+/// How often a run must meet what one by the Rust's text must so often.
+pub fn share(least: u64) -> u64 { least / SHARE }
 
 /// The family's sums, which start again.
 pub fn take() -> Counts {

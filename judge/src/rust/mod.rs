@@ -1,16 +1,20 @@
-//! The Rust's answers in the model's words.
+//! The Rust's answers in the model's words. With the feature `drop-in` the wrapper's module stands in its place, with
+//! the same names: the same text asks it.
 use crate::math::{Vec2, Vec3};
 use crate::model::cell::{one_nan, Cell, Junction, Link, Node, Ref};
 use crate::model::records::{ADDRESS_AT, COUNT_AT, UNUSED};
 use crate::model::renumber;
 use crate::model::sections::{le, SYSTEM};
-use crate::resource::lend_sections;
-use crate::ynd::{
-    parse_node_dictionary, serialize_node_dictionary, Heightmap, NodeJunctionRef, PathJunction, PathLink, PathNode, Ynd
-};
+use crate::ynd::{Heightmap, NodeJunctionRef, PathJunction, PathLink, PathNode, Ynd};
 
-/// The Rust refuses in words; only that it refuses is compared.
-pub type Answer<T> = Result<T, String>;
+#[cfg(not(feature = "drop-in"))]
+#[path = "by_text.rs"]
+mod judged;
+#[cfg(feature = "drop-in")]
+#[path = "by_wrapper.rs"]
+mod judged;
+
+pub use judged::{read, refusal, write, BY_THE_DOCUMENTS, NAME, SHARE};
 
 pub fn vec3(bits: [u32; 3]) -> Vec3 {
     Vec3::new(f32::from_bits(bits[0]), f32::from_bits(bits[1]), f32::from_bits(bits[2]))
@@ -18,32 +22,10 @@ pub fn vec3(bits: [u32; 3]) -> Vec3 {
 
 pub fn bits3(v: Vec3) -> [u32; 3] { [v.x, v.y, v.z].map(|x| one_nan(x.to_bits())) }
 
-/// `parse_node_dictionary`, then `from_dictionary`.
-pub fn read(system: &[u8], graphics: &[u8]) -> Answer<Ynd> {
-    lend_sections(system.to_vec(), graphics.to_vec());
-    let dictionary = parse_node_dictionary(&[]).map_err(|e| e.0)?;
-    Ynd::from_dictionary(&dictionary).map_err(|e| e.0)
-}
-
-/// `to_dictionary`, then the `Pod` writers through the block graph; the framing's system section. T-05's field is set
-/// to 0 here: the Rust stores what stands before a node without links.
-pub fn write(ynd: &Ynd) -> Answer<Vec<u8>> {
-    let dictionary = ynd.to_dictionary().map_err(|e| e.0)?;
-    let file = serialize_node_dictionary(&dictionary).map_err(|e| e.0)?;
-    let length = u32::from_le_bytes(file[..4].try_into().unwrap()) as usize;
-    if file.len() != 4 + length { return Err(format!("{} bytes of graphics", file.len() - 4 - length)); }
-    let mut section = file[4..].to_vec();
-    let nodes = le(&section, 16, 8).wrapping_sub(SYSTEM) as usize;
-    for (i, _) in ynd.nodes.iter().enumerate().filter(|(_, n)| n.links.is_empty()) {
-        section[nodes + 40 * i + 26..][..2].fill(0);
-    }
-    Ok(section)
-}
-
 /// `recalculate_node_indices`. T-07: a renumbered island cell leaves the runs; the Rust goes on from the model's.
 pub fn renumber(ynd: &mut Ynd) {
     let mut cell = cell_of(ynd);
-    if !cell.is_island() { return ynd.recalculate_node_indices(); }
+    if BY_THE_DOCUMENTS || !cell.is_island() { return ynd.recalculate_node_indices(); }
     renumber::renumber(&mut cell, 65_536, ynd.nodes.len()).expect("room for all");
     *ynd = ynd_of(&cell);
 }
