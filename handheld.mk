@@ -21,7 +21,7 @@ HARD_HEADS = $(wildcard hard/*.h) include/bofrashem.h
 CORPUS = target/hard/corpus
 ROUNDS = target/hard/rounds
 INPUTS = -s samples/dock.section -s samples/hall.section -s samples/yard.section -v crates/vectors/stdin $(foreach f,$(wildcard $(CORPUS)/seed*),-i $(f)) $(foreach f,$(wildcard $(ROUNDS)/seed*),-r $(f))
-PROVED_CRATES = numbers records cells walks reach rounds paths sets set_rounds exports
+PROVED_CRATES = numbers records cells walks indexed reach rounds paths sets set_rounds exports
 # what a check makes lies in crates/NAME/out and is no source
 PROVED = $(shell find $(wildcard $(foreach c,$(PROVED_CRATES),$(addprefix crates/$(c)/,src specs proofs))) -name '*.rt' -o -name '*.antt')
 need = @command -v $(1) >/dev/null || { echo '$(1) is missing: apt-get install $(2)'; exit 1; }

@@ -58,6 +58,42 @@ void check_sound(const lent *m)
     unblock(sound, sizeof *sound);
 }
 
+/* A scratch as some other call may have left it, which leads to nodes that lack the number. */
+static void use_scratch(const lent *m, uint32_t *scratch)
+{
+    for (size_t i = 0; i < YND_SCRATCH; i++)
+        scratch[i] = (uint32_t)(i % (m->n + 1));
+}
+
+/* The walk by an index leaves all that ynd_walk left; a scratch of too few entries is refused before the visited
+ * list. */
+static void same_indexed(const lent *m, size_t start, const uint8_t *choices, size_t n, const uint32_t *list,
+    size_t room, const ynd_walk_end *how, size_t count, uint32_t number, size_t at)
+{
+    uint32_t *scratch = block(YND_SCRATCH * sizeof *scratch), *visited = block(room * sizeof *visited);
+    ynd_walk_end *end = block(sizeof *end);
+    size_t *got = block(sizeof *got), *place = block(sizeof *place);
+    bool before = number != 0 && at != YND_VISITED;
+    use_scratch(m, scratch);
+    uint32_t few = ynd_walk_indexed(
+        m->ynd, NODES(m), LINKS(m), start, choices, n, visited, room, scratch, YND_SCRATCH - 1, end, got, place);
+    CHECK(few == (before ? number : YND_LENT_TOO_SHORT) && *place == (before ? at : YND_SCRATCH_LIST));
+    CHECK(*got == KEPT_SIZE);
+    for (size_t i = 0; i < YND_SCRATCH; i++)
+        CHECK(scratch[i] == i % (m->n + 1));
+    uint32_t same = ynd_walk_indexed(
+        m->ynd, NODES(m), LINKS(m), start, choices, n, visited, room, scratch, YND_SCRATCH, end, got, place);
+    CHECK(answer(WALK_INDEXED, same, *place) == number && *place == at);
+    for (size_t i = 0; before && i < YND_SCRATCH; i++)
+        CHECK(scratch[i] == i % (m->n + 1));
+    CHECK(*got == count && memcmp(end, how, sizeof *how) == 0 && memcmp(visited, list, room * sizeof *list) == 0);
+    unblock(place, sizeof *place);
+    unblock(got, sizeof *got);
+    unblock(end, sizeof *end);
+    unblock(visited, room * sizeof *visited);
+    unblock(scratch, YND_SCRATCH * sizeof *scratch);
+}
+
 /* With a visited list of this length; returns the number. */
 static uint32_t walk_with(const lent *m, size_t start, const uint8_t *choices, size_t n, size_t room, const uint32_t *visited, size_t count, ynd_walk_end how)
 {
@@ -72,6 +108,7 @@ static uint32_t walk_with(const lent *m, size_t start, const uint8_t *choices, s
         CHECK(*got == count && memcmp(end, &how, sizeof how) == 0 && memcmp(list, visited, count * sizeof *list) == 0);
         CHECK(memcmp(list + count, old + count, (room - count) * sizeof *list) == 0);
     }
+    same_indexed(m, start, lent_choices, n, list, room, end, *got, number, *place);
     unblock(place, sizeof *place);
     unblock(got, sizeof *got);
     unblock(end, sizeof *end);

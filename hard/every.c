@@ -202,6 +202,7 @@ static void empty_lists(void)
     CHECK(ynd_write(ynd, NULL, 0, NULL, 0, NULL, 0, NULL, 0, NULL, 0, NULL, 0, n, place) == YND_LENT_TOO_SHORT && *place == YND_SECTION);
     CHECK(ynd_write_then_read(ynd, NULL, 0, NULL, 0, NULL, 0, NULL, 0, NULL, 0, section, 1152, n, place) == 0 && *n == 1152);
     CHECK(ynd_walk(ynd, NULL, 0, NULL, 0, 0, NULL, 0, NULL, 0, end, n, place) == YND_NO_SUCH_PLACE);
+    CHECK(ynd_walk_indexed(ynd, NULL, 0, NULL, 0, 0, NULL, 0, NULL, 0, NULL, 0, end, n, place) == YND_NO_SUCH_PLACE);
     CHECK(ynd_node(ynd, NULL, 0, 3, yes, at, place) == 0 && !*yes && *at == KEPT_SIZE);
     CHECK(ynd_junction_of(ynd, NULL, 0, NULL, 0, 1, 2, yes, at, place) == 0 && !*yes);
     CHECK(ynd_area_of_cell(ynd, NULL, 0, yes, area, place) == 0 && !*yes);

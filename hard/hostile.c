@@ -127,21 +127,25 @@ static void files(void)
     free(most);
 }
 
-/* The last node, numbered 0, has a link to itself, and every other stands before it. */
+/* The last node, numbered 0, has a link to itself, and every other stands before it. By an index where there is a
+ * scratch. */
 static void walk(const char *what, const ynd_cell *ynd, const ynd_node_entry *nodes, const ynd_link_entry *links,
-    size_t start)
+    size_t start, uint32_t *scratch)
 {
-    uint8_t *choices = memory(YND_CHOICES_MOST, 1);
-    uint32_t *visited = memory(YND_NODES_MOST, sizeof *visited);
+    enum { N = YND_NODES_MOST, C = YND_CHOICES_MOST };
+    uint8_t *choices = memory(C, 1);
+    uint32_t *visited = memory(N, sizeof *visited);
     ynd_walk_end end;
     size_t count, place;
-    memset(choices, 0, YND_CHOICES_MOST);
+    memset(choices, 0, C);
     clock_t begun = clock();
-    need(ynd_walk(ynd, nodes, YND_NODES_MOST, links, 1, start, choices, YND_CHOICES_MOST, visited, YND_NODES_MOST, &end,
-        &count, &place) == 0 && end.how == YND_DONE, "the walk");
+    uint32_t number = scratch
+        ? ynd_walk_indexed(ynd, nodes, N, links, 1, start, choices, C, visited, N, scratch, YND_SCRATCH, &end, &count,
+            &place)
+        : ynd_walk(ynd, nodes, N, links, 1, start, choices, C, visited, N, &end, &count, &place);
+    need(number == 0 && end.how == YND_DONE, "the walk");
     double taken = milliseconds(begun);
-    printf("%s: a walk of %d choices takes %.1f ms, %.0f ns a choice\n", what, YND_CHOICES_MOST, taken,
-        taken * 1e6 / YND_CHOICES_MOST);
+    printf("%s: a walk of %d choices takes %.1f ms, %.0f ns a choice\n", what, C, taken, taken * 1e6 / C);
     free(choices);
     free(visited);
 }
@@ -160,12 +164,13 @@ static void walks(ynd_node_entry *nodes)
     nodes[last].link_count = 1;
     ynd.node_count = YND_NODES_MOST;
     ynd.link_count = 1;
-    walk("65,536 nodes, numbers the other way round", &ynd, nodes, &back, last);
+    walk("65,536 nodes, numbers the other way round", &ynd, nodes, &back, last, NULL);
+    walk("the same, by an index", &ynd, nodes, &back, last, scratch);
     clock_t begun = clock();
     need(ynd_renumber(&ynd, nodes, YND_NODES_MOST, &back, 1, NULL, 0, NULL, 0, NULL, 0, scratch, YND_SCRATCH, places,
         YND_NODES_MOST, &place) == 0, "renumbering");
     printf("renumbered in %.1f ms\n", milliseconds(begun));
-    walk("the same, renumbered", &ynd, nodes, &back, places[last]);
+    walk("the same, renumbered", &ynd, nodes, &back, places[last], NULL);
     free(scratch);
     free(places);
 }

@@ -349,6 +349,17 @@ uint32_t ynd_walk(
     const ynd_link_entry *links, size_t links_len, size_t start, const uint8_t *choices, size_t choices_len,
     uint32_t *visited, size_t visited_len, ynd_walk_end *end, size_t *count, size_t *place);
 
+/* As ynd_walk, with a scratch by which the node with a number is found at once: for long walks in a cell that isn't
+ * renumbered. The scratch may hold anything afterwards, after 7 at 8 too; other refusals leave it as it was. Time:
+ * linear in n and in the choices, whatever the numbers. Refused, in this order: 13 no such place; 14 over a limit; 7
+ * at 0 and 1 where a list is shorter than its count; 7 at 6 where the scratch has under YND_SCRATCH entries; 7 at 8
+ * where `visited` is too short (choices_len + 1 entries always do). */
+uint32_t ynd_walk_indexed(
+    const ynd_cell *ynd, const ynd_node_entry *nodes, size_t nodes_len,
+    const ynd_link_entry *links, size_t links_len, size_t start, const uint8_t *choices, size_t choices_len,
+    uint32_t *visited, size_t visited_len, uint32_t *scratch, size_t scratch_len,
+    ynd_walk_end *end, size_t *count, size_t *place);
+
 /* Whether the cell is sound: all nodes have one area, their numbers differ, and each link and ref of the own area
  * names a node of the cell. The scratch then holds at each number the last place that has it. Time: linear in n,
  * the nodes' links and r. Refused, in this order: 14 over a limit; 7 at 0, 1 and 4 where a list is shorter than its

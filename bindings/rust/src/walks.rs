@@ -130,6 +130,33 @@ impl Cell {
         Ok(Walk::of(end, visited, n))
     }
 
+    /// The same walk, for long ones in a cell that isn't renumbered: an index of the numbers is made first, then each
+    /// choice takes what it takes in a renumbered cell. Refused: 13.
+    ///
+    /// ```
+    /// use bofrashem::{Cell, Link, Refusal};
+    /// let mut cell = Cell::new();
+    /// for x in 0..2 { cell.add_node(489, [x as f32, 0.0, 0.0])?; }
+    /// cell.add_link(0, Link::to(489, 1))?;
+    /// cell.add_link(1, Link::to(489, 0))?;
+    /// let choices = vec![0; 10_000];
+    /// assert_eq!(cell.walk_indexed(0, &choices)?, cell.walk(0, &choices)?);
+    /// assert_eq!(cell.walk_indexed(2, &choices), Err(Refusal::NoSuchPlace));
+    /// # Ok::<(), Refusal>(())
+    /// ```
+    pub fn walk_indexed(&self, start: usize, choices: &[u8]) -> Result<Walk, Refusal> {
+        let (mut visited, mut end, mut n) = (vec![0; choices.len() + 1], ffi::ynd_walk_end::default(), 0);
+        let mut scratch = vec![0; SCRATCH];
+        answered(|place| unsafe {
+            ffi::ynd_walk_indexed(
+                &self.words, self.nodes.as_ptr().cast(), self.nodes.len(), self.links.as_ptr().cast(),
+                self.links.len(), start, choices.as_ptr(), choices.len(), visited.as_mut_ptr(), visited.len(),
+                scratch.as_mut_ptr(), scratch.len(), &mut end, &mut n, place,
+            )
+        })?;
+        Ok(Walk::of(end, visited, n))
+    }
+
     /// Whether all nodes have one area, numbers differ, and each own link and own ref names a node of the cell.
     pub fn is_sound(&self) -> bool {
         let (mut scratch, mut sound) = (vec![0; SCRATCH], false);

@@ -74,13 +74,26 @@ node_from number link = node_bytes (record {
 })
 
 abbrev link_from : ℕ → List ℕ
-link_from number = link_bytes (record { area_id = 5; node_id = number; flags0 = 0; flags1 = 0; flags2 = 0;
-    link_length = 1 })
+link_from number = link_bytes (record {
+  area_id = 5;
+  node_id = number;
+  flags0 = 0;
+  flags1 = 0;
+  flags2 = 0;
+  link_length = 1;
+})
 
 -- its values are the heightmap bytes 1 to 4
 abbrev junction_block : List ℕ
-junction_block = junction_bytes (record { max_z = pos 3; position_x = pos 0; position_y = pos 0; min_z = pos 1;
-    heightmap_ptr = 1; heightmap_dim_x = 2; heightmap_dim_y = 2 })
+junction_block = junction_bytes (record {
+  max_z = pos 3;
+  position_x = pos 0;
+  position_y = pos 0;
+  min_z = pos 1;
+  heightmap_ptr = 1;
+  heightmap_dim_x = 2;
+  heightmap_dim_y = 2;
+})
 
 abbrev ref_block : List ℕ
 ref_block = ref_bytes (record { area_id = 5; node_id = 0; junction_id = 0; unk0 = 0 })
@@ -90,7 +103,7 @@ ref_block = ref_bytes (record { area_id = 5; node_id = 0; junction_id = 0; unk0 
 abbrev yard : ℕ → ℕ → ℕ → ℕ → ℕ → List ℕ
 yard pages first_count gap unused used =
     overwritten pages first_count (root_with 0x500000f4 1) ++ replicate 16 gap ++ node_from 0 0 ++ node_from 1 2
-        ++ link_from used ++ link_from unused ++ link_from 0 ++ junction_block ++ ref_block
+    ++ link_from used ++ link_from unused ++ link_from 0 ++ junction_block ++ ref_block
 
 -- the graphics section: a gap, six bytes of which the first and the last are in no junction's range, a gap
 abbrev heights : ℕ → ℕ → ℕ → List ℕ
@@ -181,8 +194,17 @@ all_agree = agree system graphics other_system_bytes other_graphics_bytes refl
 unfoldable pub room : Memory
 room =
     memory
-    (record { vft = 0; vehicle_node_count = 0; ped_node_count = 0; unknowns = []; node_count = 0; link_count = 0;
-        junction_count = 0; heightmap_count = 0; ref_count = 0 })
+    (record {
+      vft = 0;
+      vehicle_node_count = 0;
+      ped_node_count = 0;
+      unknowns = [];
+      node_count = 0;
+      link_count = 0;
+      junction_count = 0;
+      heightmap_count = 0;
+      ref_count = 0;
+    })
     ([] ∷ [] ∷ []) ([] ∷ [] ∷ []) ([] ∷ []) (0 ∷ 0 ∷ 0 ∷ 0 ∷ []) ([] ∷ [])
 
 pub accepted : (read_of system graphics room).answer ≡ (Ok tt)
@@ -206,7 +228,7 @@ values_read = refl
 abbrev bad_yard : ℕ → List ℕ
 bad_yard refs =
     root_with 0x500000f4 4 ++ replicate 16 0 ++ node_from 0 0 ++ node_from 1 2 ++ link_from 1 ++ link_from 1
-        ++ link_from 0 ++ junction_block ++ replicate 8 refs
+    ++ link_from 0 ++ junction_block ++ replicate 8 refs
 
 unfoldable pub bad_system : List ℕ
 bad_system = bad_yard 0
@@ -231,7 +253,7 @@ bad_refused = refl
 abbrev empty_yard : ℕ → ℕ → ℕ → List ℕ
 empty_yard address count refs =
     root_with address count ++ replicate 16 0 ++ node_from 0 0 ++ node_from 1 2 ++ link_from 1 ++ link_from 1
-        ++ link_from 0 ++ junction_block ++ replicate 8 refs
+    ++ link_from 0 ++ junction_block ++ replicate 8 refs
 
 unfoldable pub no_address : List ℕ
 no_address = empty_yard 0 1 0
@@ -346,8 +368,15 @@ root_over pages =
       junction_count = 1;
       heightmap_count = 16;
       unknowns = [];
-    })) ++ junction_bytes (record { max_z = pos 3; position_x = pos 0; position_y = pos 0; min_z = pos 1;
-        heightmap_ptr = 4; heightmap_dim_x = 2; heightmap_dim_y = 2 })
+    })) ++ junction_bytes (record {
+      max_z = pos 3;
+      position_x = pos 0;
+      position_y = pos 0;
+      min_z = pos 1;
+      heightmap_ptr = 4;
+      heightmap_dim_x = 2;
+      heightmap_dim_y = 2;
+    })
 
 unfoldable pub over_root : List ℕ
 over_root = root_over 1

@@ -50,7 +50,7 @@ has_root : (s g : ℕ) → 0 < s → sizes_check s g ≡ (Ok tt) → 112 ≤ s
 unfolding sizes_check
 has_root s g h e =
     let one = if_done_law (ltb 16777216 s) SystemTooLong
-        (refuse_if (ltb 16777216 g) GraphicsTooLong (refuse_if (too_few s) SystemTooShort (Ok tt))) e in
+    (refuse_if (ltb 16777216 g) GraphicsTooLong (refuse_if (too_few s) SystemTooShort (Ok tt))) e in
     let two = if_done_law (ltb 16777216 g) GraphicsTooLong (refuse_if (too_few s) SystemTooShort (Ok tt)) one.1 in
     not_none s h (if_done_law (too_few s) SystemTooShort (Ok tt) two.1).0
 
@@ -105,8 +105,14 @@ all n l j h r = at (Some n) (Some l) (Some j) (Some h) (Some r)
 
 -- some array is bad, or none is
 found_cases : (P : Places → Result lie.Arrays Refusal → Type 0) → ((p : Places) (cause : Refusal) → P p (Err cause))
-    → ((n l j h r : Part) → P (all n l j h r) (Ok (record { nodes = n; links = l; junctions = j; heights = h; refs =
-        r }))) → (p : Places) → P p (found_at p)
+    → ((n l j h r : Part) → P (all n l j h r) (Ok (record {
+      nodes = n;
+      links = l;
+      junctions = j;
+      heights = h;
+      refs =
+          r;
+    }))) → (p : Places) → P p (found_at p)
 found_cases P bad none p = go p.nodes p.links p.junctions p.heights p.refs
   where
     go : (a b c d f : Option Part) → P (at a b c d f) (found_at (at a b c d f))
@@ -147,28 +153,28 @@ module _ (s g s' g' : List ℕ) (es : length s ≡ length s') (eg : length g ≡
       → if_found (found_at p) m (reading root m s g) ≡ if_found (found_at p) m (reading root m s' g')
   found_read root m =
       found_cases (λ p f. SameArrays (bytes_at p s g) (bytes_at p s' g') → if_found f m (reading root m s g)
-          ≡ if_found f m (reading root m s' g'))
+      ≡ if_found f m (reading root m s' g'))
       (λ p cause e. refl)
       (λ n l j h r e. arrays_same (bytes_at (all n l j h r) s g) (bytes_at (all n l j h r) s' g')
-          (alike (all n l j h r)) e root m)
+      (alike (all n l j h r)) e root m)
 
   pub found_answer_law : (root : Root) (m : Memory) (p : Places) → SameRanges (bytes_at p s g) (bytes_at p s' g')
       → (if_found (found_at p) m (reading root m s g)).answer ≡ (if_found (found_at p) m (reading root m s' g')).answer
   found_answer_law root m =
       found_cases (λ p f. SameRanges (bytes_at p s g) (bytes_at p s' g')
-          → (if_found f m (reading root m s g)).answer ≡ (if_found f m (reading root m s' g')).answer)
+      → (if_found f m (reading root m s g)).answer ≡ (if_found f m (reading root m s' g')).answer)
       (λ p cause e. refl)
       (λ n l j h r e. answer_same (bytes_at (all n l j h r) s g) (bytes_at (all n l j h r) s' g')
-          (alike (all n l j h r)) e root m)
+      (alike (all n l j h r)) e root m)
 
   pub found_count : (p : Places) → SameRanges (bytes_at p s g) (bytes_at p s' g')
       → and_then (found_at p) (counting s g) ≡ and_then (found_at p) (counting s' g')
   found_count =
       found_cases (λ p f. SameRanges (bytes_at p s g) (bytes_at p s' g') → and_then f (counting s g)
-          ≡ and_then f (counting s' g'))
+      ≡ and_then f (counting s' g'))
       (λ p cause e. refl)
       (λ n l j h r e. check_same (bytes_at (all n l j h r) s g) (bytes_at (all n l j h r) s' g')
-          (alike (all n l j h r)) e)
+      (alike (all n l j h r)) e)
 
 -- ---- the whole, by the root
 
@@ -204,7 +210,7 @@ module _ (s g s' g' : List ℕ) (es : length s ≡ length s') (eg : length g ≡
     where
       sizes : (c : Answer) → sizes_check (length s) (length g) ≡ c
           → unless c m (if_found (found_at places) m (reading (root_read s) m s g))
-              ≡ unless c m (if_found (found_at places) m (reading (root_read s) m s' g'))
+          ≡ unless c m (if_found (found_at places) m (reading (root_read s) m s' g'))
       sizes (Err cause) e = refl
       sizes (Ok tt) e = found_read s g s' g' es eg (root_read s) m places
           (by_root SameArrays (same (has_root (length s) (length g) drawn e)))
@@ -216,11 +222,11 @@ module _ (s g s' g' : List ℕ) (es : length s ≡ length s') (eg : length g ≡
   answers_by same m =
       sizes (sizes_check (length s) (length g)) refl
       ∙ (λ i. (unless (sizes_check (es i) (eg i)) m
-          (if_found (found_at (places_same i)) m (reading (roots i) m s' g'))).answer)
+      (if_found (found_at (places_same i)) m (reading (roots i) m s' g'))).answer)
     where
       sizes : (c : Answer) → sizes_check (length s) (length g) ≡ c
           → (unless c m (if_found (found_at places) m (reading (root_read s) m s g))).answer
-              ≡ (unless c m (if_found (found_at places) m (reading (root_read s) m s' g'))).answer
+          ≡ (unless c m (if_found (found_at places) m (reading (root_read s) m s' g'))).answer
       sizes (Err cause) e = refl
       sizes (Ok tt) e = found_answer_law s g s' g' es eg (root_read s) m places
           (by_root SameRanges (same (has_root (length s) (length g) drawn e)))
@@ -233,7 +239,7 @@ module _ (s g s' g' : List ℕ) (es : length s ≡ length s') (eg : length g ≡
       (λ i. unless (sizes_check (length s) (length g)) m (if_found (e i) m (reading (root_read s) m s g)))
       ∙ (λ i. unless (sizes_check (length s) (length g)) m (if_found (sym e i) m (reading (root_read s) m s' g')))
       ∙ (λ i. unless (sizes_check (es i) (eg i)) m
-          (if_found (arrays_found (roots i) (es i) (eg i)) m (reading (roots i) m s' g')))
+      (if_found (arrays_found (roots i) (es i) (eg i)) m (reading (roots i) m s' g')))
 
   pub counts_by : (112 ≤ length s → SameRanges (arrays_of s g) (arrays_of s' g')) → count_of s g ≡ count_of s' g'
   unfolding count_of arrays_found
@@ -243,7 +249,7 @@ module _ (s g s' g' : List ℕ) (es : length s ≡ length s') (eg : length g ≡
     where
       sizes : (c : Answer) → sizes_check (length s) (length g) ≡ c
           → numbers.unless c (and_then (found_at places) (counting s g))
-              ≡ numbers.unless c (and_then (found_at places) (counting s' g'))
+          ≡ numbers.unless c (and_then (found_at places) (counting s' g'))
       sizes (Err cause) e = refl
       sizes (Ok tt) e = found_count s g s' g' es eg places
           (by_root SameRanges (same (has_root (length s) (length g) drawn e)))

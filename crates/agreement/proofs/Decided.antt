@@ -38,12 +38,12 @@ some_at f n k h t = (Decides-below_or f (λ q. f q ≡ true) (some f) (λ q. ((�
 abbrev pub in_node : List ℕ → ℕ → Bool
 in_node n k =
     some (λ i. leb (node_at n (i * 40)).link_id k && ltb k ((node_at n (i * 40)).link_id + links_at n i))
-        (length n / 40)
+    (length n / 40)
 
 abbrev pub in_junction : List ℕ → ℕ → Bool
 in_junction j k =
     some (λ i. leb (junction_at j (i * 12)).heightmap_ptr k
-        && ltb k ((junction_at j (i * 12)).heightmap_ptr + values_at j i)) (length j / 12)
+    && ltb k ((junction_at j (i * 12)).heightmap_ptr + values_at j i)) (length j / 12)
 
 -- the same bytes at the places that count, of the first so many
 abbrev pub same : (ℕ → Bool) → ℕ → List ℕ → List ℕ → Bool
@@ -69,18 +69,18 @@ same_at : (counts : ℕ → Bool) (n : ℕ) (a b : List ℕ) → same counts n a
     → byte_at a k ≡ byte_at b k
 same_at counts n a b t k h c =
     eqb-true _ _ (imply (counts k) _ (agree_below_at (λ q. implied (counts q) (eqb (byte_at a q) (byte_at b q)))
-        (λ _. true) n k t h) c)
+    (λ _. true) n k t h) c)
 
 in_node_law : (n : List ℕ) (k : ℕ) → InSomeNode n k → in_node n k ≡ true
 in_node_law n k h =
     some_at (λ q. leb (node_at n (q * 40)).link_id k && ltb k ((node_at n (q * 40)).link_id + links_at n q))
-        (length n / 40) h.node h.is_node
+    (length n / 40) h.node h.is_node
     (and_from _ _ (le-leb _ _ h.from) (lt-ltb _ _ h.before))
 
 in_junction_law : (j : List ℕ) (k : ℕ) → InSomeJunction j k → in_junction j k ≡ true
 in_junction_law j k h =
     some_at (λ q. leb (junction_at j (q * 12)).heightmap_ptr k
-        && ltb k ((junction_at j (q * 12)).heightmap_ptr + values_at j q))
+    && ltb k ((junction_at j (q * 12)).heightmap_ptr + values_at j q))
     (length j / 12) h.junction h.is_junction
     (and_from _ _ (le-leb _ _ h.from) (lt-ltb _ _ h.before))
 

@@ -29,44 +29,64 @@ module _ (a b : Arrays) (long : Alike a b) (same : SameArrays a b) where
   in_node_on : (k : ℕ) → InSomeNode a.nodes k → InSomeNode b.nodes k
   in_node_on k h =
       let e : link_id (node_at a.nodes) h.node
-          ≡ link_id (node_at b.nodes) h.node = λ q. link_id (raw_nodes a b long (ranges_of a b same) q) h.node in
+      ≡ link_id (node_at b.nodes) h.node = λ q. link_id (raw_nodes a b long (ranges_of a b same) q) h.node in
       let c : link_count (node_at a.nodes) h.node
-          ≡ link_count (node_at b.nodes) h.node = λ q. link_count (raw_nodes a b long (ranges_of a b same) q)
-          h.node in
-      record { node = h.node; is_node = omega (arith, long.nodes, h.is_node); from = omega (arith, h.from); before =
-          omega (arith, h.before) }
+      ≡ link_count (node_at b.nodes) h.node = λ q. link_count (raw_nodes a b long (ranges_of a b same) q)
+      h.node in
+      record {
+        node = h.node;
+        is_node = omega (arith, long.nodes, h.is_node);
+        from = omega (arith, h.from);
+        before =
+            omega (arith, h.before);
+      }
 
   in_node_back : (k : ℕ) → InSomeNode b.nodes k → InSomeNode a.nodes k
   in_node_back k h =
       let e : link_id (node_at a.nodes) h.node
-          ≡ link_id (node_at b.nodes) h.node = λ q. link_id (raw_nodes a b long (ranges_of a b same) q) h.node in
+      ≡ link_id (node_at b.nodes) h.node = λ q. link_id (raw_nodes a b long (ranges_of a b same) q) h.node in
       let c : link_count (node_at a.nodes) h.node
-          ≡ link_count (node_at b.nodes) h.node = λ q. link_count (raw_nodes a b long (ranges_of a b same) q)
-          h.node in
-      record { node = h.node; is_node = omega (arith, long.nodes, h.is_node); from = omega (arith, h.from); before =
-          omega (arith, h.before) }
+      ≡ link_count (node_at b.nodes) h.node = λ q. link_count (raw_nodes a b long (ranges_of a b same) q)
+      h.node in
+      record {
+        node = h.node;
+        is_node = omega (arith, long.nodes, h.is_node);
+        from = omega (arith, h.from);
+        before =
+            omega (arith, h.before);
+      }
 
   in_junction_on : (k : ℕ) → InSomeJunction a.junctions k → InSomeJunction b.junctions k
   in_junction_on k h =
       let e : value_from (junction_at a.junctions) h.junction
-          ≡ value_from (junction_at b.junctions) h.junction = λ q. value_from
-          (raw_junctions a b long (ranges_of a b same) q) h.junction in
+      ≡ value_from (junction_at b.junctions) h.junction = λ q. value_from
+      (raw_junctions a b long (ranges_of a b same) q) h.junction in
       let c : value_count (junction_at a.junctions) h.junction
-          ≡ value_count (junction_at b.junctions) h.junction = λ q. value_count
-          (raw_junctions a b long (ranges_of a b same) q) h.junction in
-      record { junction = h.junction; is_junction = omega (arith, long.junctions, h.is_junction); from = omega
-          (arith, h.from); before = omega (arith, h.before) }
+      ≡ value_count (junction_at b.junctions) h.junction = λ q. value_count
+      (raw_junctions a b long (ranges_of a b same) q) h.junction in
+      record {
+        junction = h.junction;
+        is_junction = omega (arith, long.junctions, h.is_junction);
+        from = omega
+            (arith, h.from);
+        before = omega (arith, h.before);
+      }
 
   in_junction_back : (k : ℕ) → InSomeJunction b.junctions k → InSomeJunction a.junctions k
   in_junction_back k h =
       let e : value_from (junction_at a.junctions) h.junction
-          ≡ value_from (junction_at b.junctions) h.junction = λ q. value_from
-          (raw_junctions a b long (ranges_of a b same) q) h.junction in
+      ≡ value_from (junction_at b.junctions) h.junction = λ q. value_from
+      (raw_junctions a b long (ranges_of a b same) q) h.junction in
       let c : value_count (junction_at a.junctions) h.junction
-          ≡ value_count (junction_at b.junctions) h.junction = λ q. value_count
-          (raw_junctions a b long (ranges_of a b same) q) h.junction in
-      record { junction = h.junction; is_junction = omega (arith, long.junctions, h.is_junction); from = omega
-          (arith, h.from); before = omega (arith, h.before) }
+      ≡ value_count (junction_at b.junctions) h.junction = λ q. value_count
+      (raw_junctions a b long (ranges_of a b same) q) h.junction in
+      record {
+        junction = h.junction;
+        is_junction = omega (arith, long.junctions, h.is_junction);
+        from = omega
+            (arith, h.from);
+        before = omega (arith, h.before);
+      }
 
   arrays_back : SameArrays b a
   arrays_back = record {
@@ -92,8 +112,14 @@ agree_self s g some = record {
   same_graphics = refl;
   not_empty = some;
   same_root = λ k h inside c. refl;
-  same_arrays = λ root. record { nodes = λ k h. refl; links = λ k h c. refl; junctions = λ k h. refl; heights = λ k
-      h c. refl; refs = λ k h. refl };
+  same_arrays = λ root. record {
+    nodes = λ k h. refl;
+    links = λ k h c. refl;
+    junctions = λ k h. refl;
+    heights = λ k
+        h c. refl;
+    refs = λ k h. refl;
+  };
 }
 
 pub agree_back : (s g s' g' : List ℕ) → Agree s g s' g' → Agree s' g' s g
@@ -114,5 +140,5 @@ agree_through s g s' g' t f h next = record {
   same_root = λ k low inside c. h.same_root k low inside c ∙ next.same_root k low (omega (arith, h.same_system)) c;
   same_arrays = λ root.
       arrays_through (arrays_of s g) (arrays_of s' g') (agree_alike s g s' g' h) (h.same_arrays root)
-          (arrays_of t f) (next.same_arrays (omega (arith, h.same_system)));
+      (arrays_of t f) (next.same_arrays (omega (arith, h.same_system)));
 }

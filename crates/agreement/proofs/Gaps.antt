@@ -53,7 +53,7 @@ module _ (s g : List ℕ) (k x : ℕ) (some : 0 < length s) where
   pub system_gap : 112 ≤ k → Gap System k (places_by (root_read s) (length s) (length g)) → Agree s g (set s k x) g
   system_gap behind out =
       agree_in_place s g (set s k x) g (sym (length-set s k x)) refl some
-          (λ i low inside c. other_byte s k x i (λ e. omega arith))
+      (λ i low inside c. other_byte s k x i (λ e. omega arith))
       (record {
         nodes = in_system _ _ out.nodes;
         links = in_system _ _ out.links;

@@ -74,9 +74,9 @@ located_inside address count width s g =
     (pick_only s g (eqb count 0) (Some empty_part) high (empty_only s g)
     (pick_only s g (leb 0x1_0000_0000 address) None inSystem (bad_only s g)
     (pick_only s g (eqb (bit_and address 0xF000_0000) 0x5000_0000) (inside_of System o n s) inGraphics
-        (inside_only s g System o n)
+    (inside_only s g System o n)
     (pick_only s g (eqb (bit_and address 0xF000_0000) 0x6000_0000) (inside_of Graphics o n g) None
-        (inside_only s g Graphics o n) (bad_only s g)))))
+    (inside_only s g Graphics o n) (bad_only s g)))))
 
 section_long : (k : Section) (s g : List ℕ) → length (section_of k s g) ≡ size_of k (length s) (length g)
 section_long System s g = refl
@@ -93,20 +93,25 @@ module _ (address count width : ℕ) (s g : List ℕ) (p : Part)
   array_is =
       (λ i. part_bytes (here i) s g)
       ∙ ap (λ (b : Bool). cond b (take p.len (drop p.offset (section_of p.section s g))) [])
-          (le-leb (p.offset + p.len) (length (section_of p.section s g)) inside)
+      (le-leb (p.offset + p.len) (length (section_of p.section s g)) inside)
 
   pub array_long : length (array_at address count width s g) ≡ p.len
   array_long =
       ap length array_is
-      ∙ omega (arith, inside, length-take p.len (drop p.offset (section_of p.section s g)), length-drop p.offset
-          (section_of p.section s g))
+      ∙ omega (
+        arith,
+        inside,
+        length-take p.len (drop p.offset (section_of p.section s g)),
+        length-drop p.offset
+            (section_of p.section s g),
+      )
 
   pub array_byte : (k : ℕ) → k < p.len → byte_at (array_at address count width s g) k
       ≡ byte_at (section_of p.section s g) (p.offset + k)
   array_byte k h =
       ap (λ (l : List ℕ). byte_at l k) array_is
       ∙ ap (λ (x : ℕ). x % 256) (get_or-take p.len (drop p.offset (section_of p.section s g)) k 0 h
-          ∙ get_or-drop p.offset (section_of p.section s g) k 0)
+      ∙ get_or-drop p.offset (section_of p.section s g) k 0)
 
 -- a bad array has no bytes
 pub array_bad : (address count width : ℕ) (s g : List ℕ) → located address count width (length s) (length g) ≡ None
@@ -120,7 +125,7 @@ array_bad address count width s g e = λ i. part_bytes (e i) s g
 abbrev pub SameAt : Option Part → (ℕ → Type 0) → List ℕ → List ℕ → List ℕ → List ℕ → Type 0
 SameAt l counts s g s' g' =
     (p : Part) → l ≡ Some p → (k : ℕ) → k < p.len → counts k → byte_at (section_of p.section s g) (p.offset + k)
-        ≡ byte_at (section_of p.section s' g') (p.offset + k)
+    ≡ byte_at (section_of p.section s' g') (p.offset + k)
 
 pub record SamePlaces (s g s' g' : List ℕ) (p : Places) (a : Arrays) : Type 0 where
   pub nodes : SameAt p.nodes (λ k. Unit {0}) s g s' g'
@@ -133,7 +138,7 @@ module _ (s g s' g' : List ℕ) (es : length s ≡ length s') (eg : length g ≡
   array_agrees : (address count width : ℕ) (counts : ℕ → Type 0)
       → SameAt (located address count width (length s) (length g)) counts s g s' g'
       → (k : ℕ) → k < length (array_at address count width s g) → counts k
-          → byte_at (array_at address count width s g) k ≡ byte_at (array_at address count width s' g') k
+      → byte_at (array_at address count width s g) k ≡ byte_at (array_at address count width s' g') k
   array_agrees address count width counts same k h c = go (located address count width (length s) (length g)) refl
     where
       go : (l : Option Part) → located address count width (length s) (length g) ≡ l
@@ -141,10 +146,10 @@ module _ (s g s' g' : List ℕ) (es : length s ≡ length s') (eg : length g ≡
       go None e = absurd (omega (arith, ap length (array_bad address count width s g e)))
       go (Some p) e =
           let e' : located address count width (length s') (length g')
-              ≡ Some p = (λ i. located address count width (sym es i) (sym eg i)) ∙ e in
+          ≡ Some p = (λ i. located address count width (sym es i) (sym eg i)) ∙ e in
           let lt : k < p.len = omega (arith, array_long address count width s g p e) in
           array_byte address count width s g p e k lt ∙ same p e k lt c
-              ∙ sym (array_byte address count width s' g' p e' k lt)
+          ∙ sym (array_byte address count width s' g' p e' k lt)
 
   -- equal lengths, the same root bytes, and the same bytes where the arrays lie: the sections agree
   pub agree_in_place : 0 < length s → ((k : ℕ) → k < 112 → k < length s → left_out k ≡ false → byte_at s k

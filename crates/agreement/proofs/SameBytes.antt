@@ -34,7 +34,7 @@ unfolding number_at
 number_same zero a b at h = refl
 number_same (suc w) a b at h =
     λ i. h at (omega arith) (omega arith) i
-        + 256 * number_same w a b (at + 1) (λ k low high. h k (omega arith) (omega arith)) i
+    + 256 * number_same w a b (at + 1) (λ k low high. h k (omega arith) (omega arith)) i
 
 -- a record
 pub link_same : (a b : List ℕ) (at : ℕ) → ((k : ℕ) → at ≤ k → k < at + 8 → byte_at a k ≡ byte_at b k) → link_at a at
@@ -90,8 +90,13 @@ module _ (a b : List ℕ) (h : (k : ℕ) → byte_at a k ≡ byte_at b k) where
 
   pub ref_same : (at : ℕ) → ref_at a at ≡ ref_at b at
   unfolding ref_at
-  ref_same at = λ i. record { area_id = number 2 at i; node_id = number 2 (at + 2) i; junction_id = number 2
-      (at + 4) i; unk0 = number 2 (at + 6) i }
+  ref_same at = λ i. record {
+    area_id = number 2 at i;
+    node_id = number 2 (at + 2) i;
+    junction_id = number 2
+        (at + 4) i;
+    unk0 = number 2 (at + 6) i;
+  }
 
 -- ---- a part of two sections of equal length is equally long
 

@@ -69,13 +69,13 @@ module _ (a b : Arrays) (long : Alike a b) (same : SameRanges a b) where
   check_same = λ q.
       let links : ℕ → ℕ = λ i. (raw_nodes q (i * 40)).link_count_flags / 8 in
       let values : ℕ → ℕ = λ i. (raw_junctions q (i * 12)).heightmap_dim_x *
-          (raw_junctions q (i * 12)).heightmap_dim_y in
+      (raw_junctions q (i * 12)).heightmap_dim_y in
       refuse_if (ltb 65536 (long.nodes q / 40)) TooManyNodes
       (refuse_if (ltb 4096 (long.junctions q / 12)) TooManyJunctions
       (numbers.unless (scan LinksOutside (λ i. ltb (long.links q / 8) ((raw_nodes q (i * 40)).link_id + links i)) 0
-          (long.nodes q / 40))
+      (long.nodes q / 40))
       (numbers.unless (scan ValuesOutside
-          (λ i. ltb (long.heights q) ((raw_junctions q (i * 12)).heightmap_ptr + values i)) 0 (long.junctions q / 12))
+      (λ i. ltb (long.heights q) ((raw_junctions q (i * 12)).heightmap_ptr + values i)) 0 (long.junctions q / 12))
       (Ok (record {
         nodes = long.nodes q / 40;
         links = sum_to links (long.nodes q / 40);
@@ -86,7 +86,7 @@ module _ (a b : Arrays) (long : Alike a b) (same : SameRanges a b) where
 
   pub answer_same : (root : Root) (m : Memory)
       → (read_arrays root a.nodes a.links a.junctions a.heights a.refs m).answer
-          ≡ (read_arrays root b.nodes b.links b.junctions b.heights b.refs m).answer
+      ≡ (read_arrays root b.nodes b.links b.junctions b.heights b.refs m).answer
   unfolding read_arrays
   answer_same root m = go (arrays_check a.nodes a.links a.junctions a.heights a.refs)
       ∙ ap (λ (c : Result Counts Refusal). (if_held c m (next b)).answer) check_same
@@ -94,7 +94,7 @@ module _ (a b : Arrays) (long : Alike a b) (same : SameRanges a b) where
       next : Arrays → Counts → Left
       next x k =
           unless (room_check k (length m.nodes) (length m.links) (length m.junctions) (length m.heights)
-              (length m.refs)) m
+          (length m.refs)) m
           (record { answer = (Ok tt); memory = filled root k x.nodes x.links x.junctions x.heights x.refs m })
 
       room : (c : Answer) (x y : Memory) → (unless c m (record { answer = (Ok tt); memory = x })).answer
@@ -128,17 +128,21 @@ module _ (a b : Arrays) (long : Alike a b) (same : SameArrays a b) where
   raw_link i k lt few = link_same a.links b.links ((from i + k) * 8) (λ q low high.
       let place : q / 8 ≡ from i + k = omega arith in
       anywhere a.links b.links long.links q
-          (λ inside. same.links q inside (record { node = i; is_node = lt; from = omega arith; before = omega arith
-          })))
+      (λ inside. same.links q inside (record {
+        node = i;
+        is_node = lt;
+        from = omega arith;
+        before = omega arith;
+      })))
 
   node_links : (i : ℕ) → i < length a.nodes / 40 → links_in a.nodes a.links i ≡ links_in b.nodes b.links i
   unfolding links_in links_from
   node_links i lt =
       up_to_same (λ k. link_words (path_link (link_at a.links ((from i + k) * 8))))
-          (λ k. link_words (path_link (link_at b.links ((from i + k) * 8)))) (links_at a.nodes i)
+      (λ k. link_words (path_link (link_at b.links ((from i + k) * 8)))) (links_at a.nodes i)
       (λ k few. λ q. link_words (path_link (raw_link i k lt few q)))
       ∙ (λ q. up_to (λ k. link_words (path_link (link_at b.links (((ns q (i * 40)).link_id + k) * 8))))
-          ((ns q (i * 40)).link_count_flags / 8))
+      ((ns q (i * 40)).link_count_flags / 8))
 
   abbrev first : ℕ → ℕ
   first i = (junction_at a.junctions (i * 12)).heightmap_ptr
@@ -154,9 +158,9 @@ module _ (a b : Arrays) (long : Alike a b) (same : SameArrays a b) where
   unfolding values_in values_from
   junction_values_law i lt =
       up_to_same (λ k. byte_at a.heights (first i + k)) (λ k. byte_at b.heights (first i + k))
-          (values_at a.junctions i) (λ k few. raw_value i k lt few)
+      (values_at a.junctions i) (λ k few. raw_value i k lt few)
       ∙ (λ q. up_to (λ k. byte_at b.heights ((js q (i * 12)).heightmap_ptr + k))
-          ((js q (i * 12)).heightmap_dim_x * (js q (i * 12)).heightmap_dim_y))
+      ((js q (i * 12)).heightmap_dim_x * (js q (i * 12)).heightmap_dim_y))
 
   -- what is stored
   abbrev counts : Counts
@@ -164,7 +168,7 @@ module _ (a b : Arrays) (long : Alike a b) (same : SameArrays a b) where
 
   pub filled_same : (root : Root) (m : Memory)
       → filled root counts a.nodes a.links a.junctions a.heights a.refs m
-          ≡ filled root counts b.nodes b.links b.junctions b.heights b.refs m
+      ≡ filled root counts b.nodes b.links b.junctions b.heights b.refs m
   unfolding filled node_in junction_in ref_in
   filled_same root m =
       let c = counts in
@@ -172,18 +176,18 @@ module _ (a b : Arrays) (long : Alike a b) (same : SameArrays a b) where
       memory
       (cell_read root c)
       (up_to (λ i. node_words (path_node (ns q (i * 40)) (sum_to (λ p. (ns q (p * 40)).link_count_flags / 8) i)))
-          c.nodes ++ drop c.nodes m.nodes)
+      c.nodes ++ drop c.nodes m.nodes)
       (join_to_same (links_in a.nodes a.links) (links_in b.nodes b.links) c.nodes node_links q ++ drop c.links m.links)
       (up_to (λ i. junction_words (path_junction (js q (i * 12)) (sum_to
-          (λ p. (js q (p * 12)).heightmap_dim_x * (js q (p * 12)).heightmap_dim_y) i))) c.junctions
+      (λ p. (js q (p * 12)).heightmap_dim_x * (js q (p * 12)).heightmap_dim_y) i))) c.junctions
       ++ drop c.junctions m.junctions)
       (join_to_same (values_in a.junctions a.heights) (values_in b.junctions b.heights) c.junctions
-          junction_values_law q ++ drop c.heights m.heights)
+      junction_values_law q ++ drop c.heights m.heights)
       (up_to (λ i. ref_words (raw_refs q (i * 8))) c.refs ++ drop c.refs m.refs)
 
   pub arrays_same : (root : Root) (m : Memory)
       → read_arrays root a.nodes a.links a.junctions a.heights a.refs m
-          ≡ read_arrays root b.nodes b.links b.junctions b.heights b.refs m
+      ≡ read_arrays root b.nodes b.links b.junctions b.heights b.refs m
   unfolding read_arrays
   arrays_same root m = go (arrays_check a.nodes a.links a.junctions a.heights a.refs) refl
       ∙ ap (λ (c : Result Counts Refusal). if_held c m (next b)) (check_same a b long (ranges_of a b same))
@@ -192,13 +196,16 @@ module _ (a b : Arrays) (long : Alike a b) (same : SameArrays a b) where
       room k = room_check k (length m.nodes) (length m.links) (length m.junctions) (length m.heights) (length m.refs)
 
       next : Arrays → Counts → Left
-      next x k = unless (room k) m (record { answer = (Ok tt); memory = filled root k x.nodes x.links x.junctions
-          x.heights x.refs m })
+      next x k = unless (room k) m (record {
+        answer = (Ok tt);
+        memory = filled root k x.nodes x.links x.junctions
+            x.heights x.refs m;
+      })
 
       go : (c : Result Counts Refusal) → arrays_check a.nodes a.links a.junctions a.heights a.refs ≡ c
           → if_held c m (next a) ≡ if_held c m (next b)
       go (Err cause) e = refl
       go (Ok k) e =
           subst (λ (x : Counts). next a x ≡ next b x)
-              (sym (holds a.nodes a.links a.junctions a.heights a.refs k e).counts)
+          (sym (holds a.nodes a.links a.junctions a.heights a.refs k e).counts)
           (λ q. unless (room counts) m (record { answer = (Ok tt); memory = filled_same root m q }))

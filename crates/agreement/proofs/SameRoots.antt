@@ -17,7 +17,7 @@ counts_from : (first n : ℕ) → agree_below (λ k. left_out (first + k)) (λ _
 counts_from first n t k low high =
     let e : first + (k - first) ≡ k = omega arith in
     subst (λ (x : ℕ). left_out x ≡ false) e
-        (agree_below_at (λ q. left_out (first + q)) (λ _. false) n (k - first) t (omega arith))
+    (agree_below_at (λ q. left_out (first + q)) (λ _. false) n (k - first) t (omega arith))
 
 start_counts : (k : ℕ) → k < 4 → left_out k ≡ false
 start_counts k h = counts_from 0 4 refl k (omega arith) (omega arith)
@@ -55,7 +55,7 @@ module _ (s s' : List ℕ) (h : (k : ℕ) → k < 112 → left_out k ≡ false �
     heightmap_count = last 4 100 (omega arith) (omega arith) i;
     unknowns =
         middle 4 36 (omega arith) (omega arith) i ∷ middle 4 52 (omega arith) (omega arith) i
-            ∷ middle 4 72 (omega arith) (omega arith) i ∷ middle 4 76 (omega arith) (omega arith) i
+        ∷ middle 4 72 (omega arith) (omega arith) i ∷ middle 4 76 (omega arith) (omega arith) i
         ∷ last 4 92 (omega arith) (omega arith) i ∷ last 4 104 (omega arith) (omega arith) i
-            ∷ last 4 108 (omega arith) (omega arith) i ∷ [];
+        ∷ last 4 108 (omega arith) (omega arith) i ∷ [];
   }

@@ -1,4 +1,5 @@
 -- Stores and adds in memory are stores and adds in the cell.
+pub mod Conditions
 pub mod EditLaws
 pub mod AddLaws
 pub mod Inserted

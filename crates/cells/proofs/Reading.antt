@@ -1,5 +1,6 @@
 -- What reading leaves is the cell that document 01 defines.
 pub mod ReadLaws
+pub mod Whole
 pub mod FileRead
 pub mod Fits
 pub mod NewYnd

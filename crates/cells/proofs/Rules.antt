@@ -20,7 +20,10 @@ use borrow.Author.Tests.{lt-ltb, le-ltb, le-leb, leb-false, eq-eqb, ne_eqb}
 use Rattle.numbers.proofs.Refusing.{tested}
 use Rattle.cells.proofs.Sequences.Filled.{mapped_turn, fill_all}
 use Rattle.cells.proofs.Reading.ReadLaws.{holds, nodes_few, junctions_few, refs_few}
-use Rattle.cells.proofs.Reading.ReadLaws.{links_fit_word, heights_fit_word, scan_start, scan_hit, scan_on, scan_end, sum_next, sum_room, fill_turn, join_turn, small, part_short}
+use Rattle.cells.proofs.Reading.ReadLaws.{links_fit_word, heights_fit_word, scan_start, scan_hit, scan_on, scan_end}
+use Rattle.cells.proofs.Reading.ReadLaws.{sum_next, sum_room, fill_turn, join_turn, small, part_short}
+use Rattle.cells.proofs.Reading.Whole.{node_range_inside, junction_range_inside}
+use Rattle.cells.proofs.Reading.Whole.{node_start, node_count, map_start, map_width, map_height}
 use Rattle.cells.proofs.Lookups.LookupLaws.{find_at, find_past, find_other}
 use Rattle.cells.proofs.Renumbering.Looked.{places_long, place_below, looked_up, relinked_own, relinked_other, four}
 use Rattle.cells.proofs.Renumbering.Named.{index_starts, index_turn}
@@ -32,12 +35,15 @@ use Rattle.cells.proofs.Writing.CheckTurns.{junctions_end, junctions_10, junctio
 use Rattle.cells.proofs.WritingBack.BackAnswer.{back_told}
 use Rattle.records.proofs.Puts.{put_fits}
 use Rattle.records.proofs.Laid.{header_length}
-use Rattle.cells.proofs.Writing.WriteSteps.{stored_in, section_put, nodes_say, junctions_say, rooted, ending, arrays_room, stored_fits}
+use Rattle.cells.proofs.Writing.WriteSteps.{stored_in, section_put, nodes_say, junctions_say, rooted, ending}
+use Rattle.cells.proofs.Writing.WriteSteps.{arrays_room, stored_fits}
 use Rattle.cells.proofs.Writing.WriteSteps.{counts_refused, list_refused, goes_on}
 use Rattle.cells.proofs.Editing.EditLaws.{held_bound, lent_false}
 use Rattle.cells.proofs.Editing.Inserted.{behind_bound, held_few}
 
 pub ruleset range_laws = (tested, leb-false, lent_false, held_bound)
+
+pub ruleset stored_ranges = (node_start, node_count, map_start, map_width, map_height)
 
 pub ruleset behind_laws = (behind_bound, held_few)
 
@@ -49,7 +55,17 @@ pub ruleset zero_tests = (eq-eqb, ne_eqb)
 
 pub ruleset sections_laws = (small, part_short)
 
-pub ruleset read_laws = (length-take-le, holds, nodes_few, junctions_few, refs_few, links_fit_word, heights_fit_word)
+pub ruleset read_laws = (
+  length-take-le,
+  holds,
+  nodes_few,
+  junctions_few,
+  refs_few,
+  links_fit_word,
+  heights_fit_word,
+  node_range_inside,
+  junction_range_inside,
+)
 
 pub ruleset find_laws = (find_at, find_past, find_other)
 
@@ -82,7 +98,14 @@ pub ruleset joined_laws = (joined_room, joined_put, joined_ended, joined_none)
 
 pub ruleset links_laws = (joined_room, joined_behind, joined_ended, joined_none, links_size, link_count_law)
 
-pub ruleset junctions_laws = (junctions_length, junction_length, value_count_law, junctions_inside, laid_put, laid_ended)
+pub ruleset junctions_laws = (
+  junctions_length,
+  junction_length,
+  value_count_law,
+  junctions_inside,
+  laid_put,
+  laid_ended,
+)
 
 pub ruleset nodes_laws = (nodes_length, record_length, link_count_law, nodes_inside, start_sum, laid_put, laid_ended)
 

@@ -13,10 +13,10 @@ use Rattle.numbers.specs.declared.refusal.Refusal.TheVariants.{TooShort}
 use Rattle.numbers.specs.declared.refusal.Lent.TheVariants.{Section}
 
 -- of the cell h, whose lists are cut from lists of so many entries, into a section of so many bytes
-unfoldable pub back_answer : Memory → Counts → ℕ → Result ℕ Refusal
+unfoldable pub back_answer : Memory → Counts → ℕ → Result Counts Refusal
 back_answer h lent section =
     let lack = short_of h.ynd lent.nodes lent.links lent.junctions lent.heights lent.refs in
-    and_then (write_counts h) λ _.
+    and_then (write_counts h) λ k.
     unless lack
     (refuse_if (ltb section (length (written h))) (TooShort Section)
-    (unless (back_check h lent) (Ok (length (written h)))))
+    (unless (back_check h lent) (Ok k)))

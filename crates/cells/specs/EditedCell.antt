@@ -1,15 +1,13 @@
 -- What adding and storing mean for the cell that memory holds.
-use Rattle.std.specs.Prelude.{ℕ, ◌+◌, ◌≤◌, ◌<◌, ◌≡◌, ◌⊎◌, List, [], ◌∷◌, ◌++◌, get_or, set}
+use Rattle.std.specs.Prelude.{ℕ, List, [], ◌∷◌, ◌++◌, set}
 use Rattle.std.specs.Float.{binary32}
 use Rattle.std.specs.Float.Ieee.{to_bits}
 use Rattle.numbers.specs.declared.math.Vec3.{Vec3}
 use Rattle.records.specs.declared.junction_ref.NodeJunctionRef.{NodeJunctionRef}
 use Rattle.cells.specs.declared.node.PathNode.{PathNode}
 use Rattle.cells.specs.declared.junction.PathJunction.{PathJunction}
-use Rattle.cells.specs.NodeWords.{link_start, link_count, value_start, value_count}
 use Rattle.cells.specs.Cell.{Link, Node, Junction, Ref, Cell, node_at}
 use Rattle.cells.specs.CellOf.{bits_of, body_from}
-use Rattle.cells.specs.AddLink.{held_at}
 
 -- ---- the cell's entries, by the structs
 
@@ -88,22 +86,6 @@ add_to p x ns = set ns p (with_link x (node_at ns p))
 abbrev pub link_to : ℕ → Link → Cell → Cell
 link_to p x c = with_nodes (add_to p x c.nodes) c
 
--- of n nodes and l links: the ranges of the other nodes that have links are inside, and apart from that of the node
--- at p, if it has links
-pub record Apart (n l p : ℕ) (nodes : List (List ℕ)) : Type 0 where
-  pub inside : (q : ℕ) → q < n → (q ≡ p → ⊥) → 0 < link_count (get_or nodes q [])
-      → link_start (get_or nodes q []) + link_count (get_or nodes q []) ≤ l
-  pub apart : (q : ℕ) → q < n → (q ≡ p → ⊥) → 0 < link_count (get_or nodes q []) → 0 < held_at nodes p l
-      → (link_start (get_or nodes q []) + link_count (get_or nodes q []) ≤ link_start (get_or nodes p [])) ⊎
-      (link_start (get_or nodes p []) + held_at nodes p l ≤ link_start (get_or nodes q []))
-
--- ---- adding a junction
-
--- of n junctions and h values: the ranges of junctions that have values are inside
-pub record Inside (n h : ℕ) (junctions : List (List ℕ)) : Type 0 where
-  pub inside : (q : ℕ) → q < n → 0 < value_count (get_or junctions q [])
-      → value_start (get_or junctions q []) + value_count (get_or junctions q []) ≤ h
-
 -- ---- storing a link or a heightmap value
 
 abbrev pub link_changed : ℕ → Link → Node → Node
@@ -119,8 +101,3 @@ height_changed k v j = record {
   height = j.height;
   values = set j.values k v;
 }
-
--- of n ranges, none but that of p has the entry i
-pub record Alone (start count : List ℕ → ℕ) (n i p : ℕ) (owners : List (List ℕ)) : Type 0 where
-  pub alone : (q : ℕ) → q < n → (q ≡ p → ⊥)
-      → (start (get_or owners q []) + count (get_or owners q []) ≤ i) ⊎ (i < start (get_or owners q []))

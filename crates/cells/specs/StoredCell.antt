@@ -1,8 +1,7 @@
 -- What storing the cell's own words, shorter lists, all links of a node or a heightmap means for the cell that
 -- memory holds.
-use Rattle.std.specs.Prelude.{ℕ, ◌+◌, ◌≤◌, ◌<◌, ◌≡◌, ◌⊎◌, List, [], get_or, set}
+use Rattle.std.specs.Prelude.{ℕ, List, [], get_or, set}
 use Rattle.cells.specs.Cell.{Link, Node, Junction, Cell, node_at}
-use Rattle.cells.specs.Edit.{held_in}
 use Rattle.cells.specs.EditedCell.{with_nodes, with_junctions}
 
 -- ---- the cell's own words: one is another, all else is as it was
@@ -75,19 +74,3 @@ junction_mapped width height vs j =
 abbrev pub heightmap_put : ℕ → ℕ → ℕ → List ℕ → Cell → Cell
 heightmap_put p width height vs c =
     with_junctions (set c.junctions p (junction_mapped width height vs (junction_at c.junctions p))) c
-
--- ---- ranges that lie apart
-
--- of a range of l entries, by an owner's words: how many are there
-abbrev pub held : (List ℕ → ℕ) → (List ℕ → ℕ) → ℕ → List ℕ → ℕ
-held start count l w = held_in (record { start = start w; count = count w }) l
-
--- of n owners and l entries: the ranges of the others that have entries are inside, and apart from what the owner at p
--- holds, if it holds any. `Apart` of EditedCell is this for nodes.
-pub record Beside (start count : List ℕ → ℕ) (n l p : ℕ) (owners : List (List ℕ)) : Type 0 where
-  pub inside : (q : ℕ) → q < n → (q ≡ p → ⊥) → 0 < count (get_or owners q [])
-      → start (get_or owners q []) + count (get_or owners q []) ≤ l
-  pub apart : (q : ℕ) → q < n → (q ≡ p → ⊥) → 0 < count (get_or owners q [])
-      → 0 < held start count l (get_or owners p [])
-      → (start (get_or owners q []) + count (get_or owners q []) ≤ start (get_or owners p []))
-      ⊎ (start (get_or owners p []) + held start count l (get_or owners p []) ≤ start (get_or owners q []))

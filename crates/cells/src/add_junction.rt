@@ -48,7 +48,7 @@ fn room_for_junction(
 }
 
 // A junction behind all others, its values behind all others.
-#[tactic(auto, unfolding(crate::specs::Add::add_junction, crate::specs::Add::with_counts))]
+#[tactic(auto, using(records::proofs::Puts::put_fits), unfolding(crate::specs::Add::add_junction, crate::specs::Add::with_counts))]
 pub fn add_junction(
     ynd: Ynd,
     junctions: &mut [JunctionWords],

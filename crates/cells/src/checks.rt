@@ -31,7 +31,7 @@ pub(crate) fn check_sizes(system: usize, graphics: usize) -> Result<(), Refusal>
 // 4 and 5: the range of each of `count` records is within `len` entries; how many these have together.
 #[tactic(auto, using(crate::proofs::Rules::scan_laws), unfolding(crate::specs::Lists::sum_to))]
 fn check_ranges<R: Ranged>(records: R, count: usize, len: usize) -> Result<usize, Refusal>
-    requires { count ≤ 65536 }
+    requires { (count ≤ 65536) × (count ≤ R.size records) }
     ensures { result ≡ total_of (scan R.cause (outside (R.start records) (R.count records) len) 0 count)
         (sum_to (R.count records) count) }
 {

@@ -36,7 +36,7 @@ mod ranged;
 pub mod read;
 mod relink;
 pub mod renumber;
-mod replace;
+pub mod replace;
 pub mod room;
 mod room_check;
 pub mod root;

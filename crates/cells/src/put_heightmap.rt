@@ -53,13 +53,13 @@ fn with_map(w: JunctionWords, width: u8, height: u8, s: u32) -> JunctionWords
     ensures { result ≡ mapped width height s w }
 {
     let mut v = w;
-    v[4] = width as u32 + height as u32 * 256;
+    v[4] = u32::from_le_bytes([width, height, 0, 0]);
     v[5] = s;
     v
 }
 
 // The heightmap of the junction at a place is the new one.
-#[tactic(auto, unfolding(crate::specs::PutHeightmap::put_heightmap, crate::specs::Add::with_counts))]
+#[tactic(auto, using(records::proofs::Puts::put_fits), unfolding(crate::specs::PutHeightmap::put_heightmap, crate::specs::Add::with_counts))]
 pub fn put_heightmap(
     ynd: Ynd,
     junctions: &mut [JunctionWords],

@@ -49,6 +49,7 @@ fn room_for_links(
 }
 
 // The links of the node at p from `at` on are the new ones.
+#[tactic(auto, using(records::proofs::Puts::put_fits))]
 fn place_links(
     nodes: &mut [NodeWords],
     links: &mut [LinkWords],

@@ -1,5 +1,6 @@
 // The file's records that have each a range of a second array: nodes of links, junctions of heightmap values.
-ghost use Rattle.std.specs.Prelude.{◌≡◌, ℕ, List, ◌++◌, ◌+◌, ◌*◌, ◌≤◌, ◌<◌, length, take, drop};
+ghost use Rattle.std.specs.Prelude.{◌≡◌, ℕ, List, ◌++◌, ◌+◌, ◌*◌, ◌/◌, ◌≤◌, ◌<◌};
+ghost use Rattle.std.specs.Prelude.{length, take, drop};
 ghost use Rattle.records.specs.Records.{node_at, junction_at};
 ghost use Rattle.cells.specs.Checks.{links_at, values_at};
 ghost use Rattle.cells.specs.Read.{links_in, values_in};
@@ -8,7 +9,7 @@ ghost use Rattle.cells.specs.Words.{path_node, path_junction, node_words, juncti
 ghost use Rattle.numbers.specs.declared.refusal.Refusal.{Refusal};
 ghost use Rattle.numbers.specs.declared.refusal.Refusal.TheVariants.{LinksOutside, ValuesOutside};
 
-use crate::fill::{copy_links, copy_values};
+use crate::fill::{copy_links, copy_values, record};
 use crate::from_file::{path_junction, path_node};
 use crate::junction::JunctionWords;
 use crate::link::LinkWords;
@@ -34,9 +35,14 @@ pub(crate) trait Ranged: Copy {
 
     ghost part: { Self → ℕ → List Self.Part };
 
+    // How many records there are, and how many entries the second array has.
+    ghost size: { Self → ℕ };
+
+    ghost pool: { Self → ℕ };
+
     // Where record i's range starts in the file, and how much it has.
     fn range(self, i: usize) -> Range
-        requires { i ≤ 65536 }
+        requires { i < size self }
         ensures { (result.start ≡ start self i) × (result.count ≡ count self i)
             × (result.start < 65536) × (result.count < 65536) };
 
@@ -46,12 +52,13 @@ pub(crate) trait Ranged: Copy {
 
     // What is stored of record i, whose range starts at `first` in memory.
     fn entry(self, i: usize, first: u32) -> Self::Entry
-        requires { i ≤ 65536 }
+        requires { i < size self }
         ensures { result ≡ entry_at self i first };
 
     // Its range of the second array, stored from `held` on.
     fn fill_part(self, i: usize, held: usize, parts: &mut [Self::Part])
-        requires { (i ≤ 65536) × (held + count self i ≤ length parts.old) }
+        requires { (i < size self) × (held + count self i ≤ length parts.old)
+            × (start self i + count self i ≤ pool self) }
         ensures { parts.new ≡ take held parts.old ++ part self i ++ drop (held + count self i) parts.old };
 
     ghost long: { (records : Self) (i : ℕ) → length (part records i) ≡ count records i };
@@ -79,13 +86,18 @@ impl Ranged for FileNodes<'_> {
 
     ghost part = { λ f. links_in f.n.now f.l.now };
 
+    ghost size = { λ f. length f.n.now / 40 };
+
+    ghost pool = { λ f. length f.l.now / 8 };
+
     ghost long = { λ f. length_links f.n.now f.l.now };
 
-    #[tactic(auto, unfolding(records::specs::Records::node_at))]
+    #[tactic(auto, using(crate::proofs::Rules::stored_ranges), unfolding(records::specs::Records::node_at))]
     fn range(self, i: usize) -> Range {
+        let node = record(self.n, i, 40);
         Range {
-            start: u16_at(self.n, (i * 40) as u32 + 26) as usize,
-            count: (byte_at(self.n, i * 40 + 37) / 8) as usize,
+            start: u16_at(node, 26) as usize,
+            count: (byte_at(node, 37) / 8) as usize,
         }
     }
 
@@ -93,8 +105,9 @@ impl Ranged for FileNodes<'_> {
         Refusal::LinksOutside(i)
     }
 
+    #[tactic(auto, using(crate::proofs::Reading::Whole::node_whole))]
     fn entry(self, i: usize, first: u32) -> NodeWords {
-        NodeWords::from(path_node(node_at(self.n, (i * 40) as u32), first))
+        NodeWords::from(path_node(node_at(record(self.n, i, 40), 0), first))
     }
 
     #[tactic(auto, using(crate::proofs::Reading::ReadLaws::part_stored), unfolding(crate::specs::Read::links_in))]
@@ -126,13 +139,18 @@ impl Ranged for FileJunctions<'_> {
 
     ghost part = { λ f. values_in f.j.now f.h.now };
 
+    ghost size = { λ f. length f.j.now / 12 };
+
+    ghost pool = { λ f. length f.h.now };
+
     ghost long = { λ f. length_values f.j.now f.h.now };
 
-    #[tactic(auto, unfolding(records::specs::Records::junction_at))]
+    #[tactic(auto, using(crate::proofs::Rules::stored_ranges), unfolding(records::specs::Records::junction_at))]
     fn range(self, i: usize) -> Range {
+        let junction = record(self.j, i, 12);
         Range {
-            start: u16_at(self.j, (i * 12) as u32 + 8) as usize,
-            count: map_size(byte_at(self.j, i * 12 + 10), byte_at(self.j, i * 12 + 11)),
+            start: u16_at(junction, 8) as usize,
+            count: map_size(byte_at(junction, 10), byte_at(junction, 11)),
         }
     }
 
@@ -140,8 +158,9 @@ impl Ranged for FileJunctions<'_> {
         Refusal::ValuesOutside(i)
     }
 
+    #[tactic(auto, using(crate::proofs::Reading::Whole::junction_whole))]
     fn entry(self, i: usize, first: u32) -> JunctionWords {
-        JunctionWords::from(path_junction(junction_at(self.j, (i * 12) as u32), first))
+        JunctionWords::from(path_junction(junction_at(record(self.j, i, 12), 0), first))
     }
 
     #[tactic(auto, using(crate::proofs::Reading::ReadLaws::part_stored), unfolding(crate::specs::Read::values_in))]

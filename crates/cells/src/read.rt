@@ -1,7 +1,8 @@
 // Reading a cell from two sections into lent memory.
-ghost use Rattle.std.specs.Prelude.{◌≡◌, ◌≤◌, ◌<◌, length};
+ghost use Rattle.std.specs.Prelude.{◌≡◌, ◌≤◌, ◌<◌, length, Ok};
+ghost use Rattle.cells.specs.Checks.{arrays_check};
 ghost use Rattle.cells.specs.Memory.{memory, left};
-ghost use Rattle.cells.specs.Read.{cell_read, read_arrays, read_of};
+ghost use Rattle.cells.specs.Read.{cell_read, filled, read_arrays, read_of};
 
 use crate::arrays::{FileBytes, find_arrays};
 use crate::checks::{check_arrays, check_sizes};
@@ -36,8 +37,40 @@ fn ynd_of(root: Root, k: Counts) -> Ynd
     }
 }
 
+// Reads what the five arrays hold, of which the counts are known, into lists that have room for it.
+#[tactic(auto, using(crate::proofs::Rules::read_laws))]
+pub(crate) fn fill_lists(
+    root: Root,
+    f: FileBytes,
+    k: Counts,
+    nodes: &mut [NodeWords],
+    links: &mut [LinkWords],
+    junctions: &mut [JunctionWords],
+    heights: &mut [u8],
+    refs: &mut [RefWords],
+) -> Ynd
+    requires counted { arrays_check f.nodes.n.now f.nodes.l.now f.junctions.j.now f.junctions.h.now f.refs.now
+        ≡ Ok k }
+    requires refs_few { length f.refs.now ≤ 16777216 }
+    requires room { (k.nodes ≤ length nodes.old) × (k.links ≤ length links.old)
+        × (k.junctions ≤ length junctions.old) × (k.heights ≤ length heights.old) × (k.refs ≤ length refs.old) }
+    ensures { (ynd : Ynd) →
+        memory result nodes.new links.new junctions.new heights.new refs.new
+        ≡ filled root k f.entry.nodes.n.now f.entry.nodes.l.now f.entry.junctions.j.now f.entry.junctions.h.now
+        f.entry.refs.now (memory ynd nodes.old links.old junctions.old heights.old refs.old) }
+{
+    fill_ranges(f.nodes, &mut nodes[..k.nodes], &mut links[..k.links]);
+    fill_ranges(
+        f.junctions,
+        &mut junctions[..k.junctions],
+        &mut heights[..k.heights],
+    );
+    fill_refs(f.refs, &mut refs[..k.refs]);
+    ynd_of(root, k)
+}
+
 // Reads from the five arrays' bytes.
-#[tactic(auto, using(crate::proofs::Rules::read_laws), unfolding(crate::specs::Read::read_arrays))]
+#[tactic(auto, unfolding(crate::specs::Read::read_arrays))]
 fn read_arrays(
     ynd: Ynd,
     root: Root,
@@ -57,14 +90,7 @@ fn read_arrays(
     let k = check_arrays(f)?;
     let lent = lengths(nodes, links, junctions, heights, refs);
     lent.hold(k)?;
-    fill_ranges(f.nodes, &mut nodes[..k.nodes], &mut links[..k.links]);
-    fill_ranges(
-        f.junctions,
-        &mut junctions[..k.junctions],
-        &mut heights[..k.heights],
-    );
-    fill_refs(f.refs, &mut refs[..k.refs]);
-    Ok(ynd_of(root, k))
+    Ok(fill_lists(root, f, k, nodes, links, junctions, heights, refs))
 }
 
 // Reads a cell from two sections into the memory lent.

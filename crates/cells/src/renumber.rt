@@ -24,7 +24,8 @@ fn renumber_lists(
     scratch: &mut [u32],
     places: &mut [u32],
 ) -> usize
-    requires { (length nodes.old ≤ 65536) × (65536 ≤ length scratch.old) × (length places.old ≡ length nodes.old) }
+    requires { (length nodes.old ≤ 65536) × (65536 ≤ length scratch.old)
+        × (length places.old ≡ length nodes.old) }
     ensures count { (result ≡ length (keep is_vehicle nodes.old)) × (result ≤ length nodes.old) }
     ensures lists { (nodes.new ≡ reordered nodes.old)
         × (links.new ≡ map (relinked (old_of (length nodes.old) nodes.old)) links.old)

@@ -1,6 +1,6 @@
 // Where the new entries of a range go, and how many entries there are in all afterwards.
 ghost use Rattle.std.specs.Prelude.{◌≡◌, ◌+◌, ◌<◌, ◌≤◌, length};
-ghost use Rattle.records.specs.Put.{put};
+ghost use Rattle.records.specs.Put.{put_in};
 ghost use Rattle.cells.specs.Edit.{held_in};
 ghost use Rattle.cells.specs.Replace.{place_for, pool_after};
 
@@ -56,11 +56,12 @@ pub(crate) fn placing(r: Range, c: usize, l: usize) -> Placed
     }
 }
 
-// The entries from `at` on are the new ones.
-#[tactic(auto, using(records::proofs::Puts::put_part))]
-pub(crate) fn put_at<T: Copy>(list: &mut [T], at: usize, new: &[T])
-    requires { at + length new.now ≤ length list.old }
-    ensures { list.new ≡ put list.old at new.now }
+// The entries from `at` on are the new ones, if these end inside; else nothing is stored.
+#[tactic(auto, using(records::proofs::Puts::put_laws))]
+pub fn put_at<T: Copy>(list: &mut [T], at: usize, new: &[T])
+    ensures { list.new ≡ put_in list.old at new.now }
 {
-    list[at..at + new.len()].copy_from_slice(new);
+    if at <= list.len() && new.len() <= list.len() - at {
+        list[at..at + new.len()].copy_from_slice(new);
+    }
 }

@@ -16,8 +16,8 @@ use records::junction_ref::ref_bytes;
 use records::link::{NodeLink, link_bytes};
 use records::node::{Node, node_bytes};
 
-// Its links, `count` in number, are stored from `start` on. Its steps come from the words: a coordinate need not be made
-// an f32 first.
+// Its links, `count` in number, are stored from `start` on. Its steps come from the words: a coordinate need not be
+// made an f32 first.
 #[tactic(auto, using(crate::proofs::Rules::file_laws), unfolding(crate::specs::Entries::file_node, crate::specs::Words::to_node))]
 fn file_node(w: NodeWords, start: u16, count: u8) -> Node
     requires { count ≤ 31 }

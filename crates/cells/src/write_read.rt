@@ -1,19 +1,21 @@
 // Write-then-read: the cell written, and the bytes just written read into the cell's own memory.
-ghost use Rattle.std.specs.Prelude.{◌≡◌, length, IfOk, IfErr};
+ghost use Rattle.std.specs.Prelude.{◌≡◌, ◌≤◌, IfOk};
 ghost use Rattle.cells.specs.Memory.{memory};
 ghost use Rattle.cells.specs.Held.{memory_of};
-ghost use Rattle.cells.specs.Write.{stored};
+ghost use Rattle.cells.specs.WriteCounts.{Counted};
 ghost use Rattle.cells.specs.BackAnswer.{back_answer};
 ghost use Rattle.cells.specs.WriteRead.{both, write_read_of};
 
+use crate::arrays::find_arrays;
 use crate::count::{Counts, lengths};
 use crate::held::Held;
 use crate::junction::JunctionWords;
 use crate::junction_ref::RefWords;
 use crate::link::LinkWords;
 use crate::node::NodeWords;
-use crate::read::read;
+use crate::read::fill_lists;
 use crate::room::check_lengths;
+use crate::root::read_root;
 use crate::write::{places_for, store};
 use crate::write_checks::write_counts;
 use crate::ynd::Ynd;
@@ -26,23 +28,26 @@ pub struct WroteRead {
     pub ynd: Ynd,
 }
 
-// Writes the cell, if it can be read back into lists of so many. A refusal stores nothing.
+// Whether the cell can be written, and read back into lists of so many. If so, how much there is of it.
 #[tactic(auto, using(crate::proofs::Rules::back_laws), unfolding(crate::specs::BackAnswer::back_answer))]
-fn write_back(h: Held, lent: Counts, section: &mut [u8]) -> Result<usize, Refusal>
-    ensures value { result ≡ back_answer (memory_of h.entry) lent (length section.old) }
-    ensures stored { IfOk result (λ n. section.new ≡ (stored (memory_of h.entry) section.old).section) }
-    ensures kept { IfErr result (λ r. section.new ≡ section.old) }
+fn check_back(h: Held, lent: Counts, section: usize) -> Result<Counts, Refusal>
+    ensures value { result ≡ back_answer (memory_of h.entry) lent section }
+    ensures ready { IfOk result (λ k. Counted (memory_of h.entry) k) }
+    ensures room { IfOk result (λ k. (k.nodes ≤ lent.nodes) × (k.links ≤ lent.links)
+        × (k.junctions ≤ lent.junctions) × (k.heights ≤ lent.heights) × (k.refs ≤ lent.refs)) }
 {
     let k = write_counts(h)?;
     check_lengths(h.ynd, lent)?;
-    if section.len() < places_for(k).total {
+    if section < places_for(k).total {
         return Err(Refusal::TooShort(Lent::Section));
     }
     lent.hold(k)?;
-    store(h, k, section)
+    Ok(k)
 }
 
-// Writes the cell, and reads just what it wrote. A refusal of either leaves all as it was.
+// Writes the cell, and reads just what it wrote. A refusal of either leaves all as it was. What was counted is known
+// to stand in the section, so no range is looked at again.
+#[tactic(auto, using(crate::proofs::WritingBack::BackAnswer::refused_back))]
 pub fn write_then_read(
     ynd: Ynd,
     nodes: &mut [NodeWords],
@@ -57,8 +62,11 @@ pub fn write_then_read(
 {
     let lent = lengths(nodes, links, junctions, heights, refs);
     let h = Held::new(ynd, nodes, links, junctions, heights, refs);
-    let written = write_back(h, lent, section)?;
+    let k = check_back(h, lent, section.len())?;
+    let written = store(h, k, section)?;
     let wrote = &section[..written];
-    let ynd = read(ynd, wrote, &[], nodes, links, junctions, heights, refs)?;
+    let root = read_root(wrote);
+    let f = find_arrays(root, written, 0)?.bytes(wrote, &[]);
+    let ynd = fill_lists(root, f, k, nodes, links, junctions, heights, refs);
     Ok(WroteRead { written, ynd })
 }

@@ -40,12 +40,11 @@ use Rattle.cells.specs.PutHeightmap.{values_after, map_call, map_stored}
 use Rattle.cells.specs.PutHeightmap as whole-maps
 use Rattle.cells.specs.Truncate.{fewer}
 use Rattle.cells.specs.Truncate as shorter
-use Rattle.cells.specs.StoredCell.{Beside}
 use Rattle.cells.proofs.Editing.Replacing.{links_room, map_room}
 use Rattle.cells.proofs.Editing.CellReplaced.{vft_set, vehicles_set, peds_set, unknowns_set, nodes_truncated}
 use Rattle.cells.proofs.Editing.CellReplaced.{junctions_truncated, refs_truncated, links_put_law, heightmap_put_law}
 use Rattle.cells.specs.EditedCell.{node_from, junction_from, with_nodes, with_junctions, link_to, link_changed}
-use Rattle.cells.specs.EditedCell.{height_changed, Apart, Inside, Alone}
+use Rattle.cells.specs.EditedCell.{height_changed}
 use Rattle.cells.proofs.Forms.EntryFits.{LinkFits}
 use Rattle.cells.proofs.Sequences.Tests.{by_test}
 use Rattle.cells.proofs.Editing.EditLaws.{held_bound, lent_false}
@@ -71,6 +70,7 @@ use Rattle.drawn.proofs.EditFits.{node_back}
 use Rattle.drawn.proofs.Accepted.{refused_memory}
 use Rattle.cells.proofs.Forms.Entries.{low8, high8}
 use Rattle.numbers.proofs.Refusing.{not_refused}
+use Rattle.cells.proofs.Editing.Conditions.{Beside, Apart, Inside, Alone}
 
 -- ---- what the edits' laws ask, from the invariant
 
@@ -287,7 +287,9 @@ stored_same (Err c) f d l cause e = refl
 
 pub edit_refused : (m : Memory) (e : Edit) (cause : Refusal) → (edited m e).answer ≡ Err cause → (edited m e).memory
     ≡ m
-unfolding edited adds.add_node links.add_link adds.add_ref adds.add_junction stores.put_node stores.set_position stores.put_link stores.put_ref stores.put_junction stores.put_height whole-links.put_links whole-maps.put_heightmap shorter.truncate_nodes shorter.truncate_junctions shorter.truncate_refs
+unfolding edited adds.add_node links.add_link adds.add_ref adds.add_junction stores.put_node stores.set_position
+    stores.put_link stores.put_ref stores.put_junction stores.put_height whole-links.put_links
+    whole-maps.put_heightmap shorter.truncate_nodes shorter.truncate_junctions shorter.truncate_refs
 edit_refused m (add_node area at) cause e = refused_memory
     (room_for (over_limit m.ynd) 65536 m.ynd.node_count (length m.nodes) lent.Nodes) m _ cause e
 edit_refused m (add_link p x) cause e =

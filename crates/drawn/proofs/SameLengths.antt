@@ -71,7 +71,9 @@ module _ (m : Memory) where
   refs_long l e = record { nodes = refl; links = refl; junctions = refl; heights = refl; refs = e }
 
 pub edit_long : (m : Memory) (e : Edit) → SameLengths m (edited m e).memory
-unfolding edited adds.add_node links.add_link adds.add_ref adds.add_junction stores.put_node stores.set_position stores.put_link stores.put_ref stores.put_junction stores.put_height whole-links.put_links whole-maps.put_heightmap shorter.truncate_nodes shorter.truncate_junctions shorter.truncate_refs
+unfolding edited adds.add_node links.add_link adds.add_ref adds.add_junction stores.put_node stores.set_position
+    stores.put_link stores.put_ref stores.put_junction stores.put_height whole-links.put_links
+    whole-maps.put_heightmap shorter.truncate_nodes shorter.truncate_junctions shorter.truncate_refs
 edit_long m (add_node area at) =
     let n = m.ynd.node_count in
     let w = node_words (new_node area n (dequantised (quantised at))) in

@@ -23,7 +23,8 @@ use Rattle.cells.specs.PutLinks.{links_start, links_after, links_call, links_sto
 use Rattle.cells.specs.PutHeightmap.{values_held, values_after, map_start, map_call, map_stored, mapped, put_heightmap}
 use Rattle.cells.proofs.Sequences.Tests.{by_test}
 use Rattle.cells.proofs.Editing.EditLaws.{held_bound}
-use Rattle.cells.proofs.Editing.Replacing.{same_pool, more_pool, fewer_room, links_room, map_room, in_place, behind_all}
+use Rattle.cells.proofs.Editing.Replacing.{same_pool, more_pool, fewer_room, links_room, map_room, in_place}
+use Rattle.cells.proofs.Editing.Replacing.{behind_all}
 use Rattle.cells.proofs.Editing.Replacing.{cleared, pool_grows}
 use Rattle.drawn.specs.Tidy.{Tidy}
 use Rattle.drawn.proofs.SeparateLaws.{fewer_ranges, range_replaced}

@@ -1,6 +1,6 @@
 -- Write-then-read of any made cell leaves it settled: coordinates in whole steps, of flags5 the low three bits. It is
 -- so from then on.
-use Prim.Native.Nat.{ℕ, suc, ◌%◌, ◌≤◌, ◌<◌, ◌^◌}
+use Prim.Native.Nat.{ℕ, suc, ◌%◌, ◌≤◌, ◌^◌}
 use native.Mathlib.Omega.{arith}
 use mathlib.Core.Path.{◌≡◌, refl, sym, ap, ◌∙◌}
 use mathlib.Core.Bool.{Bool, true, false}
@@ -11,35 +11,33 @@ use lib.IntN.{ℤ, pos, negsuc}
 use lib.Ieee.{Float, binary32, fits, of_bits, to_bits}
 use lib.Ieee.Bits.{of_bits-to_bits}
 use lib.Ieee.Fits.{round-fits}
-use borrow.Author.Tests.{eq-eqb, eqb-true, ltb-true}
+use borrow.Author.Tests.{eq-eqb, eqb-true}
 use Rattle.std.specs.Prelude.{Result, Ok, Err}
 use Rattle.numbers.specs.Refusals.{Answer}
 use Rattle.numbers.specs.declared.refusal.Refusal.{Refusal}
 use Rattle.numbers.specs.Steps.{step_of, unstep}
 use Rattle.numbers.proofs.StepLaws.{round_trip, step_in}
 use Rattle.numbers.proofs.Refusing.{not_refused}
-use Rattle.records.specs.Sections.{bytes_of}
 use Rattle.records.specs.declared.root.Root.{Root}
 use Rattle.cells.specs.Lists.{every}
-use Rattle.cells.specs.Checks.{root_read, sizes_check, arrays_found}
-use Rattle.cells.specs.Memory.{Memory, unless}
-use Rattle.cells.specs.Read.{if_found, read_arrays, read_of}
+use Rattle.cells.specs.Memory.{Memory}
+use Rattle.cells.specs.Read.{read_of}
 use Rattle.cells.specs.Cell.{NodeMarks, Node, Junction, Cell}
-use Rattle.cells.specs.CellOf.{link_of, ref_of, node_with, junction_with, nodes_of, junctions_of, refs_of, cell_of}
-use Rattle.cells.specs.FileCell.{cell_from, cell_by, file_cell}
+use Rattle.cells.specs.CellOf.{link_of, node_with, junction_with, cell_of}
+use Rattle.cells.specs.FileCell.{cell_from, file_cell}
 use Rattle.cells.specs.Blocks.{refs_block, heights_block, junctions_block, links_block, nodes_block, blocks, root_for}
 use Rattle.cells.specs.Blocks.{written}
 use Rattle.cells.specs.Write.{held, write_call}
 use Rattle.cells.specs.WriteRead.{if_read, if_written, write_read_of}
 use Rattle.cells.proofs.WritingBack.KeptCells.{kept_step, is_word, kept}
 use Rattle.cells.proofs.Sequences.Tests.{and_left, and_right, every_map}
-use Rattle.cells.proofs.Reading.ReadLaws.{small}
 use Rattle.cells.proofs.Reading.FileRead.{read_cell}
 use Rattle.cells.proofs.WritingBack.BlocksBack.{refs_back}
-use Rattle.cells.proofs.WritingBack.WrittenBack.{Told, write_told, write_read_same}
-use Rattle.cells.proofs.WritingBack.SectionBack.{seven_of, stored_root, root_read_law, nodes_here, links_here}
-use Rattle.cells.proofs.WritingBack.SectionBack.{junctions_here, heights_here, refs_here}
-use Rattle.cells.proofs.WritingBack.SectionBack.{array_back}
+use Rattle.cells.proofs.WritingBack.WrittenBack.{whole, seven_back, Told, whole_of, blocks_back, write_told}
+use Rattle.cells.proofs.WritingBack.WrittenBack.{whole_held}
+use Rattle.cells.proofs.WritingBack.WrittenBack.{write_read_same}
+use Rattle.cells.proofs.WritingBack.WrittenFew.{written_few}
+use Rattle.cells.proofs.WritingBack.SectionBack.{stored_root}
 use Rattle.cells.proofs.WritingBack.AsRead.{whole_map}
 use Rattle.drawn.specs.Settled.{settled_step, settled_marks, settled_node, settled_junction, settled}
 use Rattle.drawn.specs.Made.{fitted_node, fitted_junction, fitted, stored_node, stored_junction}
@@ -52,43 +50,7 @@ use Rattle.drawn.proofs.SettledWalks.{map_map}
 
 -- ---- the section that was written, read
 
-whole : (n : ℕ) → is_word n ≡ true → n % 4294967296 ≡ n
-whole n t = let h : n < 4294967296 = ltb-true n 4294967296 t in omega arith
-
-seven_back : (u : List ℕ) → length u ≡ 7 → every is_word u ≡ true → seven_of u ≡ u
-unfolding every
-seven_back [] e t = absurd (omega arith)
-seven_back (a ∷ []) e t = absurd (omega arith)
-seven_back (a ∷ b ∷ []) e t = absurd (omega arith)
-seven_back (a ∷ b ∷ c ∷ []) e t = absurd (omega arith)
-seven_back (a ∷ b ∷ c ∷ d ∷ []) e t = absurd (omega arith)
-seven_back (a ∷ b ∷ c ∷ d ∷ f ∷ []) e t = absurd (omega arith)
-seven_back (a ∷ b ∷ c ∷ d ∷ f ∷ g ∷ []) e t = absurd (omega arith)
-seven_back (a ∷ b ∷ c ∷ d ∷ f ∷ g ∷ h ∷ []) e t =
-    let t₁ = and_right (is_word a) _ t in
-    let t₂ = and_right (is_word b) _ t₁ in
-    let t₃ = and_right (is_word c) _ t₂ in
-    let t₄ = and_right (is_word d) _ t₃ in
-    let t₅ = and_right (is_word f) _ t₄ in
-    let t₆ = and_right (is_word g) _ t₅ in
-    λ i. whole a (and_left _ _ t) i ∷ whole b (and_left _ _ t₁) i ∷ whole c (and_left _ _ t₂) i ∷ whole d
-    (and_left _ _ t₃) i ∷ whole f (and_left _ _ t₄) i ∷ whole g (and_left _ _ t₅) i ∷ whole h
-    (and_left _ _ t₆) i ∷ []
-seven_back (a ∷ b ∷ c ∷ d ∷ f ∷ g ∷ h ∷ k ∷ l) e t = absurd (omega arith)
-
--- the cell whose lists are h, each whole
-abbrev whole_of : Memory → Cell
-whole_of h = record {
-  nodes = map (node_with (map link_of h.links)) h.nodes;
-  junctions = map (junction_with h.heights) h.junctions;
-  refs = map ref_of h.refs;
-  vehicles = h.ynd.vehicle_node_count;
-  peds = h.ynd.ped_node_count;
-  vft = h.ynd.vft;
-  words = h.ynd.unknowns;
-}
-
-module _ (h : Memory) (told : Told h) (small : length (written h) ≤ 16777216) (t : fitted (whole_of h) ≡ true)
+module _ (h : Memory) (told : Told h) (t : fitted (whole_of h) ≡ true)
     (maps : every whole_map (whole_of h).junctions ≡ true) where
   abbrev root : Root
   root = root_for h (map length (blocks h))
@@ -116,39 +78,9 @@ module _ (h : Memory) (told : Told h) (small : length (written h) ≤ 16777216) 
       }
 
   section_settled : file_cell (written h) [] ≡ settled (whole_of h)
-  unfolding file_cell cell_by
-  section_settled =
-      let r = told.refs_told in
-      let w = written h in
-      ap (λ (r : Root). cell_by r w []) (root_read_law h r small)
-      ∙ (λ i. cell_from (stored_root root)
-      (array_back root.nodes root.node_count 40 w (nodes_block h.links h.nodes) (nodes_here h r small) i)
-      (array_back root.links root.link_count 8 w (links_block h.links h.nodes) (links_here h r small) i)
-      (array_back root.junctions root.junction_count 12 w (junctions_block h.heights h.junctions)
-      (junctions_here h r small) i)
-      (array_back root.heightmap root.heightmap_count 1 w (heights_block h.heights h.junctions)
-      (heights_here h r small) i)
-      (array_back root.refs root.ref_count 8 w (refs_block h.refs) (refs_here h r small) i))
-      ∙ from_blocks
+  section_settled = blocks_back h told (written_few h told) ∙ from_blocks
 
 -- ---- the call
-
--- an accepted reading is of at most 16,777,216 bytes
-read_few : (s g : List ℕ) (m : Memory) → (read_of s g m).answer ≡ (Ok tt) → length s ≤ 16777216
-unfolding read_of
-read_few s g m e = go (sizes_check (length s) (length g)) refl e
-  where
-    go : (c : Answer) → sizes_check (length s) (length g) ≡ c
-        → (unless c m (if_found (arrays_found (root_read s) (length s) (length g)) m λ n l j h r. read_arrays
-        (root_read s) (bytes_of n s g) (bytes_of l s g) (bytes_of j s g) (bytes_of h s g)
-        (bytes_of r s g) m)).answer ≡ (Ok tt)
-        → length s ≤ 16777216
-    go (Err a) d t = let z : ◌≡◌ {A = ℕ} 0 1 = cc in absurd (omega arith)
-    go (Ok tt) d t = (small (length s) (length g) d).0
-
-whole_held : (m : Memory) → whole_of (held m) ≡ cell_of m
-unfolding held cell_of nodes_of junctions_of refs_of
-whole_held m = refl
 
 -- an accepted write-then-read leaves the cell settled
 pub write_read_settles : (m : Memory) → Made m → (s : List ℕ) (n : ℕ) → (write_read_of m s).answer ≡ Ok n → cell_of
@@ -166,8 +98,6 @@ write_read_settles m h s n w = go (write_call m s).answer refl w
     back k b told (Ok tt) e u =
         read_cell (take k t) [] m e ∙ ap (λ (x : List ℕ). file_cell x []) b
         ∙ section_settled (held m) told
-        (let q : length (written (held m)) ≤ 16777216 = omega
-        (arith, read_few (take k t) [] m e, ap length b) in q)
         (ap fitted (whole_held m) ∙ h.fits)
         (ap (λ (c : Cell). every whole_map c.junctions) (whole_held m) ∙ (tidy_as_read m h.tidy).maps_whole)
         ∙ ap settled (whole_held m)

@@ -57,21 +57,27 @@ abbrev pub yard : Memory
 yard = run (after lent new) drawing
 
 pub yard_sound : sound (cell_of yard) ≡ true
-unfolding run after edited new_ynd over_limit adds.add_node room_for with_counts links.add_link room_for_link nodes_after inserted shifted ranged behind held_in node_words new_node link_words cell_of nodes_of junctions_of refs_of area_of number_of sound every differing first_with belongs
+unfolding run after edited new_ynd over_limit adds.add_node room_for with_counts links.add_link room_for_link
+    nodes_after inserted shifted ranged behind held_in node_words new_node link_words cell_of nodes_of junctions_of
+    refs_of area_of number_of sound every differing first_with belongs
 yard_sound = refl
 
 pub yard_links : map (λ (n : Node). map (λ (l : Link). l.number) n.links) (cell_of yard).nodes ≡ (1 ∷ 0 ∷ [])
     ∷ (0 ∷ []) ∷ []
-unfolding run after edited new_ynd over_limit adds.add_node room_for with_counts links.add_link room_for_link nodes_after inserted shifted ranged behind held_in node_words new_node link_words cell_of nodes_of
+unfolding run after edited new_ynd over_limit adds.add_node room_for with_counts links.add_link room_for_link
+    nodes_after inserted shifted ranged behind held_in node_words new_node link_words cell_of nodes_of
 yard_links = refl
 
 pub yard_walked : (route (cell_of yard).nodes (0 ∷ 0 ∷ 1 ∷ []) 0).places ≡ 0 ∷ 1 ∷ 0 ∷ 0 ∷ []
-unfolding run after edited new_ynd over_limit adds.add_node room_for with_counts links.add_link room_for_link nodes_after inserted shifted ranged behind held_in node_words new_node link_words cell_of nodes_of area_of number_of route next find belongs first_with
+unfolding run after edited new_ynd over_limit adds.add_node room_for with_counts links.add_link room_for_link
+    nodes_after inserted shifted ranged behind held_in node_words new_node link_words cell_of nodes_of area_of
+    number_of route next find belongs first_with
 yard_walked = refl
 
 -- what the calls mean for the cell, computed without the memory's steps
 pub yard_numbers : map (λ (n : Node). n.number) (run_cell (after lent new) drawing new_cell).nodes ≡ 0 ∷ 1 ∷ []
-unfolding run_cell is_accepted after edited new_ynd over_limit adds.add_node room_for with_counts links.add_link room_for_link nodes_after inserted shifted ranged behind held_in node_words new_node link_words
+unfolding run_cell is_accepted after edited new_ynd over_limit adds.add_node room_for with_counts links.add_link
+    room_for_link nodes_after inserted shifted ranged behind held_in node_words new_node link_words
 yard_numbers = refl
 
 -- of flags5 three bits are stored

@@ -9,21 +9,14 @@ use lib.Seq.{get_or-take, length-take-le}
 use Rattle.std.specs.Prelude.{Ok}
 use Rattle.numbers.proofs.Refusing.{not_refused}
 use Rattle.cells.specs.Memory.{Memory}
-use Rattle.cells.specs.CellOf.{cell_of}
 use Rattle.cells.proofs.WritingBack.KeptCells.{kept}
-use Rattle.walks.proofs.Routes.{same_walk}
-use Rattle.walks.proofs.WalksAlike.{nodes_long}
 use Rattle.sets.specs.Members.{no_cell}
-use Rattle.sets.specs.Crossing.{crossing}
-use Rattle.sets.specs.MemberList.{member_at, cells_of, over_set}
-use Rattle.sets.specs.SetCalls.{SetCall, run_in, moved_in}
-use Rattle.sets.specs.SetClaim.{SetUnnoticed}
+use Rattle.sets.specs.MemberList.{member_at, cells_of}
 use Rattle.sets.proofs.CellSetLaws.{members_many}
 use Rattle.sets.proofs.SetCallsUnnoticed.{in_six_lists}
 use Rattle.sets.proofs.SetLists.{every_all}
 use Rattle.sets.proofs.SetMemory.{cell_at_law}
-use Rattle.sets.proofs.SetRuns.{Alike, Fit, run_alike, run_fit, run_numbers}
-use Rattle.sets.proofs.CrossingAlike.{Held, same_over, answers_alike, run_held}
+use Rattle.sets.proofs.SetDemand.{unnoticed}
 use Rattle.sets.specs.CellSet.{CellSet, members_of}
 use Rattle.sets.specs.Join.{stored}
 use Rattle.sets.specs.Leave.{first_of_area, leave_causes}
@@ -36,33 +29,6 @@ use Rattle.drawn.proofs.DrawnDemand.{made_lies, made_kept}
 use Rattle.drawnsets.specs.AllMade.{AllMade}
 use Rattle.drawnsets.specs.Claim.{MadeSetUnnoticed, MadeCallsUnnoticed, HandedMade}
 use Rattle.drawnsets.proofs.SetMade.{first_there}
-
--- as in sets SetDemand
-unnoticed : (ms : List Memory) → Fit (cells_of ms) → Held ms → (calls : List SetCall) → SetUnnoticed ms calls
-unnoticed ms h l calls =
-    let ds = run_in ms calls in
-    let f = moved_in ms calls in
-    let a : Alike (cells_of ms) (cells_of ds) f = run_alike ms calls h in
-    let many : length ds ≡ length ms = sym (length-map ds cell_of) ∙ a.same_count ∙ length-map ms cell_of in
-    let lies : Held ds = run_held ms calls l in
-    let over : over_set ds ≡ over_set ms = same_over ms ds l lies many (λ i li.
-    sym (nodes_long (member_at ds i) (lies i (rw many li)))
-    ∙ (rw (cell_at_law ds i, cell_at_law ms i) at (a.same_nodes i (rw length-map li)))
-    ∙ nodes_long (member_at ms i) (l i li)) in
-    record {
-      same_members = many;
-      still_there = a.inside;
-      same_member = a.same_member;
-      still_sound = (run_fit ms calls h).is_sound;
-      same_areas = a.same_areas;
-      same_walks = λ choices s st.
-          same_walk f (crossing (cells_of ms) choices s) (crossing (cells_of ds) choices (f s))
-          (a.same_walks choices s st);
-      same_answers = λ choices s st. answers_alike ms ds f l lies over choices s st (a.inside s st)
-          (same_walk f (crossing (cells_of ms) choices s) (crossing (cells_of ds) choices (f s))
-          (a.same_walks choices s st));
-      numbered = λ i li. run_numbers ms calls h i (rw length-map li);
-    }
 
 pub made_set_unnoticed : MadeSetUnnoticed
 made_set_unnoticed ms made is-stored s calls =

@@ -21,7 +21,8 @@ use Rattle.cells.specs.Lookup.{first_with}
 use Rattle.records.specs.Put.{put}
 use Rattle.sets.specs.Members.{map_from}
 use Rattle.sets.specs.MemberList.{nodes_together, any_over, over_set}
-use Rattle.sets.specs.CellSet.{CellSet, cell_set, words_at, total, ynd_of, parts_of, parts_in, members_of, holds_list, lack_of, set_causes}
+use Rattle.sets.specs.CellSet.{CellSet, cell_set, words_at, total, ynd_of, parts_of, parts_in, members_of}
+use Rattle.sets.specs.CellSet.{holds_list, lack_of, set_causes}
 use Rattle.sets.specs.Leave.{first_of_area, leave_causes, leave_area}
 use Rattle.sets.specs.Join.{per_list, part_fits, lack_for, join_causes, stored, with_cell, join_cell}
 use Rattle.sets.specs.SetStored.{member_in, ask_causes, with_member}
@@ -41,7 +42,11 @@ abbrev calls : List SetChange
 calls = joining yard (per_list 3 4 0 0 0) ([] ∷ []) ∷ edit 0 (add_node 5 origin) ∷ leaving 6 ∷ []
 
 pub numbers_there : map (λ (n : Node). n.number) (cell_of (member_in (run nobody calls) 0)).nodes ≡ 0 ∷ 1 ∷ 2 ∷ []
-unfolding run after cell.run cell.after edited new_ynd over_limit adds.add_node room_for with_counts links.add_link room_for_link nodes_after inserted shifted ranged behind held_in node_words new_node link_words cell_of nodes_of area_of number_of first_with every map_from nodes_together any_over over_set words_at total ynd_of parts_of parts_in members_of holds_list lack_of set_causes first_of_area leave_causes leave_area part_fits lack_for join_causes stored with_cell join_cell ask_causes with_member edit_by add_causes put
+unfolding run after cell.run cell.after edited new_ynd over_limit adds.add_node room_for with_counts links.add_link
+    room_for_link nodes_after inserted shifted ranged behind held_in node_words new_node link_words cell_of nodes_of
+    area_of number_of first_with every map_from nodes_together any_over over_set words_at total ynd_of parts_of
+    parts_in members_of holds_list lack_of set_causes first_of_area leave_causes leave_area part_fits lack_for
+    join_causes stored with_cell join_cell ask_causes with_member edit_by add_causes put
 numbers_there = refl
 
 calls_fit : AllFit calls

@@ -34,8 +34,8 @@ MadeSetUnnoticed =
     (ms : List Memory) → MadeList ms → ((i : ℕ) → i < length ms → stored (cell_of (member_at ms i)) ≡ true)
     → set_sound (cells_of ms) ≡ true → (calls : List SetCall) → SetUnnoticed ms calls
 
--- The same of the calls on the six lists that hold such a set: `CallsUnnoticedTheorem` of sets, for drawn members. Of a
--- set that its calls refuse it holds too: they change nothing.
+-- The same of the calls on the six lists that hold such a set: `CallsUnnoticedTheorem` of sets, for drawn members. Of
+-- a set that its calls refuse it holds too: they change nothing.
 abbrev pub MadeCallsUnnoticed : Type 0
 MadeCallsUnnoticed =
     (y : CellSet) → AllMade y → ((i : ℕ) → i < length y.members → stored (cell_of (member_in y i)) ≡ true)

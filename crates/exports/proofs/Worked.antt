@@ -7,7 +7,7 @@ use Rattle.rounds.specs.Round.{head_bytes, written, written_left}
 use Rattle.rounds.specs.declared.file.Version.TheVariants.{One, Two}
 use Rattle.exports.specs.Found.{told}
 use Rattle.exports.specs.Parts.{part_or}
-use Rattle.exports.specs.Texts.{version_number, texts, text_of, text_put}
+use Rattle.exports.specs.Texts.{library_version, texts, text_of, text_put}
 use Rattle.exports.specs.Versions.{version_head, version_told, written_as}
 use Rattle.records.specs.Put.{put}
 use Rattle.std.specs.Prelude.{codes}
@@ -49,7 +49,7 @@ version_2 : written_as 2 1027 258 [] (9 ∷ []) ≡ written (head_bytes (Two 102
 version_2 = refl
 
 -- 1.2.3 is 10203
-version_1_2_3 : version_number 1 2 3 ≡ 10203
+version_1_2_3 : library_version 1 2 3 ≡ 10203
 version_1_2_3 = refl
 
 -- the first text, the last of the table, and what no refusal has

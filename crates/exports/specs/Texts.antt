@@ -3,11 +3,11 @@ use Rattle.std.specs.Prelude.{ℕ, ◌+◌, ◌-◌, ◌*◌, cond, List, [], �
 use Rattle.records.specs.Put.{put}
 
 -- ---- the version, as BOFRASHEM_VERSION_NUMBER of the header is made of its three parts
-abbrev pub version_number : ℕ → ℕ → ℕ → ℕ
-version_number major minor patch = major * 10000 + minor * 100 + patch
+abbrev pub library_version : ℕ → ℕ → ℕ → ℕ
+library_version major minor patch = major * 10000 + minor * 100 + patch
 
 abbrev pub version : ℕ
-version = version_number 1 0 0
+version = library_version 1 0 0
 
 -- ---- the texts
 

@@ -38,5 +38,6 @@ pub mod steps;
 pub mod storing;
 pub mod texts;
 pub mod walking;
+pub mod walking_indexed;
 mod words;
 pub mod writing;

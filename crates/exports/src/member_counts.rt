@@ -1,8 +1,8 @@
 // Lists of a set's member cut off at the end, and its own words stored (T-09). No entry is touched.
-ghost use Rattle.std.specs.Prelude.{◌≡◌, List, ℕ};
+ghost use Rattle.std.specs.Prelude.{◌≡◌};
 ghost use Rattle.cells.specs.Truncate.{truncate_nodes, truncate_junctions, truncate_refs};
 ghost use Rattle.sets.specs.CellSet.{cell_set};
-ghost use Rattle.sets.specs.Lent.{Lies};
+ghost use Rattle.sets.specs.Lent.{Unlent};
 ghost use Rattle.sets.specs.MemberEdit.{edit_member, put_words};
 ghost use Rattle.exports.specs.Found.{told};
 ghost use Rattle.exports.specs.SetTold.{edit_told};
@@ -17,12 +17,9 @@ pub extern "C" fn ynd_member_truncate_nodes(
     count: usize,
     place: &mut usize,
 ) -> u32
-    ensures { (nodes links junctions refs : List (List ℕ)) (heights : List ℕ)
-        → Lies 15 members.old nodes → Lies 16 members.old links
-        → Lies 17 members.old junctions → Lies 18 members.old heights
-        → Lies 19 members.old refs
-        → told result place.new (cell_set members.new nodes links junctions heights refs)
-        ≡ edit_told (edit_member (cell_set members.old nodes links junctions heights refs) member
+    ensures { (u : Unlent members.old)
+        → told result place.new (cell_set members.new u.nodes u.links u.junctions u.heights u.refs)
+        ≡ edit_told (edit_member (cell_set members.old u.nodes u.links u.junctions u.heights u.refs) member
         (λ m. truncate_nodes m count)) }
 {
     let r = sets::edit_counts::truncate_nodes_member(members, member, count);
@@ -37,12 +34,9 @@ pub extern "C" fn ynd_member_truncate_junctions(
     count: usize,
     place: &mut usize,
 ) -> u32
-    ensures { (nodes links junctions refs : List (List ℕ)) (heights : List ℕ)
-        → Lies 15 members.old nodes → Lies 16 members.old links
-        → Lies 17 members.old junctions → Lies 18 members.old heights
-        → Lies 19 members.old refs
-        → told result place.new (cell_set members.new nodes links junctions heights refs)
-        ≡ edit_told (edit_member (cell_set members.old nodes links junctions heights refs) member
+    ensures { (u : Unlent members.old)
+        → told result place.new (cell_set members.new u.nodes u.links u.junctions u.heights u.refs)
+        ≡ edit_told (edit_member (cell_set members.old u.nodes u.links u.junctions u.heights u.refs) member
         (λ m. truncate_junctions m count)) }
 {
     let r = sets::edit_counts::truncate_junctions_member(members, member, count);
@@ -57,12 +51,9 @@ pub extern "C" fn ynd_member_truncate_refs(
     count: usize,
     place: &mut usize,
 ) -> u32
-    ensures { (nodes links junctions refs : List (List ℕ)) (heights : List ℕ)
-        → Lies 15 members.old nodes → Lies 16 members.old links
-        → Lies 17 members.old junctions → Lies 18 members.old heights
-        → Lies 19 members.old refs
-        → told result place.new (cell_set members.new nodes links junctions heights refs)
-        ≡ edit_told (edit_member (cell_set members.old nodes links junctions heights refs) member
+    ensures { (u : Unlent members.old)
+        → told result place.new (cell_set members.new u.nodes u.links u.junctions u.heights u.refs)
+        ≡ edit_told (edit_member (cell_set members.old u.nodes u.links u.junctions u.heights u.refs) member
         (λ m. truncate_refs m count)) }
 {
     let r = sets::edit_counts::truncate_refs_member(members, member, count);
@@ -80,12 +71,9 @@ pub extern "C" fn ynd_member_put_words(
     unknowns: &[u32; 7],
     place: &mut usize,
 ) -> u32
-    ensures { (nodes links junctions refs : List (List ℕ)) (heights : List ℕ)
-        → Lies 15 members.old nodes → Lies 16 members.old links
-        → Lies 17 members.old junctions → Lies 18 members.old heights
-        → Lies 19 members.old refs
-        → told result place.new (cell_set members.new nodes links junctions heights refs)
-        ≡ edit_told (edit_member (cell_set members.old nodes links junctions heights refs) member
+    ensures { (u : Unlent members.old)
+        → told result place.new (cell_set members.new u.nodes u.links u.junctions u.heights u.refs)
+        ≡ edit_told (edit_member (cell_set members.old u.nodes u.links u.junctions u.heights u.refs) member
         (λ m. put_words m vft vehicle_node_count ped_node_count unknowns.now)) }
 {
     let r = sets::edit_counts::put_words_member(

@@ -1,8 +1,8 @@
 // Entries of a set's member taken out by place, and its own words (T-09).
-ghost use Rattle.std.specs.Prelude.{◌≡◌, List, ℕ};
+ghost use Rattle.std.specs.Prelude.{◌≡◌};
 ghost use Rattle.cells.specs.Words.{node_words, link_words, ref_words, junction_words};
 ghost use Rattle.sets.specs.CellSet.{cell_set};
-ghost use Rattle.sets.specs.Lent.{Lies};
+ghost use Rattle.sets.specs.Lent.{Unlent};
 ghost use Rattle.sets.specs.MemberLookup.{ynd_member, get_node_member, get_link_member};
 ghost use Rattle.sets.specs.MemberLookup.{get_ref_member, get_junction_member, get_height_member};
 ghost use Rattle.exports.specs.Cells.{ynd_words};
@@ -23,12 +23,10 @@ pub extern "C" fn ynd_member_get_cell(
     ynd: &mut [u32; 15],
     place: &mut usize,
 ) -> u32
-    ensures { (nodes links junctions refs : List (List ℕ)) (heights : List ℕ)
-        → Lies 15 members.now nodes → Lies 16 members.now links
-        → Lies 17 members.now junctions → Lies 18 members.now heights
-        → Lies 19 members.now refs
+    ensures { (u : Unlent members.now)
         → told result place.new ynd.new
-        ≡ told_of (ynd_member (cell_set members.now nodes links junctions heights refs) member) ynd_words ynd.old }
+        ≡ told_of (ynd_member (cell_set members.now u.nodes u.links u.junctions u.heights u.refs) member) ynd_words
+        ynd.old }
 {
     let r = sets::get_member::ynd_member(members, member);
     tell_as(r, ynd_words, ynd, place)
@@ -44,11 +42,9 @@ pub extern "C" fn ynd_member_get_node(
     node: &mut NodeWords,
     place: &mut usize,
 ) -> u32
-    ensures { (links junctions refs : List (List ℕ)) (heights : List ℕ)
-        → Lies 16 members.now links → Lies 17 members.now junctions
-        → Lies 18 members.now heights → Lies 19 members.now refs
+    ensures { (u : Unlent members.now)
         → told result place.new node.new
-        ≡ told_of (get_node_member (cell_set members.now nodes.now links junctions heights refs) member at)
+        ≡ told_of (get_node_member (cell_set members.now nodes.now u.links u.junctions u.heights u.refs) member at)
         node_words node.old }
 {
     let r = sets::get_member::get_node_member(members, nodes, member, at);
@@ -67,11 +63,9 @@ pub extern "C" fn ynd_member_get_link(
     link: &mut [u16; 4],
     place: &mut usize,
 ) -> u32
-    ensures { (junctions refs : List (List ℕ)) (heights : List ℕ)
-        → Lies 17 members.now junctions → Lies 18 members.now heights
-        → Lies 19 members.now refs
+    ensures { (u : Unlent members.now)
         → told result place.new link.new
-        ≡ told_of (get_link_member (cell_set members.now nodes.now links.now junctions heights refs) member
+        ≡ told_of (get_link_member (cell_set members.now nodes.now links.now u.junctions u.heights u.refs) member
         at k) link_words link.old }
 {
     let r = sets::get_member::get_link_member(members, nodes, links, member, at, k);
@@ -88,11 +82,9 @@ pub extern "C" fn ynd_member_get_ref(
     taken: &mut [u16; 4],
     place: &mut usize,
 ) -> u32
-    ensures { (nodes links junctions : List (List ℕ)) (heights : List ℕ)
-        → Lies 15 members.now nodes → Lies 16 members.now links
-        → Lies 17 members.now junctions → Lies 18 members.now heights
+    ensures { (u : Unlent members.now)
         → told result place.new taken.new
-        ≡ told_of (get_ref_member (cell_set members.now nodes links junctions heights refs.now) member at)
+        ≡ told_of (get_ref_member (cell_set members.now u.nodes u.links u.junctions u.heights refs.now) member at)
         ref_words taken.old }
 {
     let r = sets::get_member::get_ref_member(members, refs, member, at);
@@ -109,11 +101,9 @@ pub extern "C" fn ynd_member_get_junction(
     junction: &mut [u32; 6],
     place: &mut usize,
 ) -> u32
-    ensures { (nodes links refs : List (List ℕ)) (heights : List ℕ)
-        → Lies 15 members.now nodes → Lies 16 members.now links
-        → Lies 18 members.now heights → Lies 19 members.now refs
+    ensures { (u : Unlent members.now)
         → told result place.new junction.new
-        ≡ told_of (get_junction_member (cell_set members.now nodes links junctions.now heights refs) member at)
+        ≡ told_of (get_junction_member (cell_set members.now u.nodes u.links junctions.now u.heights u.refs) member at)
         junction_words junction.old }
 {
     let r = sets::get_member::get_junction_member(members, junctions, member, at);
@@ -132,11 +122,9 @@ pub extern "C" fn ynd_member_get_height(
     value: &mut u8,
     place: &mut usize,
 ) -> u32
-    ensures { (nodes links refs : List (List ℕ))
-        → Lies 15 members.now nodes → Lies 16 members.now links
-        → Lies 19 members.now refs
+    ensures { (u : Unlent members.now)
         → told result place.new value.new
-        ≡ value_told (get_height_member (cell_set members.now nodes links junctions.now heights.now refs) member
+        ≡ value_told (get_height_member (cell_set members.now u.nodes u.links junctions.now heights.now u.refs) member
         at k) value.old }
 {
     let r = sets::get_member::get_height_member(members, junctions, heights, member, at, k);

@@ -1,11 +1,11 @@
 // Edits of the junctions and heightmaps of a set's member (T-09).
-ghost use Rattle.std.specs.Prelude.{◌≡◌, List, ℕ};
+ghost use Rattle.std.specs.Prelude.{◌≡◌};
 ghost use Rattle.cells.specs.Add.{add_junction};
 ghost use Rattle.cells.specs.Edit.{put_junction, put_height};
 ghost use Rattle.cells.specs.PutHeightmap.{put_heightmap};
 ghost use Rattle.cells.specs.Words.{to_junction};
 ghost use Rattle.sets.specs.CellSet.{cell_set};
-ghost use Rattle.sets.specs.Lent.{Lies};
+ghost use Rattle.sets.specs.Lent.{Unlent};
 ghost use Rattle.sets.specs.MemberEdit.{edit_member, heights_left, junctions_left};
 ghost use Rattle.exports.specs.Found.{told};
 ghost use Rattle.exports.specs.SetTold.{edit_told};
@@ -24,11 +24,9 @@ pub extern "C" fn ynd_member_add_junction(
     values: &[u8],
     place: &mut usize,
 ) -> u32
-    ensures { (nodes links refs : List (List ℕ))
-        → Lies 15 members.old nodes → Lies 16 members.old links
-        → Lies 19 members.old refs
-        → told result place.new (cell_set members.new nodes links junctions.new heights.new refs)
-        ≡ edit_told (edit_member (cell_set members.old nodes links junctions.old heights.old refs) member
+    ensures { (u : Unlent members.old)
+        → told result place.new (cell_set members.new u.nodes u.links junctions.new heights.new u.refs)
+        ≡ edit_told (edit_member (cell_set members.old u.nodes u.links junctions.old heights.old u.refs) member
         (λ m. add_junction m (to_junction junction.now) values.now)) }
 {
     let r = sets::edit_junctions::add_junction_member(
@@ -55,11 +53,9 @@ pub extern "C" fn ynd_member_put_heightmap(
     values: &[u8],
     place: &mut usize,
 ) -> u32
-    ensures { (nodes links refs : List (List ℕ))
-        → Lies 15 members.old nodes → Lies 16 members.old links
-        → Lies 19 members.old refs
-        → told result place.new (cell_set members.new nodes links junctions.new heights.new refs)
-        ≡ edit_told (edit_member (cell_set members.old nodes links junctions.old heights.old refs) member
+    ensures { (u : Unlent members.old)
+        → told result place.new (cell_set members.new u.nodes u.links junctions.new heights.new u.refs)
+        ≡ edit_told (edit_member (cell_set members.old u.nodes u.links junctions.old heights.old u.refs) member
         (λ m. put_heightmap m at width height values.now)) }
 {
     let r = sets::edit_junctions::put_heightmap_member(
@@ -78,11 +74,9 @@ pub extern "C" fn ynd_member_put_junction(
     junction: &[u32; 6],
     place: &mut usize,
 ) -> u32
-    ensures { (nodes links refs : List (List ℕ)) (heights : List ℕ)
-        → Lies 15 members.now nodes → Lies 16 members.now links
-        → Lies 18 members.now heights → Lies 19 members.now refs
-        → told result place.new (cell_set members.now nodes links junctions.new heights refs)
-        ≡ edit_told (edit_member (cell_set members.now nodes links junctions.old heights refs) member
+    ensures { (u : Unlent members.now)
+        → told result place.new (cell_set members.now u.nodes u.links junctions.new u.heights u.refs)
+        ≡ edit_told (edit_member (cell_set members.now u.nodes u.links junctions.old u.heights u.refs) member
         (λ m. junctions_left m (put_junction m.ynd m.junctions at (to_junction junction.now)))) }
 {
     let r = sets::edit_junctions::put_junction_member(
@@ -107,11 +101,9 @@ pub extern "C" fn ynd_member_put_height(
     value: u8,
     place: &mut usize,
 ) -> u32
-    ensures { (nodes links refs : List (List ℕ))
-        → Lies 15 members.now nodes → Lies 16 members.now links
-        → Lies 19 members.now refs
-        → told result place.new (cell_set members.now nodes links junctions.now heights.new refs)
-        ≡ edit_told (edit_member (cell_set members.now nodes links junctions.now heights.old refs) member
+    ensures { (u : Unlent members.now)
+        → told result place.new (cell_set members.now u.nodes u.links junctions.now heights.new u.refs)
+        ≡ edit_told (edit_member (cell_set members.now u.nodes u.links junctions.now heights.old u.refs) member
         (λ m. heights_left m (put_height m.ynd m.junctions m.heights at k value))) }
 {
     let r = sets::edit_junctions::put_height_member(

@@ -1,11 +1,11 @@
 // Edits of the links of a set's member (T-09).
-ghost use Rattle.std.specs.Prelude.{◌≡◌, List, ℕ};
+ghost use Rattle.std.specs.Prelude.{◌≡◌};
 ghost use Rattle.cells.specs.AddLink.{add_link};
 ghost use Rattle.cells.specs.Edit.{put_link};
 ghost use Rattle.cells.specs.PutLinks.{put_links};
 ghost use Rattle.cells.specs.Words.{to_link};
 ghost use Rattle.sets.specs.CellSet.{cell_set};
-ghost use Rattle.sets.specs.Lent.{Lies};
+ghost use Rattle.sets.specs.Lent.{Unlent};
 ghost use Rattle.sets.specs.MemberEdit.{edit_member, links_left};
 ghost use Rattle.exports.specs.Found.{told};
 ghost use Rattle.exports.specs.SetTold.{edit_told};
@@ -25,11 +25,9 @@ pub extern "C" fn ynd_member_add_link(
     link: &[u16; 4],
     place: &mut usize,
 ) -> u32
-    ensures { (junctions refs : List (List ℕ)) (heights : List ℕ)
-        → Lies 17 members.old junctions → Lies 18 members.old heights
-        → Lies 19 members.old refs
-        → told result place.new (cell_set members.new nodes.new links.new junctions heights refs)
-        ≡ edit_told (edit_member (cell_set members.old nodes.old links.old junctions heights refs) member
+    ensures { (u : Unlent members.old)
+        → told result place.new (cell_set members.new nodes.new links.new u.junctions u.heights u.refs)
+        ≡ edit_told (edit_member (cell_set members.old nodes.old links.old u.junctions u.heights u.refs) member
         (λ m. add_link m at (to_link link.now))) }
 {
     let r = sets::edit_links::add_link_member(
@@ -54,11 +52,9 @@ pub extern "C" fn ynd_member_put_links(
     given: &[[u16; 4]],
     place: &mut usize,
 ) -> u32
-    ensures { (junctions refs : List (List ℕ)) (heights : List ℕ)
-        → Lies 17 members.old junctions → Lies 18 members.old heights
-        → Lies 19 members.old refs
-        → told result place.new (cell_set members.new nodes.new links.new junctions heights refs)
-        ≡ edit_told (edit_member (cell_set members.old nodes.old links.old junctions heights refs) member
+    ensures { (u : Unlent members.old)
+        → told result place.new (cell_set members.new nodes.new links.new u.junctions u.heights u.refs)
+        ≡ edit_told (edit_member (cell_set members.old nodes.old links.old u.junctions u.heights u.refs) member
         (λ m. put_links m at given.now)) }
 {
     let r = sets::edit_links::put_links_member(members, nodes, links, member, at, given);
@@ -77,11 +73,9 @@ pub extern "C" fn ynd_member_put_link(
     link: &[u16; 4],
     place: &mut usize,
 ) -> u32
-    ensures { (junctions refs : List (List ℕ)) (heights : List ℕ)
-        → Lies 17 members.now junctions → Lies 18 members.now heights
-        → Lies 19 members.now refs
-        → told result place.new (cell_set members.now nodes.now links.new junctions heights refs)
-        ≡ edit_told (edit_member (cell_set members.now nodes.now links.old junctions heights refs) member
+    ensures { (u : Unlent members.now)
+        → told result place.new (cell_set members.now nodes.now links.new u.junctions u.heights u.refs)
+        ≡ edit_told (edit_member (cell_set members.now nodes.now links.old u.junctions u.heights u.refs) member
         (λ m. links_left m (put_link m.ynd m.nodes m.links at k (to_link link.now)))) }
 {
     let r = sets::edit_links::put_link_member(

@@ -1,7 +1,7 @@
 // Lookups in a set's member (T-09). Nothing found leaves what was lent for it, and says so.
-ghost use Rattle.std.specs.Prelude.{◌≡◌, List, ℕ};
+ghost use Rattle.std.specs.Prelude.{◌≡◌};
 ghost use Rattle.sets.specs.CellSet.{cell_set};
-ghost use Rattle.sets.specs.Lent.{Lies};
+ghost use Rattle.sets.specs.Lent.{Unlent};
 ghost use Rattle.sets.specs.MemberLookup.{area_id_member, node_member, junction_of_member};
 ghost use Rattle.exports.specs.Found.{told, whether, whether_told};
 
@@ -18,11 +18,9 @@ pub extern "C" fn ynd_member_area(
     area: &mut u32,
     place: &mut usize,
 ) -> u32
-    ensures { (links junctions refs : List (List ℕ)) (heights : List ℕ)
-        → Lies 16 members.now links → Lies 17 members.now junctions
-        → Lies 18 members.now heights → Lies 19 members.now refs
+    ensures { (u : Unlent members.now)
         → told result place.new (whether found.new area.new)
-        ≡ whether_told (area_id_member (cell_set members.now nodes.now links junctions heights refs) member)
+        ≡ whether_told (area_id_member (cell_set members.now nodes.now u.links u.junctions u.heights u.refs) member)
         found.old area.old }
 {
     let r = sets::lookup_member::area_id_member(members, nodes, member);
@@ -40,12 +38,10 @@ pub extern "C" fn ynd_member_node(
     at: &mut usize,
     place: &mut usize,
 ) -> u32
-    ensures { (links junctions refs : List (List ℕ)) (heights : List ℕ)
-        → Lies 16 members.now links → Lies 17 members.now junctions
-        → Lies 18 members.now heights → Lies 19 members.now refs
+    ensures { (u : Unlent members.now)
         → told result place.new (whether found.new at.new)
-        ≡ whether_told (node_member (cell_set members.now nodes.now links junctions heights refs) member node_id)
-        found.old at.old }
+        ≡ whether_told (node_member (cell_set members.now nodes.now u.links u.junctions u.heights u.refs) member
+        node_id) found.old at.old }
 {
     let r = sets::lookup_member::node_member(members, nodes, member, node_id);
     tell_found(r, found, at, place)
@@ -64,12 +60,10 @@ pub extern "C" fn ynd_member_junction_of(
     at: &mut usize,
     place: &mut usize,
 ) -> u32
-    ensures { (links junctions : List (List ℕ)) (heights : List ℕ)
-        → Lies 16 members.now links → Lies 17 members.now junctions
-        → Lies 18 members.now heights
+    ensures { (u : Unlent members.now)
         → told result place.new (whether found.new at.new)
-        ≡ whether_told (junction_of_member (cell_set members.now nodes.now links junctions heights refs.now) member
-        area_id node_id) found.old at.old }
+        ≡ whether_told (junction_of_member (cell_set members.now nodes.now u.links u.junctions u.heights refs.now)
+        member area_id node_id) found.old at.old }
 {
     let r = sets::lookup_member::junction_of_member(members, nodes, refs, member, area_id, node_id);
     tell_found(r, found, at, place)

@@ -1,10 +1,10 @@
 // Edits of the nodes of a set's member (T-09). Each holds for all lists that a call isn't lent and that hold the
 // members' parts: they stay as they are.
-ghost use Rattle.std.specs.Prelude.{◌≡◌, List, ℕ};
+ghost use Rattle.std.specs.Prelude.{◌≡◌};
 ghost use Rattle.cells.specs.Edit.{put_node, set_position};
 ghost use Rattle.cells.specs.Words.{to_node};
 ghost use Rattle.sets.specs.CellSet.{cell_set};
-ghost use Rattle.sets.specs.Lent.{Lies};
+ghost use Rattle.sets.specs.Lent.{Unlent};
 ghost use Rattle.sets.specs.MemberEdit.{add_node_member, edit_member, nodes_left};
 ghost use Rattle.exports.specs.Found.{told};
 ghost use Rattle.exports.specs.SetTold.{edit_told};
@@ -25,12 +25,10 @@ pub extern "C" fn ynd_member_add_node(
     z: f32,
     place: &mut usize,
 ) -> u32
-    ensures { (links junctions refs : List (List ℕ)) (heights : List ℕ)
-        → Lies 16 members.old links → Lies 17 members.old junctions
-        → Lies 18 members.old heights → Lies 19 members.old refs
-        → told result place.new (cell_set members.new nodes.new links junctions heights refs)
-        ≡ edit_told (add_node_member (cell_set members.old nodes.old links junctions heights refs) member area_id
-        (record { x = x; y = y; z = z })) }
+    ensures { (u : Unlent members.old)
+        → told result place.new (cell_set members.new nodes.new u.links u.junctions u.heights u.refs)
+        ≡ edit_told (add_node_member (cell_set members.old nodes.old u.links u.junctions u.heights u.refs) member
+        area_id (record { x = x; y = y; z = z })) }
 {
     let r = sets::edit_nodes::add_node_member(members, nodes, member, area_id, Vec3 { x, y, z });
     answer(r, place)
@@ -46,11 +44,9 @@ pub extern "C" fn ynd_member_put_node(
     node: &NodeWords,
     place: &mut usize,
 ) -> u32
-    ensures { (links junctions refs : List (List ℕ)) (heights : List ℕ)
-        → Lies 16 members.now links → Lies 17 members.now junctions
-        → Lies 18 members.now heights → Lies 19 members.now refs
-        → told result place.new (cell_set members.now nodes.new links junctions heights refs)
-        ≡ edit_told (edit_member (cell_set members.now nodes.old links junctions heights refs) member
+    ensures { (u : Unlent members.now)
+        → told result place.new (cell_set members.now nodes.new u.links u.junctions u.heights u.refs)
+        ≡ edit_told (edit_member (cell_set members.now nodes.old u.links u.junctions u.heights u.refs) member
         (λ m. nodes_left m (put_node m.ynd m.nodes at (to_node node.now)))) }
 {
     let r = sets::edit_nodes::put_node_member(members, nodes, member, at, PathNode::from(*node));
@@ -69,11 +65,9 @@ pub extern "C" fn ynd_member_set_position(
     z: f32,
     place: &mut usize,
 ) -> u32
-    ensures { (links junctions refs : List (List ℕ)) (heights : List ℕ)
-        → Lies 16 members.now links → Lies 17 members.now junctions
-        → Lies 18 members.now heights → Lies 19 members.now refs
-        → told result place.new (cell_set members.now nodes.new links junctions heights refs)
-        ≡ edit_told (edit_member (cell_set members.now nodes.old links junctions heights refs) member
+    ensures { (u : Unlent members.now)
+        → told result place.new (cell_set members.now nodes.new u.links u.junctions u.heights u.refs)
+        ≡ edit_told (edit_member (cell_set members.now nodes.old u.links u.junctions u.heights u.refs) member
         (λ m. nodes_left m (set_position m.ynd m.nodes at (record { x = x; y = y; z = z })))) }
 {
     let r = sets::edit_nodes::set_position_member(members, nodes, member, at, Vec3 { x, y, z });

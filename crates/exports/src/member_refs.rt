@@ -1,10 +1,10 @@
 // Edits of the refs of a set's member (T-09).
-ghost use Rattle.std.specs.Prelude.{◌≡◌, List, ℕ};
+ghost use Rattle.std.specs.Prelude.{◌≡◌};
 ghost use Rattle.cells.specs.Add.{add_ref};
 ghost use Rattle.cells.specs.Edit.{put_ref};
 ghost use Rattle.cells.specs.Words.{to_ref};
 ghost use Rattle.sets.specs.CellSet.{cell_set};
-ghost use Rattle.sets.specs.Lent.{Lies};
+ghost use Rattle.sets.specs.Lent.{Unlent};
 ghost use Rattle.sets.specs.MemberEdit.{edit_member, refs_left};
 ghost use Rattle.exports.specs.Found.{told};
 ghost use Rattle.exports.specs.SetTold.{edit_told};
@@ -21,11 +21,9 @@ pub extern "C" fn ynd_member_add_ref(
     added: &[u16; 4],
     place: &mut usize,
 ) -> u32
-    ensures { (nodes links junctions : List (List ℕ)) (heights : List ℕ)
-        → Lies 15 members.old nodes → Lies 16 members.old links
-        → Lies 17 members.old junctions → Lies 18 members.old heights
-        → told result place.new (cell_set members.new nodes links junctions heights refs.new)
-        ≡ edit_told (edit_member (cell_set members.old nodes links junctions heights refs.old) member
+    ensures { (u : Unlent members.old)
+        → told result place.new (cell_set members.new u.nodes u.links u.junctions u.heights refs.new)
+        ≡ edit_told (edit_member (cell_set members.old u.nodes u.links u.junctions u.heights refs.old) member
         (λ m. add_ref m (to_ref added.now))) }
 {
     let r = sets::edit_refs::add_ref_member(members, refs, member, ref_of(*added));
@@ -42,11 +40,9 @@ pub extern "C" fn ynd_member_put_ref(
     put: &[u16; 4],
     place: &mut usize,
 ) -> u32
-    ensures { (nodes links junctions : List (List ℕ)) (heights : List ℕ)
-        → Lies 15 members.now nodes → Lies 16 members.now links
-        → Lies 17 members.now junctions → Lies 18 members.now heights
-        → told result place.new (cell_set members.now nodes links junctions heights refs.new)
-        ≡ edit_told (edit_member (cell_set members.now nodes links junctions heights refs.old) member
+    ensures { (u : Unlent members.now)
+        → told result place.new (cell_set members.now u.nodes u.links u.junctions u.heights refs.new)
+        ≡ edit_told (edit_member (cell_set members.now u.nodes u.links u.junctions u.heights refs.old) member
         (λ m. refs_left m (put_ref m.ynd m.refs at (to_ref put.now)))) }
 {
     let r = sets::edit_refs::put_ref_member(members, refs, member, at, ref_of(*put));

@@ -1,7 +1,7 @@
 // What a walk shows of a node, a junction and a chosen link of a set's member (T-09).
-ghost use Rattle.std.specs.Prelude.{◌≡◌, List, ℕ};
+ghost use Rattle.std.specs.Prelude.{◌≡◌};
 ghost use Rattle.sets.specs.CellSet.{cell_set};
-ghost use Rattle.sets.specs.Lent.{Lies};
+ghost use Rattle.sets.specs.Lent.{Unlent};
 ghost use Rattle.sets.specs.MemberLookup.{shown_node_member, shown_junction_member, shown_values_member};
 ghost use Rattle.sets.specs.MemberLookup.{shown_link_member};
 ghost use Rattle.exports.specs.Found.{told, told_of, value_told, seen_words, seen_junction_words, seen_link_words};
@@ -23,10 +23,9 @@ pub extern "C" fn ynd_member_shown_node(
     shown: &mut [usize; 19],
     place: &mut usize,
 ) -> u32
-    ensures { (heights : List ℕ)
-        → Lies 18 members.now heights
+    ensures { (u : Unlent members.now)
         → told result place.new shown.new
-        ≡ told_of (shown_node_member (cell_set members.now nodes.now links.now junctions.now heights refs.now) member
+        ≡ told_of (shown_node_member (cell_set members.now nodes.now links.now junctions.now u.heights refs.now) member
         at) seen_words shown.old }
 {
     let r = sets::shown_member::shown_node_member(
@@ -45,11 +44,9 @@ pub extern "C" fn ynd_member_shown_junction(
     shown: &mut [u32; 6],
     place: &mut usize,
 ) -> u32
-    ensures { (nodes links refs : List (List ℕ)) (heights : List ℕ)
-        → Lies 15 members.now nodes → Lies 16 members.now links
-        → Lies 18 members.now heights → Lies 19 members.now refs
+    ensures { (u : Unlent members.now)
         → told result place.new shown.new
-        ≡ told_of (shown_junction_member (cell_set members.now nodes links junctions.now heights refs) member
+        ≡ told_of (shown_junction_member (cell_set members.now u.nodes u.links junctions.now u.heights u.refs) member
         at) seen_junction_words shown.old }
 {
     let r = sets::shown_member::shown_junction_member(members, junctions, member, at);
@@ -69,17 +66,13 @@ pub extern "C" fn ynd_member_shown_values(
     count: &mut usize,
     place: &mut usize,
 ) -> u32
-    ensures answer { (nodes links refs : List (List ℕ))
-        → Lies 15 members.now nodes → Lies 16 members.now links
-        → Lies 19 members.now refs
+    ensures answer { (u : Unlent members.now)
         → told result place.new count.new
-        ≡ value_told (shown_values_member (cell_set members.now nodes links junctions.now heights.now refs) member
+        ≡ value_told (shown_values_member (cell_set members.now u.nodes u.links junctions.now heights.now u.refs) member
         at values.old).answer count.old }
-    ensures values_after { (nodes links refs : List (List ℕ))
-        → Lies 15 members.now nodes → Lies 16 members.now links
-        → Lies 19 members.now refs
+    ensures values_after { (u : Unlent members.now)
         → values.new
-        ≡ (shown_values_member (cell_set members.now nodes links junctions.now heights.now refs) member
+        ≡ (shown_values_member (cell_set members.now u.nodes u.links junctions.now heights.now u.refs) member
         at values.old).values }
 {
     let r = sets::shown_member::shown_values_member(
@@ -101,11 +94,9 @@ pub extern "C" fn ynd_member_shown_link(
     shown: &mut [u8; 5],
     place: &mut usize,
 ) -> u32
-    ensures { (junctions refs : List (List ℕ)) (heights : List ℕ)
-        → Lies 17 members.now junctions → Lies 18 members.now heights
-        → Lies 19 members.now refs
+    ensures { (u : Unlent members.now)
         → told result place.new shown.new
-        ≡ told_of (shown_link_member (cell_set members.now nodes.now links.now junctions heights refs) member
+        ≡ told_of (shown_link_member (cell_set members.now nodes.now links.now u.junctions u.heights u.refs) member
         at choice) seen_link_words shown.old }
 {
     let r = sets::shown_member::shown_link_member(members, nodes, links, member, at, choice);

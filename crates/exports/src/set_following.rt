@@ -4,7 +4,7 @@ ghost use Rattle.cells.specs.LookupCall.{place_of};
 ghost use Rattle.sets.specs.CellSet.{cell_set};
 ghost use Rattle.sets.specs.CrossingCall.{crossing_left};
 ghost use Rattle.sets.specs.Leave.{first_of_area};
-ghost use Rattle.sets.specs.Lent.{Lies};
+ghost use Rattle.sets.specs.Lent.{Unlent};
 ghost use Rattle.exports.specs.Found.{told, trail, walk_told, whether, found_at};
 ghost use Rattle.exports.specs.SetTold.{set_followed_as};
 
@@ -58,12 +58,10 @@ fn follow_as(
     choices: &[u8],
     visited: &mut [LocationWords],
 ) -> Result<Walked, Refusal>
-    ensures { (junctions refs : List (List ℕ)) (heights : List ℕ)
-        → Lies 17 members.now junctions → Lies 18 members.now heights
-        → Lies 19 members.now refs
+    ensures { (u : Unlent members.now)
         → crossing_left result visited.new
-        ≡ set_followed_as (cell_set members.now nodes.now links.now junctions heights refs) round.version round.area
-        round.member round.start choices.now visited.old }
+        ≡ set_followed_as (cell_set members.now nodes.now links.now u.junctions u.heights u.refs) round.version
+        round.area round.member round.start choices.now visited.old }
 {
     let version = version_of(round.version, round.area)?;
     follow_round_in_set(
@@ -95,17 +93,13 @@ pub extern "C" fn ynd_set_follow_round(
     count: &mut usize,
     place: &mut usize,
 ) -> u32
-    ensures by_index { (junctions refs : List (List ℕ)) (heights : List ℕ)
-        → Lies 17 members.now junctions → Lies 18 members.now heights
-        → Lies 19 members.now refs
+    ensures by_index { (u : Unlent members.now)
         → told result place.new (trail end.new count.new)
-        ≡ walk_told (set_followed_as (cell_set members.now nodes.now links.now junctions heights refs) version area
-        member start choices.now visited.old).answer end.old count.old }
-    ensures by_index_2 { (junctions refs : List (List ℕ)) (heights : List ℕ)
-        → Lies 17 members.now junctions → Lies 18 members.now heights
-        → Lies 19 members.now refs
+        ≡ walk_told (set_followed_as (cell_set members.now nodes.now links.now u.junctions u.heights u.refs) version
+        area member start choices.now visited.old).answer end.old count.old }
+    ensures by_index_2 { (u : Unlent members.now)
         → visited.new
-        ≡ (set_followed_as (cell_set members.now nodes.now links.now junctions heights refs) version area member
+        ≡ (set_followed_as (cell_set members.now nodes.now links.now u.junctions u.heights u.refs) version area member
         start choices.now visited.old).visited }
 {
     let round = BegunInSet {

@@ -1,19 +1,17 @@
 // Cells that join and leave a set (T-09). A member's entry is twenty words: the cell's fifteen, then the sizes of its
 // parts of the five lists.
-ghost use Rattle.std.specs.Prelude.{◌≡◌, ℕ};
-ghost use Rattle.numbers.specs.Refusals.{answered};
+ghost use Rattle.std.specs.Prelude.{◌≡◌};
 ghost use Rattle.sets.specs.CellSet.{cell_set};
 ghost use Rattle.sets.specs.Join.{join_cell};
-ghost use Rattle.sets.specs.Leave.{leave_area, count_after};
+ghost use Rattle.sets.specs.Leave.{leave_area};
 ghost use Rattle.exports.specs.Cells.{lent};
 ghost use Rattle.exports.specs.Found.{told};
-ghost use Rattle.exports.specs.SetTold.{sizes_given, count_told, change_told};
+ghost use Rattle.exports.specs.SetTold.{sizes_given, change_told};
 
 use crate::answers::tell;
 use crate::words::ynd_of;
 use cells::count::Counts;
 use cells::node::NodeWords;
-use numbers::refusal::Refusal;
 
 fn sizes_of(s: [usize; 5]) -> Counts
     ensures { result ≡ sizes_given s }
@@ -26,14 +24,6 @@ fn sizes_of(s: [usize; 5]) -> Counts
         heights,
         refs,
     }
-}
-
-// How many members there are after a call.
-fn tell_count(r: Result<usize, Refusal>, count: &mut usize, place: &mut usize) -> u32
-    ensures { (before : ℕ)
-        → told result place.new count.new ≡ count_told (answered r) (count_after before r) count.old }
-{
-    tell(r, count, place)
 }
 
 // A cell joins the set, whose entries are the first `count` of `members`: what it holds is copied behind the others'
@@ -85,7 +75,7 @@ pub extern "C" fn ynd_set_join(
         new_refs,
         s,
     );
-    tell_count(r, count, place)
+    tell(r, count, place)
 }
 
 // The member with this area leaves the set, the first joined of several. `members` are the set's entries alone;
@@ -109,5 +99,5 @@ pub extern "C" fn ynd_set_leave(
         count.old }
 {
     let r = sets::leave::leave(members, nodes, links, junctions, heights, refs, area);
-    tell_count(r, count, place)
+    tell(r, count, place)
 }

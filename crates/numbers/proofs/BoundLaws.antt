@@ -28,7 +28,7 @@ agree : (f g : ℕ → Float) (m : ℕ) → ((n : ℕ) → T (fits binary32 (f n
     → agree_below (alike f g) (λ _. true) m ≡ true → (n : ℕ) → n < m → f n ≡ g n
 agree f g m p q t n h =
     same_bits (f n) (g n) (p n) (q n) (eqb-true (to_bits binary32 (f n)) (to_bits binary32 (g n))
-        (agree_below_at (alike f g) (λ _. true) m n t h))
+    (agree_below_at (alike f g) (λ _. true) m n t h))
 
 -- ---- all four are f32s
 lower_fits : (n : ℕ) → T (fits binary32 (lower_bound n))

@@ -41,7 +41,7 @@ at_least n (fin true m e) N L h = absurd
     zero_no a b h t = lt_irrefl 0 (subst (λ (x : ℕ). 0 < x) (eqb→eq a 0 (and_r (eqb a b) (eqb a 0) t)) h)
 at_least n (fin false m e) N L h =
     most (m * up e / down e) n L ((le-div_iff_mul-le (down_pos e)).1
-        (plain n (down e) (m * up e) (lt_or_eq (n * 1 * down e) (m * up e * 1) (subst T (sym h) tt))))
+    (plain n (down e) (m * up e) (lt_or_eq (n * 1 * down e) (m * up e * 1) (subst T (sym h) tt))))
   where
     most : (a n : ℕ) → n < 2 ^ 64 → n ≤ a → n ≤ min a (2 ^ 64 - 1)
     most a n l h = omega arith

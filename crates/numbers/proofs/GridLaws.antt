@@ -47,7 +47,7 @@ few m j d a s l D e =
     (lt_of_le_of_lt (le_of_eq e)
     (lt_of_lt_of_le (mul-lt-mul_of_pos_right (mul-lt-mul_of_pos_right s (pow_pos j)) D)
     (le_trans (mul-le-mul_right d (le_trans (le_of_eq (sym (pow-add 2 24 j))) (pow_mono {j = 149} (omega arith))))
-        (le_of_eq (mul_comm (2 ^ 149) d)))))
+    (le_of_eq (mul_comm (2 ^ 149) d)))))
 
 den_is : (d : ℕ) → 1 * 2 ^ 9 * d ≡ d * 512
 den_is d = mul_comm 512 d
@@ -61,20 +61,20 @@ quotient : (m : ℕ) (e : ℤ) → Units m e → cut (round binary32 false (m * 
 quotient m e u = elim (cases_lt u.j 9) [
   | inl l ↦
       half (round binary32 false (m * up e * 1) (1 * 2 ^ 9 * down e))
-          (subst (λ (h : Float). T (le (round binary32 false (m * up e * 1) (1 * 2 ^ 9 * down e)) h)) a_half
-          (round_mono binary32 (m * up e * 1) (1 * 2 ^ 9 * down e) 1 2 (mul-pos (zero-lt-suc 511) (down_pos e))
-          (zero-lt-suc 1) (omega (arith, few m u.j (down e) (m * up e) u.small l (down_pos e) u.value))))
+      (subst (λ (h : Float). T (le (round binary32 false (m * up e * 1) (1 * 2 ^ 9 * down e)) h)) a_half
+      (round_mono binary32 (m * up e * 1) (1 * 2 ^ 9 * down e) 1 2 (mul-pos (zero-lt-suc 511) (down_pos e))
+      (zero-lt-suc 1) (omega (arith, few m u.j (down e) (m * up e) u.small l (down_pos e) u.value))))
       ∙ ap (λ (n : ℕ). min n (2 ^ 64 - 1))
-          (sym (div-eq_of_lt (omega (arith, few m u.j (down e) (m * up e) u.small l (down_pos e) u.value))))
+      (sym (div-eq_of_lt (omega (arith, few m u.j (down e) (m * up e) u.small l (down_pos e) u.value))))
   | inr g ↦
       cut_of_value (round binary32 false (m * up e * 1) (1 * 2 ^ 9 * down e)) (m * up e * 1) (1 * 2 ^ 9 * down e)
-          (mul-pos (zero-lt-suc 511) (down_pos e))
+      (mul-pos (zero-lt-suc 511) (down_pos e))
       (round_exact binary32 false (m * up e * 1) (1 * 2 ^ 9 * down e) m (u.j - 9)
-          (mul-pos (zero-lt-suc 511) (down_pos e)) u.small
-          (lt_of_le_of_lt (mul-le-mul_left m (pow_mono (omega arith))) u.fine)
-          (many m u.j (down e) (m * up e) g u.value))
+      (mul-pos (zero-lt-suc 511) (down_pos e)) u.small
+      (lt_of_le_of_lt (mul-le-mul_left m (pow_mono (omega arith))) u.fine)
+      (many m u.j (down e) (m * up e) g u.value))
       ∙ ap (λ (n : ℕ). min n (2 ^ 64 - 1))
-          (ap (λ (n : ℕ). n / (512 * down e)) (mul-one (m * up e)) ∙ ap (λ (n : ℕ). m * up e / n) (den_is (down e)))
+      (ap (λ (n : ℕ). n / (512 * down e)) (mul-one (m * up e)) ∙ ap (λ (n : ℕ). m * up e / n) (den_is (down e)))
 ]
 
 -- ---- the cell, from the quotient

@@ -26,8 +26,8 @@ pub round_number : (s : Bool) (a c : ℕ) → T (not (is_nan (round binary32 s a
 round_number s a c =
     subst (λ (x : Float). T (not (is_nan x))) (sym (round_is binary32 s a c))
     (units_number s (nearest (a * 2 ^ 149 / (c * 2 ^ (size (a * 2 ^ 149 / c) - 24)))
-        (compare (a * 2 ^ 149 % (c * 2 ^ (size (a * 2 ^ 149 / c) - 24)) * 2)
-        (c * 2 ^ (size (a * 2 ^ 149 / c) - 24)))) (size (a * 2 ^ 149 / c) - 24))
+    (compare (a * 2 ^ 149 % (c * 2 ^ (size (a * 2 ^ 149 / c) - 24)) * 2)
+    (c * 2 ^ (size (a * 2 ^ 149 / c) - 24)))) (size (a * 2 ^ 149 / c) - 24))
 
 -- no sign, and no NaN
 abbrev pub Good : Float → Type 0
@@ -69,10 +69,12 @@ div_good (fin false m e) (fin true n d) a c h p = absurd p
 div_good (fin false m e) (fin false zero d) a c h p = absurd p
 div_good (fin false m e) (fin false (suc n) d) a c h p =
     subst (λ (t : Bool). Good (cond t (cond (eqb m 0) nan (inf false))
-        (round binary32 false (m * up e * down d) (suc n * up d * down e))))
-        (sym (ne_eqb (suc n) 0 (λ e. omega arith)))
-    (round_unsigned (m * up e * down d) (suc n * up d * down e), round_number false (m * up e * down d)
-        (suc n * up d * down e))
+    (round binary32 false (m * up e * down d) (suc n * up d * down e))))
+    (sym (ne_eqb (suc n) 0 (λ e. omega arith))) (
+      round_unsigned (m * up e * down d) (suc n * up d * down e),
+      round_number false (m * up e * down d)
+          (suc n * up d * down e),
+    )
 
 -- one step of Heron's rule from the pattern n, for the f32 of the pattern b, and a number more
 pub step_good : (b n m : ℕ) → b < 2139095040 → 0 < n → n < 2139095040 → m < 2139095040
@@ -80,10 +82,10 @@ pub step_good : (b n m : ℕ) → b < 2139095040 → 0 < n → n < 2139095040 �
     (div binary32 (of_bits binary32 b) (of_bits binary32 n))) (of_bits binary32 m))
 step_good b n m h p l k =
     add_good (add binary32 (of_bits binary32 n) (div binary32 (of_bits binary32 b) (of_bits binary32 n)))
-        (of_bits binary32 m)
+    (of_bits binary32 m)
     (add_good (of_bits binary32 n) (div binary32 (of_bits binary32 b) (of_bits binary32 n))
-        (good_value (of_bits binary32 n) (val n) (2 ^ 149) (plain n l))
+    (good_value (of_bits binary32 n) (val n) (2 ^ 149) (plain n l))
     (div_good (of_bits binary32 b) (of_bits binary32 n) (val b) (2 ^ 149) (plain b h)
-        (positive_of_value (of_bits binary32 n) (val n) (2 ^ 149) (plain n l)
-        (lt_of_le_of_lt zero-le (val_strict 0 n p (omega arith))))))
+    (positive_of_value (of_bits binary32 n) (val n) (2 ^ 149) (plain n l)
+    (lt_of_le_of_lt zero-le (val_strict 0 n p (omega arith))))))
     (good_value (of_bits binary32 m) (val m) (2 ^ 149) (plain m k))

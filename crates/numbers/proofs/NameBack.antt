@@ -35,7 +35,7 @@ area_back : (n : ℕ) → n < 1024 → area_named (named (name_of_area n)) ≡ S
 unfolding back
 area_back n h =
     rw (area_name n h) (is_known n (area_named (named (nodes ++ four n ++ ynd)))
-        (agree_below_at back (λ _. true) 1024 n refl h))
+    (agree_below_at back (λ _. true) 1024 n refl h))
 
 pub name_back : (cx cy : ℕ) → in_grid cx cy ≡ true → area_of_name (cell_file_name cx cy) ≡ Some (cy * 32 + cx)
 unfolding area_id name_for

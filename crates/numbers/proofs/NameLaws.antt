@@ -81,7 +81,7 @@ after_slash best (c ∷ cs) zero l e h = rw e (no_slash cs cs (λ k m. h (suc k)
 after_slash best (c ∷ cs) (suc i) l e h =
     let next : suc (i + 1) ≡ suc i + 1 = omega arith in
     after_slash (cond (slash c) cs best) cs i (le_of_suc-le-suc l) e
-        (λ k m n. h (suc k) (omega arith) (omega arith)) ∙ ap (λ (n : ℕ). drop n (c ∷ cs)) next
+    (λ k m n. h (suc k) (omega arith) (omega arith)) ∙ ap (λ (n : ℕ). drop n (c ∷ cs)) next
 
 -- one byte after another, from a best candidate on
 pub base_step : (best s : List ℕ) (i : ℕ) → i < length s
@@ -112,7 +112,7 @@ starts_same (c ∷ cs) [] h all = refl
 starts_same [] (d ∷ ds) h all = absurd (not-suc-le-zero h)
 starts_same (c ∷ cs) (d ∷ ds) h all =
     rw (eq-eqb (lower c) d (all 0 (zero-lt-suc (length ds))))
-        (starts_same cs ds (le_of_suc-le-suc h) (λ k l. all (suc k) (omega arith)))
+    (starts_same cs ds (le_of_suc-le-suc h) (λ k l. all (suc k) (omega arith)))
 
 starts_other : (s word : List ℕ) (k : ℕ) → k < length word → k < length s → (Same s word k → ⊥) → false ≡ starts s word
 unfolding starts
@@ -121,7 +121,7 @@ starts_other [] (w ∷ ws) k h l d = absurd (not-suc-le-zero l)
 starts_other (c ∷ cs) (w ∷ ws) zero h l d = rw (ne_eqb (lower c) w d) refl
 starts_other (c ∷ cs) (w ∷ ws) (suc k) h l d =
     rw (← starts_other cs ws k (le_of_suc-le-suc h) (le_of_suc-le-suc l) d)
-        (sym (and_right (eqb (lower c) w) false refl))
+    (sym (and_right (eqb (lower c) w) false refl))
 
 -- ASCII's lower case
 lower_is : (c : ℕ) → to_ascii_lowercase c ≡ lower c
@@ -130,7 +130,7 @@ lower_is c = grind (arith, nat_tests)
 pub starts_decided : (r : Bool) (s word : List ℕ) → length word ≤ length s
     → (r ≡ true → (k : ℕ) → k < length word → to_ascii_lowercase (get_or s k 0) ≡ get_or word k 0)
     → (r ≡ false → (k : ℕ) × (k < length word) × (to_ascii_lowercase (get_or s k 0) ≡ get_or word k 0 → ⊥)) → r
-        ≡ starts s word
+    ≡ starts s word
 starts_decided true s word l same other = starts_same s word l (λ k h. sym (lower_is (get_or s k 0)) ∙ same refl k h)
 starts_decided false s word l same other =
     let w = other refl in
@@ -178,11 +178,11 @@ reads n (c ∷ cs) h = elim (cases_lt c 48) [
           | inr o ↦
               let next : m ≡ n * 10 + digit_value c = omega (arith, e) in
               let value : digits_value_after 10 m cs
-                  ≡ digits_value_after 10 (n * 10 + digit_value c) cs = ap (λ (x : ℕ). digits_value_after 10 x cs)
-                  next in
+              ≡ digits_value_after 10 (n * 10 + digit_value c) cs = ap (λ (x : ℕ). digits_value_after 10 x cs)
+              next in
               rw (le-leb 48 c k, le-leb c 57 l, le-leb m 4294967295 o)
               (same_iff (digits_from m cs) (λ p. ((omega (arith, e), p.0), omega (arith, value, p.1)))
-                  (λ p. (p.0.1, omega (arith, value, p.1))) value
+              (λ p. (p.0.1, omega (arith, value, p.1))) value
               (reads m cs (omega arith)))
         ]
   ]

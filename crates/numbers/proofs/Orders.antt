@@ -55,7 +55,7 @@ lt_of_values (fin false m e) (fin true n d) a b c C p q h = absurd (subst T q.0 
 lt_of_values (fin false m e) (fin false n d) a b c C p q h =
     lt→ltb (m * up e * down d) (n * up d * down e)
     (lt_of_not-le (λ (g : n * up d * down e ≤ m * up e * down d). not-le_of_lt (mul-lt-mul_of_pos_right h C)
-        (transfer b a c c (n * up d) (m * up e) (down d) (down e) (down_pos d) (down_pos e) (sym q.1) (sym p.1) g)))
+    (transfer b a c c (n * up d) (m * up e) (down d) (down e) (down_pos d) (down_pos e) (sym q.1) (sym p.1) g)))
 
 lt_infinity : (x : Float) (a c : ℕ) → HasValue x false a c → T (lt x (inf false))
 unfolding lt
@@ -88,7 +88,7 @@ clash (fin false m e) (inf false) u v h l = h
 clash (fin false m e) (fin true n d) u v h l = v
 clash (fin false m e) (fin false n d) u v h l =
     not-le_of_lt (ltb→lt (n * up d * down e) (m * up e * down d) h)
-        (lt_or_eq (m * up e * down d) (n * up d * down e) l)
+    (lt_or_eq (m * up e * down d) (n * up d * down e) l)
 
 pub lt_bits : (b c : ℕ) → b ≤ 2139095040 → c ≤ 2139095040 → T (lt (of_bits binary32 b) (of_bits binary32 c)) → b < c
 lt_bits b c p q t = elim (cases_lt b c) [
@@ -103,7 +103,7 @@ lt_bits b c p q t = elim (cases_lt b c) [
     itself : T (lt (of_bits binary32 b) (of_bits binary32 b)) → ⊥
     itself s =
         clash (of_bits binary32 b) (of_bits binary32 b) (bits_unsigned b p) (bits_unsigned b p) s
-            (floats.le_of_lt (of_bits binary32 b) (of_bits binary32 b) s)
+        (floats.le_of_lt (of_bits binary32 b) (of_bits binary32 b) s)
 
 -- ---- `<=`, from f32s to their patterns
 pub pattern_of : (x : Float) → T (fits binary32 x) → T (unsigned x) → T (not (is_nan x)) → to_bits binary32 x
@@ -128,7 +128,7 @@ grow X Y E D G N h =
     (le_trans
     (both (X * G * (D * G)) (Y * G * (E * G)) (N * E * (D * G)) (N * D * (E * G))
     (le_trans (le_of_eq (mul-mul-mul_comm X G D G))
-        (le_trans (mul-le-mul_right (G * G) h) (le_of_eq (sym (mul-mul-mul_comm Y G E G)))))
+    (le_trans (mul-le-mul_right (G * G) h) (le_of_eq (sym (mul-mul-mul_comm Y G E G)))))
     (mul-mul-mul_comm N E D G))
     (le_of_eq (sym (add-mul (Y * G) (N * D) (E * G)))))
   where
@@ -146,7 +146,7 @@ add_mono (fin false m e) (inf s) a b c n g C p q h = absurd q
 add_mono (fin false m e) (fin true k d) a b c n g C p q h = absurd (subst T q.0 tt)
 add_mono (fin false m e) (fin false k d) a b c n g C p q h =
     round_mono binary32 (m * up e * down g + n * up g * down e) (down e * down g)
-        (k * up d * down g + n * up g * down d) (down d * down g) (mul-pos (down_pos e) (down_pos g))
-        (mul-pos (down_pos d) (down_pos g))
+    (k * up d * down g + n * up g * down d) (down d * down g) (mul-pos (down_pos e) (down_pos g))
+    (mul-pos (down_pos d) (down_pos g))
     (grow (m * up e) (k * up d) (down e) (down d) (down g) (n * up g)
-        (transfer (m * up e) (k * up d) (down e) (down d) a b c c C C p.1 q.1 (mul-le-mul_right c h)))
+    (transfer (m * up e) (k * up d) (down e) (down d) a b c c C C p.1 q.1 (mul-le-mul_right c h)))

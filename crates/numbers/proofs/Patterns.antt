@@ -32,10 +32,10 @@ unfolding of_fields
 mid_fields s zero t h k = absurd (omega arith)
 mid_fields s (suc x) t h k =
     subst (λ (a : Bool). HasValue (cond a (cond (eqb t 0) (inf s) nan) (odd 24 s (8388608 + t) x 149)) s
-        ((8388608 + t) * 2 ^ (suc x - 1)) (2 ^ 149))
+    ((8388608 + t) * 2 ^ (suc x - 1)) (2 ^ 149))
     (sym (ne_eqb (suc x) 255 (λ e. omega arith)))
     (subst (λ (y : ℕ). HasValue (odd 24 s (8388608 + t) x 149) s ((8388608 + t) * 2 ^ y) (2 ^ 149)) (omega arith)
-        (odd_sign 24 s (8388608 + t) x 149))
+    (odd_sign 24 s (8388608 + t) x 149))
 
 top_fields : (s : Bool) (x t : ℕ) → x ≡ 255 → of_fields binary32 s x t ≡ cond (eqb t 0) (inf s) nan
 unfolding of_fields
@@ -80,7 +80,7 @@ pub number_bits : (x : Float) → T (fits binary32 x) → T (not (is_nan x)) →
 number_bits x h n =
     ltb-false 2139095040 (to_bits binary32 x % 2147483648)
     (sym (nan_bits_above binary32 (to_bits binary32 x)) ∙ nan_bits_is binary32 (to_bits binary32 x)
-        ∙ ap is_nan (of_bits-to_bits binary32 x h) ∙ is_false (is_nan x) n)
+    ∙ ap is_nan (of_bits-to_bits binary32 x h) ∙ is_false (is_nan x) n)
 
 -- ---- the number in units of 2 ^ -149
 abbrev pub number : ℕ → ℕ → ℕ
@@ -146,8 +146,11 @@ pattern_in b t n =
         | inl z ↦ omega (arith, nleb→lt 2147483648 b (subst (λ (x : Float). T (unsigned x)) (infinite b e z) t))
         | inr p ↦ absurd (subst (λ (x : Float). T (not (is_nan x))) (no_number b e (λ z. omega arith)) n)
       ]
-      | inr l ↦ omega (arith, nleb→lt 2147483648 b
-          (sign_of_value (of_bits binary32 b) (sign b) (val b) (2 ^ 149) (finite_value b l) t))
+      | inr l ↦ omega (
+        arith,
+        nleb→lt 2147483648 b
+            (sign_of_value (of_bits binary32 b) (sign b) (val b) (2 ^ 149) (finite_value b l) t),
+      )
     ]
 
 -- ---- what is rounded without a sign has none
@@ -168,8 +171,8 @@ pub round_unsigned : (a c : ℕ) → T (unsigned (round binary32 false a c))
 round_unsigned a c =
     subst (λ (x : Float). T (unsigned x)) (sym (round_is binary32 false a c))
     (units_unsigned (nearest (a * 2 ^ 149 / (c * 2 ^ (size (a * 2 ^ 149 / c) - 24)))
-        (compare (a * 2 ^ 149 % (c * 2 ^ (size (a * 2 ^ 149 / c) - 24)) * 2)
-        (c * 2 ^ (size (a * 2 ^ 149 / c) - 24)))) (size (a * 2 ^ 149 / c) - 24))
+    (compare (a * 2 ^ 149 % (c * 2 ^ (size (a * 2 ^ 149 / c) - 24)) * 2)
+    (c * 2 ^ (size (a * 2 ^ 149 / c) - 24)))) (size (a * 2 ^ 149 / c) - 24))
 
 -- for a function that takes a number or none
 pub ruleset float_laws = (nan_is, T_from_false, number_bits, of_bits-to_bits, to_z-of_z)

@@ -57,5 +57,5 @@ each_lowest cause bad i (suc k) (suc j) lt good h =
     let s : i + suc j ≡ suc i + j = omega arith in
     rw (rw e at (good 0 (omega arith)))
     (each_lowest cause bad (suc i) k j (omega arith)
-        (λ q l. let s' : suc i + q ≡ i + suc q = omega arith in rw s' (good (suc q) (omega arith))) (rw s at h)
+    (λ q l. let s' : suc i + q ≡ i + suc q = omega arith in rw s' (good (suc q) (omega arith))) (rw s at h)
     ∙ ap (λ (q : ℕ). Err (cause q)) (sym s))

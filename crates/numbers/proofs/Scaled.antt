@@ -32,13 +32,13 @@ raised_good b h = add_good (of_bits binary32 b) (of_bits binary32 0x47ff_ffff)
 scaled_mono : (b c : ℕ) → b ≤ c → c < 2139095040 → scaled b ≤ scaled c
 scaled_mono b c h l =
     le_bits (raised (of_bits binary32 b)) (raised (of_bits binary32 c))
-        (add-fits binary32 (of_bits binary32 b) (of_bits binary32 0x47ff_ffff))
-        (add-fits binary32 (of_bits binary32 c) (of_bits binary32 0x47ff_ffff))
+    (add-fits binary32 (of_bits binary32 b) (of_bits binary32 0x47ff_ffff))
+    (add-fits binary32 (of_bits binary32 c) (of_bits binary32 0x47ff_ffff))
     (raised_good b (omega arith)).0 (raised_good c l).0 (raised_good b (omega arith)).1
     (subst (λ (z : Float). T (le (add binary32 (of_bits binary32 b) z) (add binary32 (of_bits binary32 c) z)))
-        (sym more)
+    (sym more)
     (add_mono (of_bits binary32 b) (of_bits binary32 c) (val b) (val c) (2 ^ 149) 16777215 (negsuc 6) (pow_pos 149)
-        (plain b (omega arith)) (plain c l) (val_mono b c h (omega arith))))
+    (plain b (omega arith)) (plain c l) (val_mono b c h (omega arith))))
 
 -- ---- the pattern before the square of suc k counts one less than its sixty-fourths
 unfoldable edge : ℕ → ℕ

@@ -169,7 +169,7 @@ read_before zero n rest h = let none : 0 ≡ n = omega arith in ap (λ (x : ℕ)
 read_before (suc w) n rest h =
     let whole : n / 16 * 16 + n % 16 ≡ n = omega arith in
     read_before w (n / 16) (hex_digit (n % 16) ∷ rest)
-        ((div-lt_iff_lt-mul (zero-lt-suc 15)).1 (lt_of_lt_of_le h (le_of_eq (pow-suc 16 w))))
+    ((div-lt_iff_lt-mul (zero-lt-suc 15)).1 (lt_of_lt_of_le h (le_of_eq (pow-suc 16 w))))
     ∙ ap (λ (x : ℕ). hex_read (n / 16 * 16 + x) rest) (value_back (n % 16) (omega arith))
     ∙ ap (λ (x : ℕ). hex_read x rest) whole
 

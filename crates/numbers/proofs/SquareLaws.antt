@@ -36,7 +36,7 @@ pub between_is : (k b : ℕ) → k < 256 → b ≤ 2139095040 → square k ≤ b
     ≡ length_of (of_bits binary32 b)
 between_is k b h l p q =
     length_is k b h l (le_trans (entry_low k h) p)
-        (λ g. omega (arith, entry_high (suc k) g, subst (λ (n : ℕ). b + 1 < square n) (add-one k) q))
+    (λ g. omega (arith, entry_high (suc k) g, subst (λ (n : ℕ). b + 1 < square n) (add-one k) q))
 
 -- from the last entry on
 pub beyond_is : (b : ℕ) → b ≤ 2139095040 → 0x477e_0100 ≤ b → 255 ≡ length_of (of_bits binary32 b)

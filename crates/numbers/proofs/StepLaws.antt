@@ -25,7 +25,7 @@ step_of_value k (inf t) s a c C h = absurd h
 step_of_value k (fin t m e) s a c C h =
     ap (λ (u : Bool). limited u (m * up e * 2 ^ k / down e)) h.0
     ∙ ap (limited s) (div_same (m * up e * 2 ^ k) (down e) (a * 2 ^ k) c (down_pos e) C
-        (mul_right_comm (m * up e) (2 ^ k) c ∙ ap (λ (n : ℕ). n * 2 ^ k) h.1 ∙ mul_right_comm a (down e) (2 ^ k)))
+    (mul_right_comm (m * up e) (2 ^ k) c ∙ ap (λ (n : ℕ). n * 2 ^ k) h.1 ∙ mul_right_comm a (down e) (2 ^ k)))
 
 -- from 32768 on only the sign counts
 pub over : (s : Bool) (n : ℕ) → 32768 ≤ n → limited s n ≡ limited s 32768
@@ -55,7 +55,7 @@ small_mid : (q x k : ℕ) → q < 2 ^ 24 → 0 < x → x + k < 127 → q * 2 ^ (
 small_mid q x k h p l =
     lt_of_lt_of_le (mul-lt-mul_of_pos_right (mul-lt-mul_of_pos_right h (pow_pos (x - 1))) (pow_pos k))
     (le_trans (le_of_eq (ap (λ (n : ℕ). n * 2 ^ k) (sym (pow-add 2 24 (x - 1))) ∙ sym (pow-add 2 (24 + (x - 1)) k)))
-        (pow_mono {j = 149} (omega arith)))
+    (pow_mono {j = 149} (omega arith)))
 
 pub too_small : (b k : ℕ) → k ≤ 5 → field b + k < 127 → step_of k (of_bits binary32 b) ≡ pos 0
 too_small b k h l = elim (eq-zero-or-pos (field b)) [
@@ -71,7 +71,7 @@ too_small b k h l = elim (eq-zero-or-pos (field b)) [
 shift : (q x k : ℕ) → 0 < x → x + k < 142 → q * 2 ^ (x - 1) * 2 ^ k * 2 ^ (150 - k - x) ≡ q * 2 ^ 149
 shift q x k p l =
     ap (λ (n : ℕ). n * 2 ^ (150 - k - x))
-        (mul_assoc q (2 ^ (x - 1)) (2 ^ k) ∙ ap (λ (n : ℕ). q * n) (sym (pow-add 2 (x - 1) k)))
+    (mul_assoc q (2 ^ (x - 1)) (2 ^ k) ∙ ap (λ (n : ℕ). q * n) (sym (pow-add 2 (x - 1) k)))
     ∙ mul_assoc q (2 ^ (x - 1 + k)) (2 ^ (150 - k - x))
     ∙ ap (λ (n : ℕ). q * n) (sym (pow-add 2 (x - 1 + k) (150 - k - x)) ∙ ap (λ (n : ℕ). 2 ^ n) (whole x k p l))
   where
@@ -85,25 +85,25 @@ pub in_range : (b k : ℕ) → k ≤ 5 → 127 ≤ field b + k → field b + k <
     ≡ limited (sign b) ((8388608 + fraction b) / 2 ^ (150 - k - field b))
 in_range b k h p l =
     step_of_value k (of_bits binary32 b) (sign b) ((8388608 + fraction b) * 2 ^ (field b - 1)) (2 ^ 149)
-        (pow_pos 149) (mid_value b (omega arith) (omega arith))
+    (pow_pos 149) (mid_value b (omega arith) (omega arith))
     ∙ ap (limited (sign b)) (div_same ((8388608 + fraction b) * 2 ^ (field b - 1) * 2 ^ k) (2 ^ 149)
-        (8388608 + fraction b) (2 ^ (150 - k - field b)) (pow_pos 149) (pow_pos (150 - k - field b))
-        (shift (8388608 + fraction b) (field b) k (omega arith) l))
+    (8388608 + fraction b) (2 ^ (150 - k - field b)) (pow_pos 149) (pow_pos (150 - k - field b))
+    (shift (8388608 + fraction b) (field b) k (omega arith) l))
 
 -- ---- beyond it
 large : (q x k : ℕ) → 8388608 ≤ q → k ≤ 5 → 142 ≤ x + k → 32768 * 2 ^ 149 ≤ q * 2 ^ (x - 1) * 2 ^ k
 large q x k h j l =
     le_trans (le_trans (pow_mono {i = 164} (omega arith))
-        (le_of_eq (pow-add 2 (23 + (x - 1)) k ∙ ap (λ (n : ℕ). n * 2 ^ k) (pow-add 2 23 (x - 1)))))
+    (le_of_eq (pow-add 2 (23 + (x - 1)) k ∙ ap (λ (n : ℕ). n * 2 ^ k) (pow-add 2 23 (x - 1)))))
     (mul-le-mul_right (2 ^ k) (mul-le-mul_right (2 ^ (x - 1)) h))
 
 pub beyond : (b k : ℕ) → k ≤ 5 → 142 ≤ field b + k → field b < 255 → step_of k (of_bits binary32 b)
     ≡ limited (sign b) 32768
 beyond b k h l u =
     step_of_value k (of_bits binary32 b) (sign b) ((8388608 + fraction b) * 2 ^ (field b - 1)) (2 ^ 149)
-        (pow_pos 149) (mid_value b (omega arith) u)
+    (pow_pos 149) (mid_value b (omega arith) u)
     ∙ over (sign b) ((8388608 + fraction b) * 2 ^ (field b - 1) * 2 ^ k / 2 ^ 149)
-        ((le-div_iff_mul-le (pow_pos 149)).1 (large (8388608 + fraction b) (field b) k (omega arith) h l))
+    ((le-div_iff_mul-le (pow_pos 149)).1 (large (8388608 + fraction b) (field b) k (omega arith) h l))
 
 -- ---- infinite
 pub at_infinity : (b k : ℕ) → field b ≡ 255 → fraction b ≡ 0 → step_of k (of_bits binary32 b) ≡ limited (sign b) 32768
@@ -121,9 +121,9 @@ alike : (t s : Bool) (m n u d k : ℕ) → 0 < d → t ≡ s → m * u * 1 ≡ n
 alike t s m n u d k D p q =
     ap (λ (b : Bool). round binary32 b (m * u * 1) (1 * 2 ^ k * d)) p
     ∙ round_same binary32 s (m * u * 1) (1 * 2 ^ k * d) n (2 ^ k) (mul-pos (mul-pos (zero-lt-suc 0) (pow_pos k)) D)
-        (pow_pos k)
+    (pow_pos k)
     (ap (λ (a : ℕ). a * 2 ^ k) q ∙ mul_assoc n d (2 ^ k)
-        ∙ ap (λ (a : ℕ). n * a) (mul_comm d (2 ^ k) ∙ ap (λ (a : ℕ). a * d) (sym (one-mul (2 ^ k)))))
+    ∙ ap (λ (a : ℕ). n * a) (mul_comm d (2 ^ k) ∙ ap (λ (a : ℕ). a * d) (sym (one-mul (2 ^ k)))))
 
 by_power : (k : ℕ) (x : Float) (s : Bool) (n : ℕ) → HasValue x s n 1 → div binary32 x (fin false 1 (pos k))
     ≡ round binary32 s n (2 ^ k)
@@ -156,7 +156,7 @@ exact k s n h l = round_exact binary32 s n (2 ^ k) n (149 - k) (pow_pos k) (omeg
     (lt_of_lt_of_le (mul-lt-mul_of_pos_right (omega arith) (pow_pos (149 - k)))
     (le_trans (le_of_eq (sym (pow-add 2 24 (149 - k)))) (pow_mono {j = 277} (omega arith))))
     (ap (λ (e : ℕ). n * 2 ^ e) (whole k h) ∙ ap (λ (e : ℕ). n * e) (pow-add 2 (149 - k) k)
-        ∙ sym (mul_assoc n (2 ^ (149 - k)) (2 ^ k)))
+    ∙ sym (mul_assoc n (2 ^ (149 - k)) (2 ^ k)))
   where
     whole : (k : ℕ) → k ≤ 5 → 149 ≡ 149 - k + k
     whole k h = omega arith

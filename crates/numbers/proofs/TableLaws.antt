@@ -45,8 +45,8 @@ root_of_value (inf s) v h = absurd h
 root_of_value (fin true m e) v h = absurd (subst T h.0 tt)
 root_of_value (fin false m e) v h =
     ap root_of (div_same (m * up e * 2 ^ 298) (down e) (v * 2 ^ 149) 1 (down_pos e) (zero-lt-suc 0)
-        (mul-one (m * up e * 2 ^ 298) ∙ sym (mul_assoc (m * up e) (2 ^ 149) (2 ^ 149))
-        ∙ ap (λ (n : ℕ). n * 2 ^ 149) h.1 ∙ mul_right_comm v (down e) (2 ^ 149)) ∙ div-one (v * 2 ^ 149))
+    (mul-one (m * up e * 2 ^ 298) ∙ sym (mul_assoc (m * up e) (2 ^ 149) (2 ^ 149))
+    ∙ ap (λ (n : ℕ). n * 2 ^ 149) h.1 ∙ mul_right_comm v (down e) (2 ^ 149)) ∙ div-one (v * 2 ^ 149))
 
 pub root_at : (b : ℕ) → b < 2139095040 → root (of_bits binary32 b) ≡ root_of (val b * 2 ^ 149)
 root_at b h = root_of_value (of_bits binary32 b) (val b) (plain b h)
@@ -67,7 +67,7 @@ carry k (fin false m e) (inf false) u h r = tt
 carry k (fin false m e) (fin true n d) u h r = absurd u
 carry k (fin false m e) (fin false n d) u h r =
     le→leb (k * down d) (n * up d) (cross k (down e) (down d) (m * up e) (n * up d) (down_pos e)
-        (leb→le (k * down e) (m * up e) r) (lt_or_eq (m * up e * down d) (n * up d * down e) h))
+    (leb→le (k * down e) (m * up e) r) (lt_or_eq (m * up e * down d) (n * up d * down e) h))
   where
     cross : (k e d a b : ℕ) → 0 < e → k * e ≤ a → a * d ≤ b * e → k * d ≤ b
     cross k e d a b E p q = le_of_mul-le-mul_right
@@ -84,7 +84,7 @@ reach_mono k b c h l r = elim (eq-or-lt_of_le l) [
   | inr g ↦
       subst (λ (x : Float). T (reaches k x)) (sym (root_at c g))
       (carry k (root_of (val b * 2 ^ 149)) (root_of (val c * 2 ^ 149)) (no_sign (val c * 2 ^ 149))
-          (root_of_mono (val b) (val c) (val_mono b c h (omega arith)))
+      (root_of_mono (val b) (val c) (val_mono b c h (omega arith)))
       (subst (λ (x : Float). T (reaches k x)) (root_at b (omega arith)) r))
 ]
 
@@ -140,8 +140,11 @@ length_is r b h l e n = capped_is r (root (of_bits binary32 b)) h (reached r b h
 
 -- ---- the rule, for all entries together
 pub least_entry : (k : ℕ) → k < 256 → Least k (entry k)
-least_entry k h = record { own = reached k (entry k) h (le_of_lt (finite k h)) (le_of_eq refl); none_below = λ b l.
-    missed k b h l }
+least_entry k h = record {
+  own = reached k (entry k) h (le_of_lt (finite k h)) (le_of_eq refl);
+  none_below = λ b l.
+      missed k b h l;
+}
 
 -- ---- the place where the entries become more than a pattern
 adjacent : (k : ℕ) → k + 1 < 256 → entry k ≤ entry (k + 1)
@@ -156,7 +159,7 @@ all = refl
 rising : IsNonDecreasingBy (λ (y : ℕ). y) thresholds
 rising = IsNonDecreasingBy-from_all_adjacent (λ (y : ℕ). y) thresholds (λ k d h.
     rw (get_or_default thresholds k d 0 (omega arith), get_or_default thresholds (k + 1) d 0 h)
-        (adjacent k (omega (arith, all))))
+    (adjacent k (omega (arith, all))))
 
 pub partitioned : (b : ℕ) → IsPartitionedBy (λ y. leb y b) thresholds
 partitioned b = IsPartitionedBy-leb (λ (y : ℕ). y) thresholds b rising
@@ -175,6 +178,6 @@ module _ (b r : ℕ) (h : IsPartitionPoint (λ y. leb y b ≡ true) (λ y. leb y
   pub point_is : b ≤ 2139095040 → r ≤ 256 → r - 1 ≡ length_of (of_bits binary32 b)
   point_is l m =
       length_is (r - 1) b (omega (arith, point_some)) l
-          (leb→le (entry (r - 1)) b (subst T (sym (h.0 (r - 1) 0 zero-le (omega (arith, point_some)))) tt))
+      (leb→le (entry (r - 1)) b (subst T (sym (h.0 (r - 1) 0 zero-le (omega (arith, point_some)))) tt))
       (λ g. leb-false (entry (suc (r - 1))) b
-          (h.1 (suc (r - 1)) 0 (omega (arith, point_some)) (omega (arith, all, g))))
+      (h.1 (suc (r - 1)) 0 (omega (arith, point_some)) (omega (arith, all, g))))

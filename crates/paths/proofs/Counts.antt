@@ -47,13 +47,16 @@ module _ (d e : ℕ → ℕ) (k l : ℕ) (kl : k ≤ l) where
   pub lower_grows : (n : ℕ) → ((x : ℕ) → x < n → e x ≤ d x) → lower d k n ≤ lower e l n
   unfolding lower
   lower_grows zero h = omega arith
-  lower_grows (suc n) h = one_grows n (lower d k n) (lower e l n) (h n (omega arith)) (lower_grows n (λ x lt. h x (omega arith)))
+  lower_grows (suc n) h = one_grows n (lower d k n) (lower e l n) (h n (omega arith))
+      (lower_grows n (λ x lt. h x (omega arith)))
 
   -- and one more, if one that was not below is now
-  pub lower_more : (n : ℕ) → ((x : ℕ) → x < n → e x ≤ d x) → (u : ℕ) → u < n → k ≤ d u → e u < l → lower d k n + 1 ≤ lower e l n
+  pub lower_more : (n : ℕ) → ((x : ℕ) → x < n → e x ≤ d x) → (u : ℕ) → u < n → k ≤ d u → e u < l → lower d k n + 1
+      ≤ lower e l n
   unfolding lower
   lower_more zero h u lt hk hl = absurd (omega arith)
-  lower_more (suc n) h u lt hk hl = ⊎_elim here (there (λ l. lower_more n (λ x lt. h x (omega arith)) u l hk hl)) (cases_eq u n)
+  lower_more (suc n) h u lt hk hl = ⊎_elim here (there (λ l. lower_more n (λ x lt. h x (omega arith)) u l hk hl))
+      (cases_eq u n)
     where
       here : u ≡ n → lower d k (suc n) + 1 ≤ lower e l (suc n)
       here q =
@@ -80,7 +83,8 @@ module _ (d e : ℕ → ℕ) where
   pub total_falls : (n : ℕ) → ((x : ℕ) → x < n → e x ≤ d x) → (v : ℕ) → v < n → e v < d v → total e n < total d n
   unfolding total
   total_falls zero h v lt f = absurd (omega arith)
-  total_falls (suc n) h v lt f = ⊎_elim here (there (λ l. total_falls n (λ x lt. h x (omega arith)) v l f)) (cases_eq v n)
+  total_falls (suc n) h v lt f = ⊎_elim here (there (λ l. total_falls n (λ x lt. h x (omega arith)) v l f))
+      (cases_eq v n)
     where
       here : v ≡ n → total e (suc n) < total d (suc n)
       here q = let g : e n < d n = rw q at f in omega (arith, total_le n (λ x lt. h x (omega arith)))

@@ -32,7 +32,8 @@ use Rattle.paths.specs.ShortestPath.{length_of, length_at, distance, Leads, Shor
 use Rattle.paths.specs.SameDistances.{SameDistance, node_fits, ref_fits, fits, SameDistances}
 use Rattle.paths.proofs.EdgeLaws.{next_inside}
 use Rattle.paths.proofs.Least.{Goes, stay, go, goes_leads, leads_goes, sum_go}
-use Rattle.paths.proofs.WiringLaws.{wired_long, wired_length, wired_next, wired_fits, same_sound, nodes_fit_again, refs_fit_again}
+use Rattle.paths.proofs.WiringLaws.{wired_long, wired_length, wired_next, wired_fits, same_sound, nodes_fit_again}
+use Rattle.paths.proofs.WiringLaws.{refs_fit_again}
 use Rattle.std.specs.Prelude.{Ok, Err}
 use Rattle.numbers.specs.Refusals.{Answer, done}
 
@@ -70,7 +71,8 @@ steps_trans {c} {d} {e} {f} {g} a b =
       same_count = b.same_count ∙ a.same_count;
       inside = λ p lt. omega (arith, b.inside (f p) (in-d p lt), a.same_count);
       apart = λ p q lp lq x. a.apart p q lp lq (b.apart (f p) (f q) (in-d p lp) (in-d q lq) x);
-      same_next = λ p k lt. b.same_next (f p) k (in-d p lt) ∙ ap (move_next g) (a.same_next p k lt) ∙ move_move f g (next c p k);
+      same_next = λ p k lt. b.same_next (f p) k (in-d p lt) ∙ ap (move_next g) (a.same_next p k lt)
+          ∙ move_move f g (next c p k);
       same_length = λ p k lt. b.same_length (f p) k (in-d p lt) ∙ a.same_length p k lt;
     }
 
@@ -78,12 +80,14 @@ relinked_length : (o : Old) (l : Option Link) → length_of (map_option (relink 
 relinked_length o (some l) = refl
 relinked_length o none = refl
 
-steps_renumbered : (c : Cell) → sound c ≡ true → SameSteps c.nodes (renumber_cell c).nodes (new_place (ped_flags c.nodes))
+steps_renumbered : (c : Cell) → sound c ≡ true
+    → SameSteps c.nodes (renumber_cell c).nodes (new_place (ped_flags c.nodes))
 unfolding length_at
 steps_renumbered c s =
     let ns = c.nodes in
     let f = new_place (ped_flags ns) in
-    let link : (p b : ℕ) → p < length ns → link_at (renumber_cell c).nodes (f p) b ≡ map_option (relink (old_nodes ns)) (link_at ns p b) =
+    let link : (p b : ℕ) → p < length ns → link_at (renumber_cell c).nodes (f p) b
+    ≡ map_option (relink (old_nodes ns)) (link_at ns p b) =
     λ p b lp. rw (new_node_law c p lp, map_at) in
     record {
       same_count = new_length c;
@@ -101,14 +105,18 @@ module _ (c d : List Node) (f : ℕ → ℕ) (a : SameSteps c d f) where
 
   moved_on : {p q : ℕ} {bs : List ℕ} → p < length c → Goes c p bs q → Goes d (f p) bs (f q)
   moved_on lt stay = stay
-  moved_on lt (go {p = p} {r = r} {b = b} e g) = go (a.same_next p b lt ∙ ap (move_next f) e) (moved_on (on_inside p b r e) g)
+  moved_on lt (go {p = p} {r = r} {b = b} e g) = go (a.same_next p b lt ∙ ap (move_next f) e)
+      (moved_on (on_inside p b r e) g)
 
-  moved_back : (x y : ℕ) (bs : List ℕ) (p q : ℕ) → p < length c → q < length c → x ≡ f p → y ≡ f q → Goes d x bs y → Goes c p bs q
+  moved_back : (x y : ℕ) (bs : List ℕ) (p q : ℕ) → p < length c → q < length c → x ≡ f p → y ≡ f q → Goes d x bs y
+      → Goes c p bs q
   moved_back x y bs p q lp lq ex ey stay = subst (λ (z : ℕ). Goes c p [] z) (a.apart p q lp lq (sym ex ∙ ey)) stay
   moved_back x y bs p q lp lq ex ey (go {r = r} {b = b} {bs = cs} e g) =
-      on (next c p b) refl (sym (a.same_next p b lp) ∙ ap (λ (z : ℕ). next d z b) (sym ex) ∙ e) (λ s ls es. moved_back r y cs s q ls lq es ey g)
+      on (next c p b) refl (sym (a.same_next p b lp) ∙ ap (λ (z : ℕ). next d z b) (sym ex) ∙ e)
+      (λ s ls es. moved_back r y cs s q ls lq es ey g)
     where
-      on : (n : Next ℕ) → next c p b ≡ n → move_next f n ≡ to r → ((s : ℕ) → s < length c → r ≡ f s → Goes c s cs q) → Goes c p (b ∷ cs) q
+      on : (n : Next ℕ) → next c p b ≡ n → move_next f n ≡ to r → ((s : ℕ) → s < length c → r ≡ f s → Goes c s cs q)
+          → Goes c p (b ∷ cs) q
       on (to s) h k ih = let z : r ≡ f s = cc in go h (ih s (on_inside p b s h) z)
       on (stop t) h k ih = let z : ◌≡◌ {A = ℕ} 0 1 = cc in absurd (omega arith)
 
@@ -122,17 +130,21 @@ module _ (c d : List Node) (f : ℕ → ℕ) (a : SameSteps c d f) where
 
   pub alike_distance : (p q : ℕ) → p < length c → q < length c → SameDistance c d f p q
   alike_distance p q lp lq =
-      let still : (bs : List ℕ) → Leads c p q bs → Leads d (f p) (f q) bs = λ bs l. goes_leads d (moved_on lp (leads_goes c bs p q l)) in
+      let still : (bs : List ℕ) → Leads c p q bs
+      → Leads d (f p) (f q) bs = λ bs l. goes_leads d (moved_on lp (leads_goes c bs p q l)) in
       let was : (bs : List ℕ) → Leads d (f p) (f q) bs → Leads c p q bs =
       λ bs l. goes_leads c (moved_back (f p) (f q) bs p q lp lq refl refl (leads_goes d bs (f p) (f q) l)) in
-      let sum : (bs : List ℕ) → Leads c p q bs → distance d bs (f p) ≡ distance c bs p = λ bs l. same_sum lp (leads_goes c bs p q l) in
+      let sum : (bs : List ℕ) → Leads c p q bs → distance d bs (f p)
+      ≡ distance c bs p = λ bs l. same_sum lp (leads_goes c bs p q l) in
       record {
         still_unreachable = λ n bs l. n bs (was bs l);
         was_unreachable = λ n bs l. n bs (still bs l);
-        same_distance = λ bs cs x y. alike bs cs x y (was cs y.leads) (still bs x.leads) (sum bs x.leads) (sum cs (was cs y.leads));
+        same_distance = λ bs cs x y. alike bs cs x y (was cs y.leads) (still bs x.leads) (sum bs x.leads)
+            (sum cs (was cs y.leads));
       }
     where
-      alike : (bs cs : List ℕ) → ShortestPath c p q bs → ShortestPath d (f p) (f q) cs → Leads c p q cs → Leads d (f p) (f q) bs
+      alike : (bs cs : List ℕ) → ShortestPath c p q bs → ShortestPath d (f p) (f q) cs → Leads c p q cs
+          → Leads d (f p) (f q) bs
           → distance d bs (f p) ≡ distance c bs p → distance d cs (f p) ≡ distance c cs p
           → (distance d cs (f p) ≡ distance c bs p) × (length cs ≡ length bs)
       alike bs cs x y lc lb eb ec =
@@ -166,21 +178,31 @@ wired c d h w = record {
 
 renumbered : (c : Cell) → length c.nodes ≤ 65536 → Fit c → OneCall c (renumber_cell c) (new_place (ped_flags c.nodes))
 renumbered c few h = record {
-  fit = record { is_sound = sound_new c h.is_sound; nodes_fit = nodes_fit_again c few h.nodes_fit; refs_fit = refs_fit_again c few h.refs_fit };
+  fit = record {
+    is_sound = sound_new c h.is_sound;
+    nodes_fit = nodes_fit_again c few h.nodes_fit;
+    refs_fit =
+        refs_fit_again c few h.refs_fit;
+  };
   steps = steps_renumbered c h.is_sound;
 }
 
-one_call : (m : Memory) (k : Call) → Fit (cell_of m) → OneCall (cell_of m) (cell_of (after m k)) (λ p. cond (renumbers m k) (new_place (ped_flags (cell_of m).nodes) p) p)
+one_call : (m : Memory) (k : Call) → Fit (cell_of m)
+    → OneCall (cell_of m) (cell_of (after m k))
+    (λ p. cond (renumbers m k) (new_place (ped_flags (cell_of m).nodes) p) p)
 unfolding after renumbers
 one_call m (write_read b) h = wired (cell_of m) _ h (write_read_wiring m b h.nodes_fit h.refs_fit)
 one_call m (renumbering s ps) h = go (renumber m (length s) ps).answer refl
   where
     go : (a : Answer) → (renumber m (length s) ps).answer ≡ a
-        → OneCall (cell_of m) (cell_of (renumber m (length s) ps).memory) (λ p. cond (is_done a) (new_place (ped_flags (cell_of m).nodes) p) p)
+        → OneCall (cell_of m) (cell_of (renumber m (length s) ps).memory)
+        (λ p. cond (is_done a) (new_place (ped_flags (cell_of m).nodes) p) p)
     go (Ok _) e = rw (done_call m ps (length s) e) (renumbered (cell_of m) (done_few m ps (length s) e) h)
-    go (Err x) e = rw (refused_call m ps (length s) x e) (wired (cell_of m) (cell_of m) h (record { nodes = refl; refs = refl }))
+    go (Err x) e = rw (refused_call m ps (length s) x e)
+        (wired (cell_of m) (cell_of m) h (record { nodes = refl; refs = refl }))
 
-pub run_steps : (m : Memory) (ks : List Call) → Fit (cell_of m) → SameSteps (cell_of m).nodes (cell_of (run m ks)).nodes (moved m ks)
+pub run_steps : (m : Memory) (ks : List Call) → Fit (cell_of m)
+    → SameSteps (cell_of m).nodes (cell_of (run m ks)).nodes (moved m ks)
 unfolding run moved
 run_steps m [] h = steps_same (cell_of m).nodes (cell_of m).nodes refl
 run_steps m (k ∷ ks) h = let s = one_call m k h in steps_trans s.steps (run_steps (after m k) ks s.fit)
@@ -189,18 +211,23 @@ pub fit_of : (c : Cell) → fits c ≡ true → sound c ≡ true → Fit c
 unfolding fits
 fit_of c t s = record { is_sound = s; nodes_fit = and_left _ _ t; refs_fit = and_right (every node_fits c.nodes) _ t }
 
--- T-06: "A sound cell gives the same sum for the same two nodes after any list of renumberings and write-then-read calls."
+-- T-06: "A sound cell gives the same sum for the same two nodes after any list of renumberings and write-then-read
+-- calls."
 pub distances_unnoticed : SameDistances
 distances_unnoticed m t s calls p q lp lq =
-    alike_distance (cell_of m).nodes (cell_of (run m calls)).nodes (moved m calls) (run_steps m calls (fit_of (cell_of m) t s)) p q lp lq
+    alike_distance (cell_of m).nodes (cell_of (run m calls)).nodes (moved m calls)
+    (run_steps m calls (fit_of (cell_of m) t s)) p q lp lq
 
 kept_fits : (c : Cell) → kept c ≡ true → fits c ≡ true
 unfolding kept fits
 kept_fits c t =
     let t₁ = and_right (every kept_node c.nodes) _ t in
     let t₂ = and_right (every kept_junction c.junctions) _ t₁ in
-    and_from _ _ (every_imp kept_node node_fits (λ n k. and_right (kept_body n.body) _ k) c.nodes (and_left _ _ t)) (and_left _ _ t₂)
+    and_from _ _ (every_imp kept_node node_fits (λ n k. and_right (kept_body n.body) _ k) c.nodes (and_left _ _ t))
+    (and_left _ _ t₂)
 
 -- every cell that was read is one whose links and refs fit
-pub read_fits : (system graphics : List ℕ) (lent : Memory) → (read_of system graphics lent).answer ≡ done → fits (cell_of (read_of system graphics lent).memory) ≡ true
-read_fits system graphics lent e = ap fits (read_cell system graphics lent e) ∙ kept_fits (file_cell system graphics) (read_kept system graphics)
+pub read_fits : (system graphics : List ℕ) (lent : Memory) → (read_of system graphics lent).answer ≡ done
+    → fits (cell_of (read_of system graphics lent).memory) ≡ true
+read_fits system graphics lent e = ap fits (read_cell system graphics lent e)
+    ∙ kept_fits (file_cell system graphics) (read_kept system graphics)

@@ -15,8 +15,10 @@ over_last : (c l : List ℕ) (k b : ℕ) → length c ≡ k → k < length l →
 over_last c l k b e lt =
     let long : length (c ++ (b ∷ [])) ≡ suc k = length-append c (b ∷ []) ∙ omega arith in
     let tail : drop k (set l k b) ≡ b ∷ drop (suc k) l =
-    drop-cons (set l k b) k 0 (rw length-set lt) ∙ (λ i. get_or-set_same l k b 0 lt i ∷ drop-set-lt (suc k) l k b (omega arith) i) in
-    ap (λ (x : ℕ). (c ++ (b ∷ [])) ++ drop x l) long ∙ append_snoc c b (drop (suc k) l) ∙ ap (λ (x : List ℕ). c ++ x) (sym tail) ∙ ap (λ (x : ℕ). c ++ drop x (set l k b)) (sym e)
+    drop-cons (set l k b) k 0 (rw length-set lt)
+    ∙ (λ i. get_or-set_same l k b 0 lt i ∷ drop-set-lt (suc k) l k b (omega arith) i) in
+    ap (λ (x : ℕ). (c ++ (b ∷ [])) ++ drop x l) long ∙ append_snoc c b (drop (suc k) l)
+    ∙ ap (λ (x : List ℕ). c ++ x) (sym tail) ∙ ap (λ (x : ℕ). c ++ drop x (set l k b)) (sym e)
 
 -- over all of a list
 over_all : (c l : List ℕ) → length c ≡ length l → over c l ≡ c
@@ -49,11 +51,6 @@ module _ (s : List ℕ) (goal : ℕ) (choices₀ places₀ : List ℕ) (long : l
   }
 
   module _ (choices places : List ℕ) (v i : ℕ) (h : Filling s goal choices₀ places₀ choices places v i) where
-    pub fill_byte : 0 < i → by_at s v < 256
-    fill_byte lt =
-        let e : i ≡ suc (i - 1) = omega arith in
-        (h.traced.back v (i - 1) h.traced.inside h.traced.labelled (h.traced.left ∙ e)).3
-
     pub fill_turn : 0 < i → (b u : ℕ) → b ≡ by_at s v → u ≡ from_at s v
         → Filling s goal choices₀ places₀ (set choices (i - 1) b) (set places (i - 1 + 1) v) u (i - 1)
     unfolding choices_to places_to
@@ -70,7 +67,8 @@ module _ (s : List ℕ) (goal : ℕ) (choices₀ places₀ : List ℕ) (long : l
           room = rw length-set (omega (arith, h.room));
           places_room = rw length-set (omega (arith, h.places_room));
           choices_so =
-              sym (over_last (choices_to from by (i - 1) (from v)) choices (i - 1) (by v) long-c (omega (arith, h.room)))
+              sym (over_last (choices_to from by (i - 1) (from v)) choices (i - 1) (by v) long-c
+              (omega (arith, h.room)))
               ∙ sym (ap (λ (k : ℕ). over (choices_to from by k v) choices) e) ∙ h.choices_so;
           places_so =
               sym (over_last (places_to from (i - 1) (from v)) places i v long-p h.places_room)

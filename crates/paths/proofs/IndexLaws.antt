@@ -2,7 +2,7 @@
 use Prim.Native.Nat.{ℕ, zero, suc, ◌+◌, ◌*◌, ◌/◌, ◌%◌, ◌<◌, ◌≤◌}
 use native.Mathlib.Omega.{arith}
 use native.Mathlib.Nat.{mod-lt}
-use mathlib.Core.Path.{◌≡◌, ap, sym, ◌∙◌, subst₂}
+use mathlib.Core.Path.{◌≡◌, refl, ap, sym, ◌∙◌, subst₂}
 use mathlib.Core.List.{List}
 use mathlib.Core.Logic.{◌⊎◌, inl, inr, ⊎_elim}
 use lib.ListN.{length, get_or, set, length-set}
@@ -13,8 +13,11 @@ use Rattle.cells.specs.LookupCall.{first_in}
 use Rattle.cells.proofs.Lookups.LookupLaws.{first_at, first_no}
 use Rattle.paths.specs.Scratch.{chain_at}
 use Rattle.paths.proofs.ScratchLaws.{low_kept, high_put}
-use Rattle.paths.specs.Index.{number_at, head_at, next_at, followed, headed, linked, First, Reach, here, there, Index, Found}
-use Rattle.std.specs.Prelude.{Some, None}
+use Rattle.paths.specs.Index.{number_at, head_at, next_at, followed, headed, linked, First, Index, Found}
+use Rattle.paths.specs.Index.{Reach, here, there}
+use mathlib.Core.Bool.{true, false}
+use Rattle.std.specs.Option.{is_some}
+use Rattle.std.specs.Prelude.{Option, Some, None}
 use Rattle.cells.proofs.Lookups.LookupLaws.{find_at, find_other, find_past}
 
 -- of the places with a number there is a first
@@ -32,7 +35,8 @@ first_of num k b j lt e = go b j lt e (seek j)
         (cases_eq (num i) k))
         (seek i)
 
-    go : (b j : ℕ) → j < b → num j ≡ k → ((x : ℕ) × (x < j) × (num x ≡ k)) ⊎ ((x : ℕ) → x < j → num x ≡ k → ⊥) → (w : ℕ) × (w ≤ j) × (num w ≡ k) × First num w
+    go : (b j : ℕ) → j < b → num j ≡ k → ((x : ℕ) × (x < j) × (num x ≡ k)) ⊎ ((x : ℕ) → x < j → num x ≡ k → ⊥)
+        → (w : ℕ) × (w ≤ j) × (num w ≡ k) × First num w
     go zero j lt e s = absurd (omega arith)
     go (suc b) j lt e s = ⊎_elim
         (λ x. let r = go b x.0 (omega (arith, x.1)) x.2 (seek x.0) in (r.0, omega (arith, r.1, x.1), r.2, r.3))
@@ -93,10 +97,16 @@ module _ (n i : ℕ) (num head next : ℕ → ℕ) (x : Index n i num head next)
         later w ew here = absurd (other ew)
         later w ew (there p r) = r
 
-    pub seek_end : v ≡ 0 → (num v ≡ k → ⊥) → Found n i num k n
-    seek_end z other = record {
-      found = λ lt. absurd (omega arith);
-      absent = λ le j lj ej. let r = first_of num k i j lj ej in ended r.0 r.2 r.3 (omega (arith, r.1));
+    pub seek_here : num v ≡ k → Found i num k (Some v)
+    seek_here e = record {
+      found = λ u q. let z : v ≡ u = cc in rw (← z) (s.within, e, s.first);
+      absent = λ q. absurd (cc);
+    }
+
+    pub seek_none : v ≡ 0 → (num v ≡ k → ⊥) → Found i num k None
+    seek_none z other = record {
+      found = λ u q. absurd (cc);
+      absent = λ q j lj ej. let r = first_of num k i j lj ej in ended r.0 r.2 r.3 (omega (arith, r.1));
     }
       where
         -- whatever place is first with the number, it would be in the chain
@@ -107,31 +117,29 @@ module _ (n i : ℕ) (num head next : ℕ → ℕ) (x : Index n i num head next)
             at_zero w ew here = other ew
             at_zero w ew (there p r) = omega arith
 
-    pub seek_none : v ≡ 0 → (num 0 ≡ k → ⊥) → Found n i num k n
-    seek_none z other = seek_end z (λ q. other (sym (ap num z) ∙ q))
-
 -- ---- entering a place
 
 module _ (n i : ℕ) (num head next : ℕ → ℕ) (x : Index n i num head next) (li : i < n) where
   -- one with its number is entered already
-  pub index_known : (r : ℕ) → Found n i num (num i) r → r < n → Index n (i + 1) num head next
-  index_known r f lr =
-      let g = f.found lr in
+  pub index_known : (r : ℕ) → Found i num (num i) (Some r) → Index n (i + 1) num head next
+  index_known r f =
+      let g = f.found r refl in
       let not_first : First num i → ⊥ = λ h. h r g.0 g.1 in
       record {
         some = omega arith;
         within = omega arith;
         heads = λ h lh. (omega (arith, (x.heads h lh).0), (x.heads h lh).1);
-        nexts = λ w pos lw fw. ⊎_elim (λ q. absurd (not_first (rw q at fw))) (λ nq. x.nexts w pos (omega arith) fw) (cases_eq w i);
+        nexts = λ w pos lw fw. ⊎_elim (λ q. absurd (not_first (rw q at fw))) (λ nq. x.nexts w pos (omega arith) fw)
+            (cases_eq w i);
         all = λ w lw fw. ⊎_elim (λ q. absurd (not_first (rw q at fw))) (λ nq. x.all w (omega arith) fw) (cases_eq w i);
       }
 
   -- it is the first: the chain of its number begins with it
-  module _ (r : ℕ) (f : Found n i num (num i) r) (z : n ≤ r) (g d : ℕ → ℕ)
+  module _ (f : Found i num (num i) None) (g d : ℕ → ℕ)
       (g-new : g (num i % n) ≡ i) (g-old : (h : ℕ) → h < n → (h ≡ num i % n → ⊥) → g h ≡ head h)
       (d-new : d i ≡ head (num i % n)) (d-old : (v : ℕ) → v < n → (v ≡ i → ⊥) → d v ≡ next v) where
     first_i : First num i
-    first_i j lj e = f.absent z j lj e
+    first_i j lj e = f.absent refl j lj e
 
     lh : num i % n < n
     lh = mod-lt (num i) (omega arith)
@@ -153,23 +161,33 @@ module _ (n i : ℕ) (num head next : ℕ → ℕ) (x : Index n i num head next)
           (λ nq. rw (g-old h hh nq) (omega (arith, (x.heads h hh).0), (x.heads h hh).1))
           (cases_eq h (num i % n));
       nexts = λ v pos lv fv. ⊎_elim
-          (λ q. let hd = x.heads (num i % n) lh in let z : d v ≡ head (num i % n) = ap d q ∙ d-new in rw z (omega (arith, hd.0), hd.1))
+          (λ q. let hd = x.heads (num i % n) lh in let z : d v ≡ head (num i % n) = ap d q
+          ∙ d-new in rw z (omega (arith, hd.0), hd.1))
           (λ nq. rw (d-old v (omega arith) nq) (x.nexts v pos (omega arith) fv))
           (cases_eq v i);
-      all = λ w lw fw. ⊎_elim (λ q. let z : g (num w % n) ≡ w = ap (λ (y : ℕ). g (num y % n)) q ∙ g-new ∙ sym q in rw z here) (λ nq. old w (omega arith) fw (cases_eq (num w % n) (num i % n))) (cases_eq w i);
+      all = λ w lw fw. ⊎_elim
+          (λ q. let z : g (num w % n) ≡ w = ap (λ (y : ℕ). g (num y % n)) q ∙ g-new ∙ sym q in rw z here)
+          (λ nq. old w (omega arith) fw (cases_eq (num w % n) (num i % n)))
+          (cases_eq w i);
     }
       where
         reach : (w : ℕ) → w < i → First num w → Reach d (head (num w % n)) w
-        reach w lw fw = let hd = x.heads (num w % n) (mod-lt (num w) (omega arith)) in kept (head (num w % n)) w hd.0 hd.1 (x.all w lw fw)
+        reach w lw fw = let hd = x.heads (num w % n) (mod-lt (num w) (omega arith)) in kept (head (num w % n)) w
+            hd.0 hd.1 (x.all w lw fw)
 
-        old : (w : ℕ) → w < i → First num w → (num w % n ≡ num i % n) ⊎ (num w % n ≡ num i % n → ⊥) → Reach d (g (num w % n)) w
-        old w lw fw (inl q) = let step : Reach d (d i) w = rw (d-new, ← q) (reach w lw fw) in let z : g (num w % n) ≡ i = ap g q ∙ g-new in rw z (there x.some step)
+        old : (w : ℕ) → w < i → First num w → (num w % n ≡ num i % n) ⊎ (num w % n ≡ num i % n → ⊥)
+            → Reach d (g (num w % n)) w
+        old w lw fw (inl q) =
+            let step : Reach d (d i) w = rw (d-new, ← q) (reach w lw fw) in
+            let z : g (num w % n) ≡ i = ap g q ∙ g-new in
+            rw z (there x.some step)
         old w lw fw (inr nq) = rw (g-old (num w % n) (mod-lt (num w) (omega arith)) nq) (reach w lw fw)
 
 -- ---- the chains in the scratch
 
 -- they stand in the fourth entries alone
-pub index_same : (n i : ℕ) (num : ℕ → ℕ) (s t : List ℕ) → chain_at t ≡ chain_at s → Index n i num (head_at s) (next_at s) → Index n i num (head_at t) (next_at t)
+pub index_same : (n i : ℕ) (num : ℕ → ℕ) (s t : List ℕ) → chain_at t ≡ chain_at s
+    → Index n i num (head_at s) (next_at s) → Index n i num (head_at t) (next_at t)
 unfolding head_at next_at
 index_same n i num s t e x =
     subst₂ (λ (g d : ℕ → ℕ). Index n i num g d) (λ j h. sym e j h % 65536) (λ j v. sym e j v / 65536) x
@@ -189,7 +207,8 @@ module _ (n : ℕ) (s : List ℕ) (room : 4 * n ≤ length s) (v h : ℕ) (lv : 
   one_head : (k : ℕ) → head_at one k ≡ head_at s k
   unfolding head_at
   one_head k = ⊎_elim
-      (λ q. ap (λ (j : ℕ). chain_at one j % 65536) q ∙ ap (λ (a : ℕ). a % 65536) one_same ∙ low_kept (chain_at s v) (chain_at s h % 65536) ∙ ap (λ (j : ℕ). chain_at s j % 65536) (sym q))
+      (λ q. ap (λ (j : ℕ). chain_at one j % 65536) q ∙ ap (λ (a : ℕ). a % 65536) one_same
+      ∙ low_kept (chain_at s v) (chain_at s h % 65536) ∙ ap (λ (j : ℕ). chain_at s j % 65536) (sym q))
       (λ nq. ap (λ (a : ℕ). a % 65536) (one_other k nq))
       (cases_eq k v)
 
@@ -216,7 +235,8 @@ module _ (n : ℕ) (s : List ℕ) (room : 4 * n ≤ length s) (v h : ℕ) (lv : 
   two_next : (k : ℕ) → next_at (headed one h v) k ≡ next_at one k
   unfolding next_at
   two_next k = ⊎_elim
-      (λ q. ap (λ (j : ℕ). chain_at (headed one h v) j / 65536) q ∙ ap (λ (a : ℕ). a / 65536) two_same ∙ div-mul-add (chain_at one h / 65536) 65536 v (omega arith) ∙ ap (λ (j : ℕ). chain_at one j / 65536) (sym q))
+      (λ q. ap (λ (j : ℕ). chain_at (headed one h v) j / 65536) q ∙ ap (λ (a : ℕ). a / 65536) two_same
+      ∙ div-mul-add (chain_at one h / 65536) 65536 v (omega arith) ∙ ap (λ (j : ℕ). chain_at one j / 65536) (sym q))
       (λ nq. ap (λ (a : ℕ). a / 65536) (two_other k nq))
       (cases_eq k h)
 
@@ -237,36 +257,54 @@ module _ (n : ℕ) (s : List ℕ) (room : 4 * n ≤ length s) (v h : ℕ) (lv : 
   linked_next_other k lk ne = two_next k ∙ one_next_other k ne
 
 -- a place entered
-pub entered_known : (n i : ℕ) (num : ℕ → ℕ) (s : List ℕ) (k r : ℕ) → i < n → Index n i num (head_at s) (next_at s) → k ≡ num i → Found n i num k r → r < n
-    → Index n (i + 1) num (head_at s) (next_at s)
-entered_known n i num s k r li x e f lr = index_known n i num (head_at s) (next_at s) x li r (rw e at f) lr
+module _ (n i : ℕ) (num : ℕ → ℕ) (s : List ℕ) (k : ℕ) (li : i < n) (x : Index n i num (head_at s) (next_at s))
+    (e : k ≡ num i)
+    {r : Option ℕ} (f : Found i num k r) where
+  pub entered_known : is_some r ≡ true → Index n (i + 1) num (head_at s) (next_at s)
+  entered_known q = go r (rw e at f) q
+    where
+      go : (r : Option ℕ) → Found i num (num i) r → is_some r ≡ true → Index n (i + 1) num (head_at s) (next_at s)
+      go (Some v) f q = index_known n i num (head_at s) (next_at s) x li v f
+      go None f q = absurd (cc)
 
-pub entered_new : (n i : ℕ) (num : ℕ → ℕ) (s t : List ℕ) (k r h : ℕ) → n ≤ 65536 → 4 * n ≤ length s → i < n → Index n i num (head_at s) (next_at s) → k ≡ num i → Found n i num k r → n ≤ r
-    → h ≡ k % n → t ≡ linked s i h → Index n (i + 1) num (head_at t) (next_at t)
-entered_new n i num s t k r h few room li x e f z eh et = rw (et, eh, e) (index_new n i num (head_at s) (next_at s) x li r (rw e at f) z
-    (head_at (linked s i (num i % n))) (next_at (linked s i (num i % n)))
-    (linked_head n s room i (num i % n) li lh few) (linked_head_other n s room i (num i % n) li lh few) (linked_next n s room i (num i % n) li lh few) (linked_next_other n s room i (num i % n) li lh few))
-  where
-    lh : num i % n < n
-    lh = mod-lt (num i) (omega arith)
+  pub entered_new : is_some r ≡ false → (t : List ℕ) (h : ℕ) → n ≤ 65536 → 4 * n ≤ length s → h ≡ k % n → t
+      ≡ linked s i h
+      → Index n (i + 1) num (head_at t) (next_at t)
+  entered_new q t h few room eh et = rw (et, eh, e)
+      (index_new n i num (head_at s) (next_at s) x li (none r (rw e at f) q)
+      (head_at (linked s i (num i % n))) (next_at (linked s i (num i % n)))
+      (linked_head n s room i (num i % n) li lh few) (linked_head_other n s room i (num i % n) li lh few)
+      (linked_next n s room i (num i % n) li lh few) (linked_next_other n s room i (num i % n) li lh few))
+    where
+      lh : num i % n < n
+      lh = mod-lt (num i) (omega arith)
+
+      none : (r : Option ℕ) → Found i num (num i) r → is_some r ≡ false → Found i num (num i) None
+      none (Some v) f q = absurd (cc)
+      none None f q = f
 
 -- heads cleared
-pub no_heads : (n : ℕ) (num : ℕ → ℕ) (s : List ℕ) → 0 < n → ((h : ℕ) → h < n → head_at s h ≡ 0) → Index n 1 num (head_at s) (next_at s)
+pub no_heads : (n : ℕ) (num : ℕ → ℕ) (s : List ℕ) → 0 < n → ((h : ℕ) → h < n → head_at s h ≡ 0)
+    → Index n 1 num (head_at s) (next_at s)
 no_heads n num s pos z = index_none n num (head_at s) (next_at s) pos z
 
-pub head_cleared : (h : ℕ) (s : List ℕ) → 4 * h + 3 < length s → ((k : ℕ) → k < h → head_at s k ≡ 0) → (k : ℕ) → k < h + 1 → head_at (set s (4 * h + 3) 0) k ≡ 0
+pub head_cleared : (h : ℕ) (s : List ℕ) → 4 * h + 3 < length s → ((k : ℕ) → k < h → head_at s k ≡ 0) → (k : ℕ) → k
+    < h + 1 → head_at (set s (4 * h + 3) 0) k ≡ 0
 unfolding head_at chain_at
 head_cleared h s inside z k lk = ⊎_elim
-    (λ q. ap (λ (j : ℕ). get_or (set s (4 * h + 3) 0) (4 * j + 3) 0 % 65536) q ∙ ap (λ (a : ℕ). a % 65536) (get_or-set_same s (4 * h + 3) 0 0 (omega arith)))
-    (λ nq. ap (λ (a : ℕ). a % 65536) (get_or-set_other s (4 * h + 3) (4 * k + 3) 0 0 (omega arith)) ∙ z k (omega arith))
+    (λ q. ap (λ (j : ℕ). get_or (set s (4 * h + 3) 0) (4 * j + 3) 0 % 65536) q
+    ∙ ap (λ (a : ℕ). a % 65536) (get_or-set_same s (4 * h + 3) 0 0 (omega arith)))
+    (λ nq. ap (λ (a : ℕ). a % 65536) (get_or-set_other s (4 * h + 3) (4 * k + 3) 0 0 (omega arith))
+    ∙ z k (omega arith))
     (cases_eq k h)
 
 -- what `node` finds, past the node at the number's own place
-pub found_in : (nodes : List (List ℕ)) (n k r : ℕ) → n ≤ length nodes → Found n n (number_at nodes) k r → r < n → Some r ≡ first_in n nodes k
-found_in nodes n k r fits f lr = let g = f.found lr in first_at nodes n k fits r g.0 g.1 (λ j lj q. g.2 j lj (q ∙ sym g.1))
-
-pub absent_in : (nodes : List (List ℕ)) (n k r : ℕ) → n ≤ length nodes → Found n n (number_at nodes) k r → n ≤ r → None ≡ first_in n nodes k
-absent_in nodes n k r fits f le = first_no nodes n k fits (f.absent le)
+pub found_is : (nodes : List (List ℕ)) (k : ℕ) (r : Option ℕ) → Found (length nodes) (number_at nodes) k r
+    → r ≡ first_in (length nodes) nodes k
+found_is nodes k (Some v) f =
+    let g = f.found v refl in
+    first_at nodes (length nodes) k (omega arith) v g.0 g.1 (λ j lj q. g.2 j lj (q ∙ sym g.1))
+found_is nodes k None f = first_no nodes (length nodes) k (omega arith) (f.absent refl)
 
 -- for the function that finds a node
-pub ruleset find_laws = (find_at, find_other, find_past)
+pub ruleset find_laws = (find_at, find_other, find_past, found_is)

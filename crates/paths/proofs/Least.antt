@@ -34,7 +34,8 @@ never_done ns p b e q d = at (link_at ns p b) q
     found (some x) q = let z : ◌≡◌ {A = ℕ} 0 1 = cc in omega arith
     found none q = let z : ◌≡◌ {A = ℕ} 0 1 = cc in omega arith
 
-    own : (l : Link) (t : Bool) → cond t (arrive (find (numbers ns) l.number)) (stop (Left l.area l.number)) ≡ stop e → ⊥
+    own : (l : Link) (t : Bool) → cond t (arrive (find (numbers ns) l.number)) (stop (Left l.area l.number))
+        ≡ stop e → ⊥
     own l true q = found (find (numbers ns) l.number) q
     own l false q = let z : ◌≡◌ {A = ℕ} 0 1 = cc in omega arith
 
@@ -61,26 +62,31 @@ module _ (ns : List Node) where
   leads_goes [] p q h = rw (← h.arrives) stay
   leads_goes (b ∷ bs) p q h = on (next ns p b) refl h.done h.arrives (λ r. leads_goes bs r q)
     where
-      on : (x : Next ℕ) → next ns p b ≡ x → (step_on p (route ns bs) x).ending ≡ Done → get_or (step_on p (route ns bs) x).places (suc (length bs)) 0 ≡ q
+      on : (x : Next ℕ) → next ns p b ≡ x → (step_on p (route ns bs) x).ending ≡ Done
+          → get_or (step_on p (route ns bs) x).places (suc (length bs)) 0 ≡ q
           → ((r : ℕ) → Leads ns r q bs → Goes ns r bs q) → Goes ns p (b ∷ bs) q
       on (to r) e d a ih = go e (ih r (record { done = d; arrives = a }))
       on (stop s) e d a ih = absurd (never_done ns p b s e d)
 
-  pub sum_go : (p r b : ℕ) (bs : List ℕ) → next ns p b ≡ to r → distance ns (b ∷ bs) p ≡ length_at ns p b + distance ns bs r
+  pub sum_go : (p r b : ℕ) (bs : List ℕ) → next ns p b ≡ to r → distance ns (b ∷ bs) p ≡ length_at ns p b
+      + distance ns bs r
   unfolding distance
   sum_go p r b bs e = rw e
 
   -- one link more at the end
-  pub goes_more : {p q : ℕ} {bs : List ℕ} → Goes ns p bs q → (b r : ℕ) → next ns q b ≡ to r → Goes ns p (bs ++ (b ∷ [])) r
+  pub goes_more : {p q : ℕ} {bs : List ℕ} → Goes ns p bs q → (b r : ℕ) → next ns q b ≡ to r
+      → Goes ns p (bs ++ (b ∷ [])) r
   goes_more stay b r e = go e stay
   goes_more (go f g) b r e = go f (goes_more g b r e)
 
-  pub sum_more : {p q : ℕ} {bs : List ℕ} → Goes ns p bs q → (b r : ℕ) → next ns q b ≡ to r → distance ns (bs ++ (b ∷ [])) p ≡ distance ns bs p + length_at ns q b
+  pub sum_more : {p q : ℕ} {bs : List ℕ} → Goes ns p bs q → (b r : ℕ) → next ns q b ≡ to r
+      → distance ns (bs ++ (b ∷ [])) p ≡ distance ns bs p + length_at ns q b
   unfolding distance
   sum_more {p} stay b r e = rw e (omega arith)
   sum_more (go {p = p} {b = a} f g) b r e = rw f (omega (arith, sum_more g b r e))
 
-  pub places_more : {p q : ℕ} {bs : List ℕ} → Goes ns p bs q → (b r : ℕ) → next ns q b ≡ to r → (route ns (bs ++ (b ∷ [])) p).places ≡ (route ns bs p).places ++ (r ∷ [])
+  pub places_more : {p q : ℕ} {bs : List ℕ} → Goes ns p bs q → (b r : ℕ) → next ns q b ≡ to r
+      → (route ns (bs ++ (b ∷ [])) p).places ≡ (route ns bs p).places ++ (r ∷ [])
   unfolding route
   places_more stay b r e = rw e
   places_more (go {p = p} f g) b r e = rw f (ap (λ (l : List ℕ). p ∷ l) (places_more g b r e))
@@ -91,7 +97,8 @@ module _ (from by : ℕ → ℕ) where
   pub choices_long : (k v : ℕ) → length (choices_to from by k v) ≡ k
   unfolding choices_to
   choices_long zero v = refl
-  choices_long (suc k) v = length-append (choices_to from by k (from v)) (by v ∷ []) ∙ omega (arith, choices_long k (from v))
+  choices_long (suc k) v = length-append (choices_to from by k (from v)) (by v ∷ [])
+      ∙ omega (arith, choices_long k (from v))
 
   pub places_long : (k v : ℕ) → length (places_to from k v) ≡ suc k
   unfolding places_to
@@ -100,9 +107,11 @@ module _ (from by : ℕ → ℕ) where
 
 -- ---- labels that no link improves
 
-module _ (ns : List Node) (start n : ℕ) (d from by : ℕ → ℕ) (links : Links ns n) (h : Labelled ns start n d from by) (closed : Closed ns n d) where
+module _ (ns : List Node) (start n : ℕ) (d from by : ℕ → ℕ) (links : Links ns n) (h : Labelled ns start n d from by)
+    (closed : Closed ns n d) where
   -- one link
-  step_sum : (p b r : ℕ) → p < n → d p < unlabelled → next ns p b ≡ to r → d r / 4294967296 ≤ d p / 4294967296 + length_at ns p b
+  step_sum : (p b r : ℕ) → p < n → d p < unlabelled → next ns p b ≡ to r → d r / 4294967296 ≤ d p / 4294967296
+      + length_at ns p b
   step_sum p b r lt k e = omega (arith, closed p b r lt e, on_sum ns start n d from by links h p b lt k)
 
   step_label : (p b r : ℕ) → p < n → d p < unlabelled → next ns p b ≡ to r → d r < unlabelled
@@ -114,17 +123,32 @@ module _ (ns : List Node) (start n : ℕ) (d from by : ℕ → ℕ) (links : Lin
   reached lt k (go {p = p} {r = r} {b = b} e g) = reached (links.lead_in p b r e) (step_label p b r lt k e) g
 
   -- a walk's sum is no less than the difference of the labels' sums at its ends
-  below_walk : {p q : ℕ} {bs : List ℕ} → p < n → d p < unlabelled → Goes ns p bs q → d q / 4294967296 ≤ d p / 4294967296 + distance ns bs p
+  below_walk : {p q : ℕ} {bs : List ℕ} → p < n → d p < unlabelled → Goes ns p bs q → d q / 4294967296
+      ≤ d p / 4294967296 + distance ns bs p
   below_walk lt k stay = omega arith
   below_walk lt k (go {p = p} {r = r} {b = b} {bs = bs} e g) =
-      omega (arith, sum_go ns p r b bs e, step_sum p b r lt k e, below_walk (links.lead_in p b r e) (step_label p b r lt k e) g)
+      omega (
+        arith,
+        sum_go ns p r b bs e,
+        step_sum p b r lt k e,
+        below_walk (links.lead_in p b r e)
+            (step_label p b r lt k e) g,
+      )
 
   -- where the sums are equal, the links are no more
-  step_links : (p b r : ℕ) → p < n → d p < unlabelled → next ns p b ≡ to r → d r / 4294967296 ≡ d p / 4294967296 + length_at ns p b → d r % 4294967296 ≤ d p % 4294967296 + 1
+  step_links : (p b r : ℕ) → p < n → d p < unlabelled → next ns p b ≡ to r → d r / 4294967296 ≡ d p / 4294967296
+      + length_at ns p b → d r % 4294967296 ≤ d p % 4294967296 + 1
   step_links p b r lt k e q =
-      omega (arith, closed p b r lt e, on_sum ns start n d from by links h p b lt k, on_steps ns start n d from by links h p b lt k)
+      omega (
+        arith,
+        closed p b r lt e,
+        on_sum ns start n d from by links h p b lt k,
+        on_steps ns start n d from by
+            links h p b lt k,
+      )
 
-  few_links : {p q : ℕ} {bs : List ℕ} → p < n → d p < unlabelled → Goes ns p bs q → d q / 4294967296 ≡ d p / 4294967296 + distance ns bs p → d q % 4294967296 ≤ d p % 4294967296 + length bs
+  few_links : {p q : ℕ} {bs : List ℕ} → p < n → d p < unlabelled → Goes ns p bs q → d q / 4294967296
+      ≡ d p / 4294967296 + distance ns bs p → d q % 4294967296 ≤ d p % 4294967296 + length bs
   few_links lt k stay e = omega arith
   few_links {q = q} lt k (go {p = p} {r = r} {b = b} {bs = bs} e g) f =
       let s = sum_go ns p r b bs e in
@@ -160,18 +184,24 @@ module _ (ns : List Node) (start n : ℕ) (d from by : ℕ → ℕ) (links : Lin
   -- a place other than the start has one link more than the one it came from, and the sum with that link's length
   back_steps : (v : ℕ) → v < n → d v < unlabelled → (v ≡ start → ⊥) → d v % 4294967296 ≡ d (from v) % 4294967296 + 1
   back_steps v lt k ne =
-      ap (λ (x : ℕ). x % 4294967296) (exact v lt k ne) ∙ on_steps ns start n d from by links h (from v) (by v) (h.remembered v lt k ne).inside (from_labelled v lt k ne)
+      ap (λ (x : ℕ). x % 4294967296) (exact v lt k ne)
+      ∙ on_steps ns start n d from by links h (from v) (by v) (h.remembered v lt k ne).inside
+      (from_labelled v lt k ne)
 
-  back_sum : (v : ℕ) → v < n → d v < unlabelled → (v ≡ start → ⊥) → d v / 4294967296 ≡ d (from v) / 4294967296 + length_at ns (from v) (by v)
+  back_sum : (v : ℕ) → v < n → d v < unlabelled → (v ≡ start → ⊥) → d v / 4294967296 ≡ d (from v) / 4294967296
+      + length_at ns (from v) (by v)
   back_sum v lt k ne =
-      ap (λ (x : ℕ). x / 4294967296) (exact v lt k ne) ∙ on_sum ns start n d from by links h (from v) (by v) (h.remembered v lt k ne).inside (from_labelled v lt k ne)
+      ap (λ (x : ℕ). x / 4294967296) (exact v lt k ne)
+      ∙ on_sum ns start n d from by links h (from v) (by v) (h.remembered v lt k ne).inside
+      (from_labelled v lt k ne)
 
   -- only the start has no links
   pub at_start : (v : ℕ) → v < n → d v < unlabelled → d v % 4294967296 ≡ 0 → v ≡ start
   at_start v lt k z = ⊎_elim (λ q. q) (λ ne. absurd (omega (arith, back_steps v lt k ne))) (cases_eq v start)
 
   not_start : (k v : ℕ) → d v % 4294967296 ≡ suc k → v ≡ start → ⊥
-  not_start k v e q = let z : d start % 4294967296 ≡ suc k = rw q at e in omega (arith, ap (λ (x : ℕ). x % 4294967296) h.none_before)
+  not_start k v e q = let z : d start % 4294967296
+      ≡ suc k = rw q at e in omega (arith, ap (λ (x : ℕ). x % 4294967296) h.none_before)
 
   -- what is remembered, k links back from v
   pub record BackPath (k v : ℕ) : Type 0 where
@@ -209,12 +239,15 @@ module _ (ns : List Node) (start n : ℕ) (d from by : ℕ → ℕ) (links : Lin
       each_more : (i : ℕ) → i ≤ suc k → ((i : ℕ) → i ≤ k → d (get_or (places_to from k (from v)) i 0) % 4294967296 ≡ i)
           → d (get_or (places_to from k (from v) ++ (v ∷ [])) i 0) % 4294967296 ≡ i
       each_more i le f = ⊎_elim
-          (λ q. ap (λ (y : ℕ). d y % 4294967296) (get_or_at (places_to from k (from v)) v [] 0 i (places_long from by k (from v) ∙ sym q)) ∙ e ∙ sym q)
-          (λ nq. rw (get_or-append (places_to from k (from v)) (v ∷ []) 0 i (omega (arith, places_long from by k (from v)))) (f i (omega arith)))
+          (λ q. ap (λ (y : ℕ). d y % 4294967296)
+          (get_or_at (places_to from k (from v)) v [] 0 i (places_long from by k (from v) ∙ sym q)) ∙ e ∙ sym q)
+          (λ nq. rw (get_or-append (places_to from k (from v)) (v ∷ []) 0 i
+          (omega (arith, places_long from by k (from v)))) (f i (omega arith)))
           (cases_eq i (suc k))
 
   -- The remembered path to a labelled place: a walk there, of the least sum, that visits no place twice, and its sum.
-  pub shortest_path : (q : ℕ) → q < n → d q < unlabelled → ShortestPath ns start q (choices_to from by (d q % 4294967296) q)
+  pub shortest_path : (q : ℕ) → q < n → d q < unlabelled
+      → ShortestPath ns start q (choices_to from by (d q % 4294967296) q)
   shortest_path q lt l =
       let w = remembered_path (d q % 4294967296) q lt l refl in
       record {
@@ -224,14 +257,17 @@ module _ (ns : List Node) (start n : ℕ) (d from by : ℕ → ℕ) (links : Lin
         fewest = λ cs l e. few cs l (e ∙ w.sum);
       }
     where
-      few : (cs : List ℕ) → Leads ns start q cs → distance ns cs start ≡ d q / 4294967296 → length (choices_to from by (d q % 4294967296) q) ≤ length cs
+      few : (cs : List ℕ) → Leads ns start q cs → distance ns cs start ≡ d q / 4294967296
+          → length (choices_to from by (d q % 4294967296) q) ≤ length cs
       few cs l e =
           let z = h.none_before in
           let f = few_links h.begins start_labelled (leads_goes ns cs start q l) (omega arith) in
           omega (arith, choices_long from by (d q % 4294967296) q)
 
-      apart_at : (i j : ℕ) → i < j → j < length (places_to from (d q % 4294967296) q) → get_or (places_to from (d q % 4294967296) q) i 0 ≡ get_or (places_to from (d q % 4294967296) q) j 0
-          → ((i : ℕ) → i ≤ d q % 4294967296 → d (get_or (places_to from (d q % 4294967296) q) i 0) % 4294967296 ≡ i) → ⊥
+      apart_at : (i j : ℕ) → i < j → j < length (places_to from (d q % 4294967296) q)
+          → get_or (places_to from (d q % 4294967296) q) i 0 ≡ get_or (places_to from (d q % 4294967296) q) j 0
+          → ((i : ℕ) → i ≤ d q % 4294967296 → d (get_or (places_to from (d q % 4294967296) q) i 0) % 4294967296 ≡ i)
+          → ⊥
       apart_at i j ij jl same f =
           let long = places_long from by (d q % 4294967296) q in
           omega (arith, f i (omega (arith, long)), f j (omega (arith, long)), ap (λ (x : ℕ). d x % 4294967296) same)

@@ -7,14 +7,16 @@ use mathlib.Core.List.{List, map, ◌++◌}
 use mathlib.Core.Logic.{◌⊎◌}
 use lib.ListN.{length, take, drop}
 use lib.Seq.{take-length, length-take-le}
-use borrow.Author.Tests.{leb-false, ltb-false}
-use Rattle.numbers.specs.Refusals.{decided, done}
+use borrow.Author.Tests.{leb-false, ltb-false, lt-leb}
+use Rattle.numbers.specs.Refusals.{Answer, decided, done}
 use Rattle.numbers.proofs.Refusing.{passed}
 use Rattle.cells.specs.Cell.{Node}
 use Rattle.cells.specs.Memory.{memory, over_limit}
 use Rattle.cells.specs.CellOf.{nodes_of, node_with, link_of}
 use Rattle.cells.specs.declared.ynd.Ynd.{Ynd}
 use Rattle.cells.proofs.Forms.Limits.{within}
+use Rattle.walks.specs.PlaceCauses.{place_causes}
+use Rattle.walks.proofs.PlaceCases.{refused_before}
 use Rattle.walks.specs.WalkCall.{route}
 use Rattle.walks.specs.WalkParts.{lent, over}
 use Rattle.paths.specs.ShortestPath.{distance, Unreachable, ShortestPath}
@@ -29,6 +31,7 @@ use Rattle.paths.proofs.SearchLaws.{finished}
 use Rattle.paths.proofs.EdgeLaws.{link_within}
 use Rattle.paths.proofs.RelaxLaws.{all_links}
 use Rattle.std.specs.Prelude.{Result, Ok, Err}
+use Rattle.std.specs.Result.{IsErrAnd}
 use Rattle.numbers.specs.declared.refusal.Refusal.{Refusal}
 use Rattle.numbers.specs.declared.refusal.Refusal.TheVariants.{TooShort, NoPath}
 use Rattle.numbers.specs.declared.refusal.Lent.TheVariants as lent
@@ -44,7 +47,8 @@ pub record Accepted (y : Ynd) (nodes links p q room : ℕ) : Type 0 where
   pub links_fit : y.link_count ≤ links
   pub scratch_fits : 4 * y.node_count ≤ room
 
-pub accepted : (y : Ynd) (nodes links p q room : ℕ) → decided (path_causes y nodes links p q room) ≡ done → Accepted y nodes links p q room
+pub accepted : (y : Ynd) (nodes links p q room : ℕ) → decided (path_causes y nodes links p q room) ≡ done
+    → Accepted y nodes links p q room
 unfolding path_causes
 accepted y nodes links p q room e =
     let cs = path_causes y nodes links p q room in
@@ -57,10 +61,20 @@ accepted y nodes links p q room e =
       scratch_fits = ltb-false room (4 * y.node_count) (passed cs 5 e);
     }
 
+-- a refusal of the place q or of a list
+pub refused_first : (y : Ynd) (nodes links p q room : ℕ) → p < y.node_count → {cause : Refusal}
+    → Err cause ≡ decided (place_causes y nodes links q) → (r : Answer) → IsErrAnd r (λ x. x ≡ cause)
+    → r ≡ decided (path_causes y nodes links p q room)
+unfolding path_causes place_causes
+refused_first y nodes links p q room inside e r is =
+    rw (lt-leb _ _ inside) (refused_before y nodes links q (drop 5 (path_causes y nodes links p q room)) e r is)
+
 -- ---- after the search
 
-pub lent_so : (y : Ynd) (nodes links : List (List ℕ)) (p q room : ℕ) → Accepted y (length nodes) (length links) p q room → Lent y nodes links
-lent_so y nodes links p q room a = record { few = (within y a.limits).0; nodes_fit = a.nodes_fit; links_fit = a.links_fit }
+pub lent_so : (y : Ynd) (nodes links : List (List ℕ)) (p q room : ℕ)
+    → Accepted y (length nodes) (length links) p q room → Lent y nodes links
+lent_so y nodes links p q room a = record
+    { few = (within y a.limits).0; nodes_fit = a.nodes_fit; links_fit = a.links_fit }
 
 -- the nodes that count are the cell's
 pub own_nodes : (y : Ynd) (nodes links : List (List ℕ)) → y.node_count ≤ length nodes
@@ -80,18 +94,23 @@ own_lent y nodes links l = record {
 }
 
 -- whatever the lists that are not lent
-pub same_nodes : (y : Ynd) (nodes links js : List (List ℕ)) (hs : List ℕ) (rs : List (List ℕ)) → nodes_of (lent y nodes links) ≡ nodes_of (memory y nodes links js hs rs)
+pub same_nodes : (y : Ynd) (nodes links js : List (List ℕ)) (hs : List ℕ) (rs : List (List ℕ))
+    → nodes_of (lent y nodes links) ≡ nodes_of (memory y nodes links js hs rs)
 unfolding nodes_of
 same_nodes y nodes links js hs rs = refl
 
-pub answered : (y : Ynd) (nodes links : List (List ℕ)) (p q : ℕ) (scratch choices places : List ℕ) (a : Result Shortest Refusal) (s c t : List ℕ)
+pub answered : (y : Ynd) (nodes links : List (List ℕ)) (p q : ℕ) (scratch choices places : List ℕ)
+    (a : Result Shortest Refusal) (s c t : List ℕ)
     → decided (path_causes y (length nodes) (length links) p q (length scratch)) ≡ done
     → Searched (nodes_of (lent y nodes links)) y.node_count p q choices places a c t
-    → (js : List (List ℕ)) (hs : List ℕ) (rs : List (List ℕ)) → PathLeft (memory y nodes links js hs rs) p q scratch choices places a s c t
+    → (js : List (List ℕ)) (hs : List ℕ) (rs : List (List ℕ))
+    → PathLeft (memory y nodes links js hs rs) p q scratch choices places a s c t
 answered y nodes links p q scratch choices places a s c t e x js hs rs =
-    searched e (subst (λ (ns : List Node). Searched ns y.node_count p q choices places a c t) (same_nodes y nodes links js hs rs) x)
+    searched e (subst (λ (ns : List Node). Searched ns y.node_count p q choices places a c t)
+    (same_nodes y nodes links js hs rs) x)
 
-module _ (y : Ynd) (nodes links : List (List ℕ)) (l : Lent y nodes links) (p q : ℕ) (s : List ℕ) (h : Searching (nodes_of (lent y nodes links)) p y.node_count s 0 y.node_count 0) (lq : q < y.node_count) where
+module _ (y : Ynd) (nodes links : List (List ℕ)) (l : Lent y nodes links) (p q : ℕ) (s : List ℕ)
+    (h : Searching (nodes_of (lent y nodes links)) p y.node_count s 0 y.node_count 0) (lq : q < y.node_count) where
   abbrev N : ℕ
   N = y.node_count
 
@@ -109,7 +128,8 @@ module _ (y : Ynd) (nodes links : List (List ℕ)) (l : Lent y nodes links) (p q
 
   found_back : Back N (label_at s) (from_at s) (by_at s)
   found_back =
-      least.back ns p N d (from_at s) (by_at s) (all_links y nodes links l p) h.labels (finished ns p N (all_links y nodes links l p) s h)
+      least.back ns p N d (from_at s) (by_at s) (all_links y nodes links l p) h.labels
+      (finished ns p N (all_links y nodes links l p) s h)
       (λ u b v lu x. omega (arith, link_within (lent y nodes links) l.nodes_fit u b v lu x))
 
   found_few : d q < unlabelled → steps < N
@@ -131,16 +151,20 @@ module _ (y : Ynd) (nodes links : List (List ℕ)) (l : Lent y nodes links) (p q
   found_room label e k = omega (arith, ap (λ (x : ℕ). x % 4294967296) e, found_few (omega arith))
 
   found_unreachable : unlabelled ≤ d q → Unreachable ns p q
-  found_unreachable k = least.unreachable ns p N d (from_at s) (by_at s) (all_links y nodes links l p) h.labels (finished ns p N (all_links y nodes links l p) s h) q k
+  found_unreachable k = least.unreachable ns p N d (from_at s) (by_at s) (all_links y nodes links l p) h.labels
+      (finished ns p N (all_links y nodes links l p) s h) q k
 
   found_path : d q < unlabelled → ShortestPath ns p q bs
-  found_path k = least.shortest_path ns p N d (from_at s) (by_at s) (all_links y nodes links l p) h.labels (finished ns p N (all_links y nodes links l p) s h) q lq k
+  found_path k = least.shortest_path ns p N d (from_at s) (by_at s) (all_links y nodes links l p) h.labels
+      (finished ns p N (all_links y nodes links l p) s h) q lq k
 
   found_sum : d q < unlabelled → distance ns bs p ≡ d q / 4294967296
-  found_sum k = (least.remembered_path ns p N d (from_at s) (by_at s) (all_links y nodes links l p) h.labels (finished ns p N (all_links y nodes links l p) s h) steps q lq k refl).sum
+  found_sum k = (least.remembered_path ns p N d (from_at s) (by_at s) (all_links y nodes links l p) h.labels
+      (finished ns p N (all_links y nodes links l p) s h) steps q lq k refl).sum
 
   found_places : d q < unlabelled → (route ns bs p).places ≡ places_to (from_at s) steps q
-  found_places k = (least.remembered_path ns p N d (from_at s) (by_at s) (all_links y nodes links l p) h.labels (finished ns p N (all_links y nodes links l p) s h) steps q lq k refl).places
+  found_places k = (least.remembered_path ns p N d (from_at s) (by_at s) (all_links y nodes links l p) h.labels
+      (finished ns p N (all_links y nodes links l p) s h) steps q lq k refl).places
 
   found_long : length bs ≡ steps
   found_long = least.choices_long (from_at s) (by_at s) steps q
@@ -149,26 +173,37 @@ module _ (y : Ynd) (nodes links : List (List ℕ)) (l : Lent y nodes links) (p q
     pub answer_unreachable : unlabelled ≤ label → Searched ns N p q choices places (Err NoPath) choices places
     answer_unreachable k = unreachable (found_unreachable (omega arith))
 
-    pub answer_short : label < unlabelled → (length choices < N) ⊎ (length places < N) → Searched ns N p q choices places (Err (TooShort lent.List)) choices places
+    pub answer_short : label < unlabelled → (length choices < N) ⊎ (length places < N)
+        → Searched ns N p q choices places (Err (TooShort lent.List)) choices places
     answer_short k o = short bs (found_path (omega arith)).leads o
 
     whole_path : label < unlabelled → N ≤ length choices → N ≤ length places → (c t : List ℕ)
         → c ≡ over (choices_to (from_at s) (by_at s) (label % 4294967296) q) choices
         → t ≡ over (places_to (from_at s) (label % 4294967296) q) places
-        → Searched ns N p q choices places (Ok (record { distance = label / 4294967296; links = label % 4294967296 })) c t
+        → Searched ns N p q choices places (Ok (record {
+          distance = label / 4294967296;
+          links = label % 4294967296;
+        })) c t
     whole_path k lc lp c t ec et =
         let f : d q < unlabelled = omega arith in
         let sum : label / 4294967296 ≡ distance ns bs p = ap (λ (x : ℕ). x / 4294967296) e ∙ sym (found_sum f) in
         let count : label % 4294967296 ≡ length bs = ap (λ (x : ℕ). x % 4294967296) e ∙ sym found_long in
-        let c-is : c ≡ over bs choices = ec ∙ ap (λ (x : ℕ). over (choices_to (from_at s) (by_at s) (x % 4294967296) q) choices) e in
+        let c-is : c ≡ over bs choices = ec
+        ∙ ap (λ (x : ℕ). over (choices_to (from_at s) (by_at s) (x % 4294967296) q) choices) e in
         let t-is : t ≡ over (route ns bs p).places places =
-        et ∙ ap (λ (x : ℕ). over (places_to (from_at s) (x % 4294967296) q) places) e ∙ ap (λ (x : List ℕ). over x places) (sym (found_places f)) in
-        put_in (label / 4294967296) (label % 4294967296) c t sum count c-is t-is (path lc lp bs (omega (arith, found_few f, found_long)) (found_path f))
+        et ∙ ap (λ (x : ℕ). over (places_to (from_at s) (x % 4294967296) q) places) e
+        ∙ ap (λ (x : List ℕ). over x places) (sym (found_places f)) in
+        put_in (label / 4294967296) (label % 4294967296) c t sum count c-is t-is
+        (path lc lp bs (omega (arith, found_few f, found_long)) (found_path f))
       where
-        put_in : (a b : ℕ) (c t : List ℕ) → a ≡ distance ns bs p → b ≡ length bs → c ≡ over bs choices → t ≡ over (route ns bs p).places places
-            → Searched ns N p q choices places (Ok (record { distance = distance ns bs p; links = length bs })) (over bs choices) (over (route ns bs p).places places)
+        put_in : (a b : ℕ) (c t : List ℕ) → a ≡ distance ns bs p → b ≡ length bs → c ≡ over bs choices → t
+            ≡ over (route ns bs p).places places
+            → Searched ns N p q choices places (Ok (record { distance = distance ns bs p; links = length bs }))
+            (over bs choices) (over (route ns bs p).places places)
             → Searched ns N p q choices places (Ok (record { distance = a; links = b })) c t
-        put_in a b c t e₁ e₂ e₃ e₄ w = transport (λ i. Searched ns N p q choices places (Ok (record { distance = sym e₁ i; links = sym e₂ i })) (sym e₃ i) (sym e₄ i)) w
+        put_in a b c t e₁ e₂ e₃ e₄ w = transport
+            (λ i. Searched ns N p q choices places (Ok (record { distance = sym e₁ i; links = sym e₂ i }))
+            (sym e₃ i) (sym e₄ i)) w
 
     -- what was filled of each list, and the rest of it
     pub answer_path : label < unlabelled → N ≤ length choices → N ≤ length places → (c t : List ℕ)
@@ -178,12 +213,15 @@ module _ (y : Ynd) (nodes links : List (List ℕ)) (l : Lent y nodes links) (p q
         (c ++ drop (label % 4294967296) choices) (t ++ drop (label % 4294967296 + 1) places)
     answer_path k lc lp c t ec et =
         let steps = label % 4294967296 in
-        let long-c : length (choices_to (from_at s) (by_at s) steps q) ≡ steps = least.choices_long (from_at s) (by_at s) steps q in
+        let long-c : length (choices_to (from_at s) (by_at s) steps q)
+        ≡ steps = least.choices_long (from_at s) (by_at s) steps q in
         let long-t : length (places_to (from_at s) steps q) ≡ steps + 1
         = least.places_long (from_at s) (by_at s) steps q ∙ omega arith in
         whole_path k lc lp _ _
-        ((λ i. ec i ++ drop steps choices) ∙ ap (λ (k : ℕ). choices_to (from_at s) (by_at s) steps q ++ drop k choices) (sym long-c))
-        ((λ i. et i ++ drop (steps + 1) places) ∙ ap (λ (k : ℕ). places_to (from_at s) steps q ++ drop k places) (sym long-t))
+        ((λ i. ec i ++ drop steps choices) ∙ ap (λ (k : ℕ). choices_to (from_at s) (by_at s) steps q
+        ++ drop k choices) (sym long-c))
+        ((λ i. et i ++ drop (steps + 1) places)
+        ∙ ap (λ (k : ℕ). places_to (from_at s) steps q ++ drop k places) (sym long-t))
 
 -- for the functions
 pub ruleset path_laws = (accepted, lent_so, own_nodes, own_lent, answered)

@@ -26,11 +26,13 @@ use Rattle.paths.proofs.EdgeLaws.{links_of, link_within}
 use Rattle.std.specs.Prelude.{Some, None}
 
 module _ (ns : List Node) (p b : ℕ) where
-  pub edge_next : (edge : Edge) → Some edge ≡ edge_of ns p b → (next ns p b ≡ to edge.to) × (edge.length ≡ length_at ns p b)
+  pub edge_next : (edge : Edge) → Some edge ≡ edge_of ns p b → (next ns p b ≡ to edge.to)
+      × (edge.length ≡ length_at ns p b)
   unfolding edge_of
   edge_next edge e = go (next ns p b) refl e
     where
-      go : (x : Next ℕ) → next ns p b ≡ x → Some edge ≡ edge_by (length_at ns p b) x → (next ns p b ≡ to edge.to) × (edge.length ≡ length_at ns p b)
+      go : (x : Next ℕ) → next ns p b ≡ x → Some edge ≡ edge_by (length_at ns p b) x → (next ns p b ≡ to edge.to)
+          × (edge.length ≡ length_at ns p b)
       go (to q) f e =
           let z : ◌≡◌ {A = Edge} edge (record { to = q; length = length_at ns p b }) = cc in
           (f ∙ ap to (sym (ap (λ (x : Edge). x.to) z)), ap (λ (x : Edge). x.length) z)
@@ -52,9 +54,10 @@ module _ (y : Ynd) (nodes links : List (List ℕ)) (l : Lent y nodes links) (sta
   ns = nodes_of (lent y nodes links)
 
   pub all_links : Links ns n
-  all_links = links_of (lent y nodes links) l.nodes_fit l.links_fit l.few
+  all_links = links_of (lent y nodes links) l.nodes_fit l.few
 
-  module _ (s : List ℕ) (size u b key : ℕ) (h : Searching ns start n s size u b) (lu : u < n) (label : label_at s u ≡ key) (k : key < unlabelled) where
+  module _ (s : List ℕ) (size u b key : ℕ) (h : Searching ns start n s size u b) (lu : u < n)
+      (label : label_at s u ≡ key) (k : key < unlabelled) where
     -- what a link adds
     pub record Linked (v len : ℕ) : Type 0 where
       pub link : next ns u b ≡ to v
@@ -77,11 +80,13 @@ module _ (y : Ynd) (nodes links : List (List ℕ)) (l : Lent y nodes links) (sta
         }
 
     -- a label that is taken fits
-    pub link_fits : (edge : Edge) → Some edge ≡ edge_of ns u b → key + edge.length * 4294967296 + 1 < label_at s edge.to
+    pub link_fits : (edge : Edge) → Some edge ≡ edge_of ns u b → key + edge.length * 4294967296 + 1
+        < label_at s edge.to
         → Fits (key + edge.length * 4294967296 + 1)
     link_fits edge e less =
         let x = linked edge e in
-        let f = new_fits ns start n (label_at s) (from_at s) (by_at s) all_links h.labels u b edge.to lu x.inside (omega arith) x.link (omega (arith, x.cost)) in
+        let f = new_fits ns start n (label_at s) (from_at s) (by_at s) all_links h.labels u b edge.to lu x.inside
+        (omega arith) x.link (omega (arith, x.cost)) in
         record {
           sum = omega (arith, f.0, ap (λ (y : ℕ). y / 4294967296) x.cost);
           steps = omega (arith, f.1, ap (λ (y : ℕ). y % 4294967296) x.cost, l.few);
@@ -89,24 +94,33 @@ module _ (y : Ynd) (nodes links : List (List ℕ)) (l : Lent y nodes links) (sta
 
     pub one_taken : (edge : Edge) (new : ℕ) (t : List ℕ) → Some edge ≡ edge_of ns u b
         → Offered n size edge.to (key + edge.length * 4294967296 + 1) u b new s t
-        → Searching ns start n t new u (b + 1) × (label_at t u ≡ key) × (work n t new ≤ work n s size) × (chain_at t ≡ chain_at s)
+        → Searching ns start n t new u (b + 1) × (label_at t u ≡ key) × (work n t new ≤ work n s size)
+        × (chain_at t ≡ chain_at s)
     one_taken edge new t e o =
         let x = linked edge e in
-        let r = offered ns start n all_links s size u b h lu (omega arith) edge.to (key + edge.length * 4294967296 + 1) new x.inside x.link x.cost t o in
+        let r = offered ns start n all_links s size u b h lu (omega arith) edge.to
+        (key + edge.length * 4294967296 + 1) new x.inside x.link x.cost t o in
         (r.0, r.1 ∙ label, r.2, r.3)
 
-    pub one_stopped : None ≡ edge_of ns u b → Searching ns start n s size u (b + 1) × (label_at s u ≡ key) × (work n s size ≤ work n s size) × (chain_at s ≡ chain_at s)
-    one_stopped e = let x = edge_stop ns u b e in (passed_over ns start n all_links s size u b h x.0 x.1, label, omega arith, refl)
+    pub one_stopped : None ≡ edge_of ns u b
+        → Searching ns start n s size u (b + 1) × (label_at s u ≡ key) × (work n s size ≤ work n s size)
+        × (chain_at s ≡ chain_at s)
+    one_stopped e = let x = edge_stop ns u b e in
+        (passed_over ns start n all_links s size u b h x.0 x.1, label, omega arith, refl)
 
   -- no link is left
-  pub all_relaxed : (s : List ℕ) (size u b count : ℕ) → Searching ns start n s size u b → u < n → count ≡ link_count (get_or nodes u []) → count ≤ b → Searching ns start n s size n 0
-  all_relaxed s size u b count h lu e le = relaxed ns start n all_links s size u b h (λ c v x. omega (arith, link_within (lent y nodes links) l.nodes_fit u c v lu x))
+  pub all_relaxed : (s : List ℕ) (size u b count : ℕ) → Searching ns start n s size u b → u < n
+      → count ≡ link_count (get_or nodes u []) → count ≤ b → Searching ns start n s size n 0
+  all_relaxed s size u b count h lu e le = relaxed ns start n all_links s size u b h
+      (λ c v x. omega (arith, link_within (lent y nodes links) l.nodes_fit u c v lu x))
 
   -- the loop of the search
-  pub search_begun : (s t : List ℕ) (new : ℕ) → start < n → Cleared n s → Offered n 0 start 0 start 0 new s t → Searching ns start n t new n 0
+  pub search_begun : (s t : List ℕ) (new : ℕ) → start < n → Cleared n s → Offered n 0 start 0 start 0 new s t
+      → Searching ns start n t new n 0
   search_begun s t new ls c o = begun ns start n all_links s t new ls c o
 
-  module _ (s t : List ℕ) (size u : ℕ) (h : Searching ns start n s size n 0) (some : 0 < size) (p : Popped n size u s t) where
+  module _ (s t : List ℕ) (size u : ℕ) (h : Searching ns start n s size n 0) (some : 0 < size)
+      (p : Popped n size u s t) where
     pub search_up : Searching ns start n t (size - 1) u 0
     search_up = taken_up ns start n all_links s t size u h some p
 
@@ -117,10 +131,12 @@ module _ (y : Ynd) (nodes links : List (List ℕ)) (l : Lent y nodes links) (sta
     search_less w new le = omega (arith, up_work ns start n all_links s t size u h some p)
 
 -- the chains stay as they are
-pub still_entered : (nodes : List (List ℕ)) (k : ℕ) (s t : List ℕ) → chain_at t ≡ chain_at s → AllEntered nodes k s → AllEntered nodes k t
+pub still_entered : (nodes : List (List ℕ)) (k : ℕ) (s t : List ℕ) → chain_at t ≡ chain_at s → AllEntered nodes k s
+    → AllEntered nodes k t
 still_entered nodes k s t e x = index_same k k (number_at nodes) s t e x
 
-pub begun_entered : (nodes : List (List ℕ)) (k v j u b new : ℕ) (r s t : List ℕ) → AllEntered nodes k r → chain_at s ≡ chain_at r → Offered k 0 v j u b new s t → AllEntered nodes k t
+pub begun_entered : (nodes : List (List ℕ)) (k v j u b new : ℕ) (r s t : List ℕ) → AllEntered nodes k r
+    → chain_at s ≡ chain_at r → Offered k 0 v j u b new s t → AllEntered nodes k t
 begun_entered nodes k v j u b new r s t x e (passed le p q) = still_entered nodes k r t (ap chain_at q ∙ e) x
 begun_entered nodes k v j u b new r s t x e (taken less tk) = still_entered nodes k r t (tk.same_chains ∙ e) x
 

@@ -9,7 +9,8 @@ use lib.Seq.{get_or-set_same, get_or-set_other}
 use Rattle.std.proofs.lemmas.Bool.{cases_eq}
 use Rattle.std.proofs.lemmas.Nat.{div-add-mod', div-mul-add, mod-mul-add}
 use Rattle.paths.specs.Labels.{unlabelled}
-use Rattle.paths.specs.Scratch.{label_at, from_at, by_at, place_at, index_at, chain_at, placed, indexed, stood, labelled, cleared_at, Order, Kept, SameLabels, Swapped, Put, Cleared}
+use Rattle.paths.specs.Scratch.{label_at, from_at, by_at, place_at, index_at, chain_at, placed, indexed, stood}
+use Rattle.paths.specs.Scratch.{labelled, cleared_at, Order, Kept, SameLabels, Swapped, Put, Cleared}
 use Rattle.paths.proofs.OrderLaws.{index_i, index_j, index_other, changed}
 
 -- ---- halves of an entry
@@ -27,7 +28,8 @@ abbrev high : ℕ → ℕ
 high a = a / 65536
 
 -- the entries that a label and its chain stand in
-pub labels_by : (n : ℕ) (s t : List ℕ) → ((x : ℕ) → get_or t (4 * x) 0 ≡ get_or s (4 * x) 0) → ((x : ℕ) → get_or t (4 * x + 1) 0 ≡ get_or s (4 * x + 1) 0)
+pub labels_by : (n : ℕ) (s t : List ℕ) → ((x : ℕ) → get_or t (4 * x) 0 ≡ get_or s (4 * x) 0)
+    → ((x : ℕ) → get_or t (4 * x + 1) 0 ≡ get_or s (4 * x + 1) 0)
     → ((x : ℕ) → get_or t (4 * x + 3) 0 ≡ get_or s (4 * x + 3) 0) → SameLabels n s t
 unfolding label_at from_at by_at chain_at
 labels_by n s t a b c = record {
@@ -67,7 +69,9 @@ module _ (s : List ℕ) (i v : ℕ) (inside : 4 * i + 2 < length s) (small : v <
   placed_index : (x : ℕ) → index_at (placed s i v) x ≡ index_at s x
   unfolding index_at
   placed_index x = ⊎_elim
-      (λ q. ap (λ (y : ℕ). high (get_or (placed s i v) (4 * y + 2) 0)) q ∙ ap high placed_at ∙ div-mul-add (get_or s (4 * i + 2) 0 / 65536) 65536 v small ∙ ap (λ (y : ℕ). high (get_or s (4 * y + 2) 0)) (sym q))
+      (λ q. ap (λ (y : ℕ). high (get_or (placed s i v) (4 * y + 2) 0)) q ∙ ap high placed_at
+      ∙ div-mul-add (get_or s (4 * i + 2) 0 / 65536) 65536 v small
+      ∙ ap (λ (y : ℕ). high (get_or s (4 * y + 2) 0)) (sym q))
       (λ nq. ap high (placed_far (4 * x + 2) (omega arith)))
       (cases_eq x i)
 
@@ -95,7 +99,8 @@ module _ (s : List ℕ) (v i : ℕ) (inside : 4 * v + 2 < length s) where
   indexed_place : (k : ℕ) → place_at (indexed s v i) k ≡ place_at s k
   unfolding place_at
   indexed_place k = ⊎_elim
-      (λ q. ap (λ (y : ℕ). low (get_or (indexed s v i) (4 * y + 2) 0)) q ∙ ap low indexed_at ∙ low_kept (get_or s (4 * v + 2) 0) i ∙ ap (λ (y : ℕ). low (get_or s (4 * y + 2) 0)) (sym q))
+      (λ q. ap (λ (y : ℕ). low (get_or (indexed s v i) (4 * y + 2) 0)) q ∙ ap low indexed_at
+      ∙ low_kept (get_or s (4 * v + 2) 0) i ∙ ap (λ (y : ℕ). low (get_or s (4 * y + 2) 0)) (sym q))
       (λ nq. ap low (indexed_far (4 * k + 2) (omega arith)))
       (cases_eq k v)
 
@@ -140,7 +145,8 @@ module _ (n : ℕ) (s : List ℕ) (few : n ≤ 65536) (room : 4 * n ≤ length s
 
   pub stood_labels : SameLabels n s (stood s i v)
   stood_labels =
-      labels_by n s (stood s i v) (λ x. stood_far (4 * x) (omega arith) (omega arith)) (λ x. stood_far (4 * x + 1) (omega arith) (omega arith))
+      labels_by n s (stood s i v) (λ x. stood_far (4 * x) (omega arith) (omega arith))
+      (λ x. stood_far (4 * x + 1) (omega arith) (omega arith))
       (λ x. stood_far (4 * x + 3) (omega arith) (omega arith))
 
 -- two places changed
@@ -175,31 +181,41 @@ module _ (n : ℕ) (s : List ℕ) (kept : Kept n s) (i j : ℕ) (li : i < n) (lj
       let r = kept.room in
       let w = kept.few in
       let at_j = stood_place n one w one_room j x lj lx in
-      let at_i : (i ≡ j → ⊥) → place_at two i ≡ y = λ ne. stood_place_other n one w one_room j x lj lx i li ne ∙ stood_place n s w r i y li ly in
+      let at_i : (i ≡ j → ⊥) → place_at two i ≡ y = λ ne. stood_place_other n one w one_room j x lj lx i li ne
+      ∙ stood_place n s w r i y li ly in
       let at_other : (k : ℕ) → k < n → (k ≡ i → ⊥) → (k ≡ j → ⊥) → place_at two k ≡ place_at s k =
-      λ k lt ni nj. stood_place_other n one w one_room j x lj lx k lt nj ∙ stood_place_other n s w r i y li ly k lt ni in
+      λ k lt ni nj. stood_place_other n one w one_room j x lj lx k lt nj
+      ∙ stood_place_other n s w r i y li ly k lt ni in
       let of-i = stood_index n one w one_room j x lj lx in
-      let of-j : (y ≡ x → ⊥) → index_at two y ≡ i = λ ne. stood_index_other n one w one_room j x lj lx y ly ne ∙ stood_index n s w r i y li ly in
+      let of-j : (y ≡ x → ⊥) → index_at two y ≡ i = λ ne. stood_index_other n one w one_room j x lj lx y ly ne
+      ∙ stood_index n s w r i y li ly in
       let of_other : (v : ℕ) → v < n → (v ≡ x → ⊥) → (v ≡ y → ⊥) → index_at two v ≡ index_at s v =
-      λ v lt nx ny. stood_index_other n one w one_room j x lj lx v lt nx ∙ stood_index_other n s w r i y li ly v lt ny in
+      λ v lt nx ny. stood_index_other n one w one_room j x lj lx v lt nx
+      ∙ stood_index_other n s w r i y li ly v lt ny in
       record {
         kept = record {
           few = kept.few;
           room = rw (stood_long n one w one_room j x lj lx) one_room;
-          order = changed n (place_at s) (index_at s) (place_at two) (index_at two) kept.order i j li lj at_j at_i at_other of-i of-j of_other;
+          order = changed n (place_at s) (index_at s) (place_at two) (index_at two) kept.order i j li lj at_j at_i
+              at_other of-i of-j of_other;
         };
         same = same_labels (stood_labels n s w r i y li ly) (stood_labels n one w one_room j x lj lx);
-        from_i = index_i n (place_at s) (index_at s) (place_at two) (index_at two) kept.order i j li lj at_j at_i at_other of-i of-j of_other;
-        from_j = index_j n (place_at s) (index_at s) (place_at two) (index_at two) kept.order i j li lj at_j at_i at_other of-i of-j of_other;
-        other = index_other n (place_at s) (index_at s) (place_at two) (index_at two) kept.order i j li lj at_j at_i at_other of-i of-j of_other;
+        from_i = index_i n (place_at s) (index_at s) (place_at two) (index_at two) kept.order i j li lj at_j at_i
+            at_other of-i of-j of_other;
+        from_j = index_j n (place_at s) (index_at s) (place_at two) (index_at two) kept.order i j li lj at_j at_i
+            at_other of-i of-j of_other;
+        other = index_other n (place_at s) (index_at s) (place_at two) (index_at two) kept.order i j li lj at_j at_i
+            at_other of-i of-j of_other;
       }
 
-pub swapped_by : (n : ℕ) (s : List ℕ) → Kept n s → (i j : ℕ) → i < n → j < n → (x y : ℕ) → x ≡ place_at s i → y ≡ place_at s j
+pub swapped_by : (n : ℕ) (s : List ℕ) → Kept n s → (i j : ℕ) → i < n → j < n → (x y : ℕ) → x ≡ place_at s i → y
+    ≡ place_at s j
     → (s₁ s₂ : List ℕ) → s₁ ≡ stood s i y → s₂ ≡ stood s₁ j x → Swapped n i j s s₂
 swapped_by n s kept i j li lj x y ex ey s₁ s₂ e₁ e₂ = rw (e₂, e₁, ex, ey) (swapped n s kept i j li lj)
 
 -- the order depends on its entries alone
-order_same : (n : ℕ) (h p g q : ℕ → ℕ) → Order n h p → ((k : ℕ) → k < n → g k ≡ h k) → ((v : ℕ) → v < n → q v ≡ p v) → Order n g q
+order_same : (n : ℕ) (h p g q : ℕ → ℕ) → Order n h p → ((k : ℕ) → k < n → g k ≡ h k) → ((v : ℕ) → v < n → q v ≡ p v)
+    → Order n g q
 order_same n h p g q o a b = record {
   place_in = λ i lt. rw (a i lt) (o.place_in i lt);
   index_in = λ v lt. rw (b v lt) (o.index_in v lt);
@@ -228,11 +244,13 @@ module _ (n : ℕ) (s : List ℕ) (kept : Kept n s) (v k u b : ℕ) (lv : v < n)
 
   other_at : (i : ℕ) → (i ≡ 4 * v → ⊥) → (i ≡ 4 * v + 1 → ⊥) → get_or t i 0 ≡ get_or s i 0
   unfolding t labelled
-  other_at i h0 h1 = get_or-set_other t1 (4 * v + 1) i (steps * 65536 + u) 0 h1 ∙ get_or-set_other s (4 * v) i (sum * 256 + b) 0 h0
+  other_at i h0 h1 = get_or-set_other t1 (4 * v + 1) i (steps * 65536 + u) 0 h1
+      ∙ get_or-set_other s (4 * v) i (sum * 256 + b) 0 h0
 
   at_sum : get_or t (4 * v) 0 ≡ sum * 256 + b
   unfolding t labelled
-  at_sum = get_or-set_other t1 (4 * v + 1) (4 * v) (steps * 65536 + u) 0 (omega arith) ∙ get_or-set_same s (4 * v) (sum * 256 + b) 0 (omega (arith, kept.room))
+  at_sum = get_or-set_other t1 (4 * v + 1) (4 * v) (steps * 65536 + u) 0 (omega arith)
+      ∙ get_or-set_same s (4 * v) (sum * 256 + b) 0 (omega (arith, kept.room))
 
   at_steps : get_or t (4 * v + 1) 0 ≡ steps * 65536 + u
   unfolding t labelled
@@ -248,13 +266,16 @@ module _ (n : ℕ) (s : List ℕ) (kept : Kept n s) (v k u b : ℕ) (lv : v < n)
       few = kept.few;
       room = rw long kept.room;
       order = order_same n (place_at s) (index_at s) (place_at t) (index_at t) kept.order
-          (λ i lt. ap low (other_at (4 * i + 2) (omega arith) (omega arith))) (λ x lt. ap high (other_at (4 * x + 2) (omega arith) (omega arith)));
+          (λ i lt. ap low (other_at (4 * i + 2) (omega arith) (omega arith)))
+          (λ x lt. ap high (other_at (4 * x + 2) (omega arith) (omega arith)));
     };
     label = (λ i. at_sum i / 256 * 4294967296 + at_steps i / 65536)
-        ∙ (λ i. div-mul-add sum 256 b lb i * 4294967296 + div-mul-add steps 65536 u small_u i) ∙ div-add-mod' k 4294967296;
+        ∙ (λ i. div-mul-add sum 256 b lb i * 4294967296 + div-mul-add steps 65536 u small_u i)
+        ∙ div-add-mod' k 4294967296;
     from = ap low at_steps ∙ mod-mul-add steps 65536 u small_u;
     by = ap (λ (y : ℕ). y % 256) at_sum ∙ mod-mul-add sum 256 b lb;
-    other_label = λ x lt ne i. other_at (4 * x) (omega arith) (omega arith) i / 256 * 4294967296 + other_at (4 * x + 1) (omega arith) (omega arith) i / 65536;
+    other_label = λ x lt ne i. other_at (4 * x) (omega arith) (omega arith) i / 256 * 4294967296
+        + other_at (4 * x + 1) (omega arith) (omega arith) i / 65536;
     other_from = λ x lt ne. ap low (other_at (4 * x + 1) (omega arith) (omega arith));
     other_by = λ x lt ne. ap (λ (y : ℕ). y % 256) (other_at (4 * x) (omega arith) (omega arith));
     same_index = λ x lt. ap high (other_at (4 * x + 2) (omega arith) (omega arith));
@@ -287,17 +308,20 @@ module _ (n v : ℕ) (s : List ℕ) (few : n ≤ 65536) (room : 4 * n ≤ length
 
   e_other : (k : ℕ) → (k ≡ 4 * v → ⊥) → (k ≡ 4 * v + 1 → ⊥) → (k ≡ 4 * v + 2 → ⊥) → get_or e k 0 ≡ get_or s k 0
   unfolding e cleared_at
-  e_other k a b c = get_or-set_other e2 (4 * v + 2) k (v * 65537) 0 c ∙ get_or-set_other e1 (4 * v + 1) k 0 0 b ∙ get_or-set_other s (4 * v) k 4294967295 0 a
+  e_other k a b c = get_or-set_other e2 (4 * v + 2) k (v * 65537) 0 c ∙ get_or-set_other e1 (4 * v + 1) k 0 0 b
+      ∙ get_or-set_other s (4 * v) k 4294967295 0 a
 
   e_sum : get_or e (4 * v) 0 ≡ 4294967295
   unfolding e cleared_at
   e_sum =
       get_or-set_other e2 (4 * v + 2) (4 * v) (v * 65537) 0 (omega arith)
-      ∙ get_or-set_other e1 (4 * v + 1) (4 * v) 0 0 (omega arith) ∙ get_or-set_same s (4 * v) 4294967295 0 (omega arith)
+      ∙ get_or-set_other e1 (4 * v + 1) (4 * v) 0 0 (omega arith)
+      ∙ get_or-set_same s (4 * v) 4294967295 0 (omega arith)
 
   e_steps : get_or e (4 * v + 1) 0 ≡ 0
   unfolding e cleared_at
-  e_steps = get_or-set_other e2 (4 * v + 2) (4 * v + 1) (v * 65537) 0 (omega arith) ∙ get_or-set_same e1 (4 * v + 1) 0 0 (rw length-set (omega arith))
+  e_steps = get_or-set_other e2 (4 * v + 2) (4 * v + 1) (v * 65537) 0 (omega arith)
+      ∙ get_or-set_same e1 (4 * v + 1) 0 0 (rw length-set (omega arith))
 
   e_order : get_or e (4 * v + 2) 0 ≡ v * 65537
   unfolding e cleared_at
@@ -314,7 +338,8 @@ module _ (n v : ℕ) (s : List ℕ) (few : n ≤ 65536) (room : 4 * n ≤ length
     within = omega arith;
     none = λ x lt. ⊎_elim
         (λ q. ap (label_at e) q ∙ e_label)
-        (λ ne. (λ i. e_other (4 * x) (omega arith) (omega arith) (omega arith) i / 256 * 4294967296 + e_other (4 * x + 1) (omega arith) (omega arith) (omega arith) i / 65536) ∙ c.none x (omega arith))
+        (λ ne. (λ i. e_other (4 * x) (omega arith) (omega arith) (omega arith) i / 256 * 4294967296
+        + e_other (4 * x + 1) (omega arith) (omega arith) (omega arith) i / 65536) ∙ c.none x (omega arith))
         (cases_eq x v);
     place = λ x lt. ⊎_elim
         (λ q. let both : v * 65537 % 65536 ≡ v = omega arith in ap (place_at e) q ∙ ap low e_order ∙ both ∙ sym q)
@@ -330,11 +355,13 @@ module _ (n v : ℕ) (s : List ℕ) (few : n ≤ 65536) (room : 4 * n ≤ length
   unfolding chain_at
   clear_chains = fun_ext (λ x. e_other (4 * x + 3) (omega arith) (omega arith) (omega arith))
 
-pub clear_turn : (n v : ℕ) (s t : List ℕ) → n ≤ 65536 → Clearing n v s → v < n → t ≡ cleared_at s v → Clearing n (v + 1) t
+pub clear_turn : (n v : ℕ) (s t : List ℕ) → n ≤ 65536 → Clearing n v s → v < n → t ≡ cleared_at s v
+    → Clearing n (v + 1) t
 unfolding e
 clear_turn n v s t few c lv q = rw q (clear_step n v s few c.room lv c)
 
-pub clear_same : (n v : ℕ) (s t : List ℕ) → n ≤ 65536 → 4 * n ≤ length s → v < n → t ≡ cleared_at s v → chain_at t ≡ chain_at s
+pub clear_same : (n v : ℕ) (s t : List ℕ) → n ≤ 65536 → 4 * n ≤ length s → v < n → t ≡ cleared_at s v → chain_at t
+    ≡ chain_at s
 unfolding e
 clear_same n v s t few room lv q = ap chain_at q ∙ clear_chains n v s few room lv
 

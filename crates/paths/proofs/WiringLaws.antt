@@ -1,4 +1,5 @@
--- Where choices lead, how long links are and whether a cell is sound goes by the nodes' areas, numbers and links and by the
+-- Where choices lead, how long links are and whether a cell is sound goes by the nodes' areas, numbers and links
+-- and by the
 -- refs alone.
 use Prim.Native.Nat.{ℕ, ◌≤◌}
 use mathlib.Core.Path.{◌≡◌, refl, ap, sym, ◌∙◌}
@@ -11,7 +12,8 @@ use Rattle.cells.specs.Lists.{every}
 use Rattle.cells.specs.Order.{keep, parted, Old}
 use Rattle.cells.specs.Area.{belongs, own_area}
 use Rattle.cells.specs.Lookup.{first_with, find, is_some}
-use Rattle.cells.specs.Cell.{Link, Node, Ref, Cell, no_node, node_at, is_ped_node, is_vehicle_node, numbers, first_of, old_nodes, ordered, relink, reref, renumber_cell}
+use Rattle.cells.specs.Cell.{Link, Node, Ref, Cell, no_node, node_at, is_ped_node, is_vehicle_node, numbers}
+use Rattle.cells.specs.Cell.{first_of, old_nodes, ordered, relink, reref, renumber_cell}
 use Rattle.cells.proofs.Sequences.Tests.{every_map, every_append, every_keep}
 use Rattle.cells.proofs.Renumbering.NewCell.{every_number}
 use Rattle.paths.proofs.WiringBack.{link_again, ref_again}
@@ -45,7 +47,8 @@ module _ (ns ms : List Node) (e : map wiring_of ms ≡ map wiring_of ns) where
 
   wired_at : (p : ℕ) → wiring_of (node_at ms p) ≡ wiring_of (node_at ns p)
   wired_at p =
-      sym (get_or-map wiring_of ms p no_node) ∙ ap (λ (l : List Wiring). get_or l p (wiring_of no_node)) e ∙ get_or-map wiring_of ns p no_node
+      sym (get_or-map wiring_of ms p no_node) ∙ ap (λ (l : List Wiring). get_or l p (wiring_of no_node)) e
+      ∙ get_or-map wiring_of ns p no_node
 
   link_same : (p b : ℕ) → link_at ms p b ≡ link_at ns p b
   link_same p b = ap (λ (w : Wiring). get_elem? w.links b) (wired_at p)
@@ -59,12 +62,14 @@ module _ (ns ms : List Node) (e : map wiring_of ms ≡ map wiring_of ns) where
   wired_next p b = ap (take_link ms) (link_same p b) ∙ go (link_at ns p b)
     where
       go : (l : Option Link) → take_link ms l ≡ take_link ns l
-      go (some l) = λ i. cond (belongs (first_same i) l.area) (arrive (find (numbers_same i) l.number)) (stop (end.Left l.area l.number))
+      go (some l) = λ i. cond (belongs (first_same i) l.area) (arrive (find (numbers_same i) l.number))
+          (stop (end.Left l.area l.number))
       go none = refl
 
   -- a node is sound by its wiring, the own area and the numbers
   abbrev sound_by : ℕ → List ℕ → Wiring → Bool
-  sound_by own ks w = eqb w.area own && every (λ l. not (belongs own l.area) || is_some (first_with ks l.number)) w.links
+  sound_by own ks w = eqb w.area own && every (λ l. not (belongs own l.area) || is_some (first_with ks l.number))
+      w.links
 
   by_wiring : (l : List Node) → every (node_sound l) l ≡ every (sound_by (first_of l) (numbers l)) (map wiring_of l)
   by_wiring l = sym (every_mapped (sound_by (first_of l) (numbers l)) wiring_of (node_sound l) (λ n. refl) l)
@@ -96,7 +101,8 @@ module _ (ns ms : List Node) (e : map wiring_of ms ≡ map wiring_of ns) where
 pub same_sound : (c d : Cell) → SameWiring c d → sound d ≡ sound c
 unfolding sound
 same_sound c d w =
-    ap (λ (rs : List Ref). is_empty d.nodes || (every (node_sound d.nodes) d.nodes && differing (numbers d.nodes) && every (ref_named d.nodes) rs)) w.refs
+    ap (λ (rs : List Ref). is_empty d.nodes
+    || (every (node_sound d.nodes) d.nodes && differing (numbers d.nodes) && every (ref_named d.nodes) rs)) w.refs
     ∙ wired_sound c.nodes d.nodes w.nodes c.refs
 
 -- ---- renumbering keeps what fits
@@ -108,8 +114,10 @@ module _ (c : Cell) (few : length c.nodes ≤ 65536) where
   pub nodes_fit_again : every node_fits c.nodes ≡ true → every node_fits (renumber_cell c).nodes ≡ true
   unfolding renumber_cell parted
   nodes_fit_again t =
-      every_number old node_fits node_fits (λ k n h. every_map link_fits (relink old) link_fits (link_again c few) n.links h) 0 (ordered c.nodes)
-      (every_append node_fits (keep is_vehicle_node c.nodes) (keep is_ped_node c.nodes) (every_keep node_fits is_vehicle_node c.nodes t) (every_keep node_fits is_ped_node c.nodes t))
+      every_number old node_fits node_fits
+      (λ k n h. every_map link_fits (relink old) link_fits (link_again c few) n.links h) 0 (ordered c.nodes)
+      (every_append node_fits (keep is_vehicle_node c.nodes) (keep is_ped_node c.nodes)
+      (every_keep node_fits is_vehicle_node c.nodes t) (every_keep node_fits is_ped_node c.nodes t))
 
   pub refs_fit_again : every ref_fits c.refs ≡ true → every ref_fits (renumber_cell c).refs ≡ true
   unfolding renumber_cell

@@ -1,4 +1,5 @@
--- T-06's words at a yard of three nodes, computed: node 0 has a link of 5 metres to node 1 and one that leaves; node 1 has one
+-- T-06's words at a yard of three nodes, computed: node 0 has a link of 5 metres to node 1 and one that leaves;
+-- node 1 has one
 -- of 7 metres to node 2; node 2 has none.
 use Prim.Native.Nat.{ℕ}
 use native.Mathlib.Omega.{arith}
@@ -13,7 +14,12 @@ use Rattle.walks.specs.declared.walk.End.TheVariants.{Done, Left}
 use Rattle.paths.specs.ShortestPath.{length_at, distance, Leads, Unreachable}
 
 abbrev link : ℕ → ℕ → ℕ → Link
-link area number len = record { area = area; number = number; body = record { flags0 = 0; flags1 = 0; flags2 = 0; len = len } }
+link area number len = record {
+  area = area;
+  number = number;
+  body = record
+      { flags0 = 0; flags1 = 0; flags2 = 0; len = len };
+}
 
 abbrev node : ℕ → List Link → Node
 node number links = record { area = 489; number = number; links = links; body = no_body }

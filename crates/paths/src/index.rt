@@ -1,6 +1,6 @@
 // Places by their nodes' numbers: chains in the fourth entry of each place. Every chain ends at place 0.
 ghost use Rattle.std.specs.Prelude.{◌≡◌, ℕ, ◌+◌, ◌*◌, ◌<◌, ◌≤◌, length};
-ghost use Rattle.cells.specs.LookupCall.{first_in, find_in};
+ghost use Rattle.cells.specs.LookupCall.{find_in};
 ghost use Rattle.paths.specs.Index.{number_at, head_at, next_at, linked, Index, Found, AllEntered, Room};
 
 use cells::node::NodeWords;
@@ -17,25 +17,24 @@ fn clear_heads(scratch: &mut [u32], n: usize)
     }
 }
 
-// The first of the places entered that has the number k, as many as there are nodes if none has. The first `upto`
-// places are entered.
-fn entry_of(nodes: &[NodeWords], scratch: &[u32], upto: usize, k: u16) -> usize
+// The first of the places entered that has the number k. The first `upto` places are entered.
+#[tactic(auto, using(crate::proofs::IndexLaws::seek_here))]
+fn entry_of(nodes: &[NodeWords], scratch: &[u32], upto: usize, k: u16) -> Option<usize>
     requires { Room nodes.now scratch.now × (0 < length nodes.now)
         × Index (length nodes.now) upto (number_at nodes.now) (head_at scratch.now) (next_at scratch.now) }
-    ensures { Found (length nodes.now) upto (number_at nodes.now) k result }
+    ensures { Found upto (number_at nodes.now) k result }
 {
     let h = k as usize % nodes.len();
     let mut v = (scratch[4 * h + 3] % 65536) as usize;
-    while 0 < v {
+    loop {
         if number_of(nodes[v]) == k {
-            return v;
+            return Some(v);
+        }
+        if v == 0 {
+            return None;
         }
         v = (scratch[4 * v + 3] / 65536) as usize;
     }
-    if number_of(nodes[0]) == k {
-        return 0;
-    }
-    nodes.len()
 }
 
 // The place v begins the chain of the remainder h.
@@ -60,7 +59,7 @@ fn enter(nodes: &[NodeWords], scratch: &mut [u32], i: usize)
 {
     let n = nodes.len();
     let k = number_of(nodes[i]);
-    if n <= entry_of(nodes, scratch, i, k) {
+    if entry_of(nodes, scratch, i, k).is_none() {
         link(scratch, i, k as usize % n);
     }
 }
@@ -76,21 +75,6 @@ pub(crate) fn enter_all(nodes: &[NodeWords], scratch: &mut [u32])
     }
 }
 
-// The first node that has the number.
-#[tactic(auto, using(crate::proofs::IndexLaws::found_in, crate::proofs::IndexLaws::absent_in))]
-fn first_in(nodes: &[NodeWords], scratch: &[u32], k: u16) -> Option<usize>
-    requires { Room nodes.now scratch.now × (0 < length nodes.now)
-        × AllEntered nodes.now (length nodes.now) scratch.now }
-    ensures { result ≡ first_in (length nodes.now) nodes.now k }
-{
-    let n = nodes.len();
-    let e = entry_of(nodes, scratch, n, k);
-    if n <= e {
-        return None;
-    }
-    Some(e)
-}
-
 // What `node` finds, without a search through all nodes.
 #[tactic(auto, using(crate::proofs::IndexLaws::find_laws))]
 pub(crate) fn node_in(nodes: &[NodeWords], scratch: &[u32], k: u16) -> Option<usize>
@@ -102,5 +86,5 @@ pub(crate) fn node_in(nodes: &[NodeWords], scratch: &[u32], k: u16) -> Option<us
     if p < nodes.len() && number_of(nodes[p]) == k {
         return Some(p);
     }
-    first_in(nodes, scratch, k)
+    entry_of(nodes, scratch, nodes.len(), k)
 }

@@ -10,9 +10,9 @@ use crate::scratch::{by_of, from_of, label_of};
 use crate::search::Search;
 use cells::link::LinkWords;
 use cells::node::NodeWords;
-use cells::room::over_limit;
 use cells::ynd::Ynd;
 use numbers::refusal::{Lent, Refusal};
+use walks::place::check_place;
 
 // The distance, that is the sum of the links' lengths, and the number of links.
 #[derive(Clone, Copy)]
@@ -32,14 +32,14 @@ fn fill(scratch: &[u32], goal: usize, choices: &mut [u8], places: &mut [u32])
     let mut v = goal;
     for i in (0..choices.len()).rev() {
         places[i + 1] = v as u32;
-        choices[i] = by_of(scratch, v) as u8;
+        choices[i] = by_of(scratch, v);
         v = from_of(scratch, v);
     }
     places[0] = v as u32;
 }
 
 // What is asked before the search, of a cell in lists of so many nodes and links, with a scratch of `room` entries.
-#[tactic(auto, using(numbers::proofs::Refusing::tests), unfolding(crate::specs::PathCall::path_causes))]
+#[tactic(auto, using(numbers::proofs::Refusing::tests), unfolding(crate::specs::PathCall::path_causes, walks::specs::PlaceCauses::place_causes))]
 fn check_asked(
     ynd: Ynd,
     nodes: usize,
@@ -54,18 +54,7 @@ fn check_asked(
     if n <= from {
         return Err(Refusal::NoSuchPlace);
     }
-    if n <= to {
-        return Err(Refusal::NoSuchPlace);
-    }
-    if over_limit(ynd) {
-        return Err(Refusal::AtLimit);
-    }
-    if nodes < n {
-        return Err(Refusal::TooShort(Lent::Nodes));
-    }
-    if links < ynd.link_count as usize {
-        return Err(Refusal::TooShort(Lent::Links));
-    }
+    check_place(ynd, nodes, links, to)?;
     if room < 4 * n {
         return Err(Refusal::TooShort(Lent::PathScratch));
     }

@@ -23,11 +23,11 @@ pub(crate) fn from_of(scratch: &[u32], v: usize) -> usize
 }
 
 #[tactic(auto, unfolding(crate::specs::Scratch::by_at))]
-pub(crate) fn by_of(scratch: &[u32], v: usize) -> usize
+pub(crate) fn by_of(scratch: &[u32], v: usize) -> u8
     requires { 4 * v < length scratch.now }
     ensures { result ≡ by_at scratch.now v }
 {
-    (scratch[4 * v] % 256) as usize
+    (scratch[4 * v] % 256) as u8
 }
 
 #[tactic(auto, unfolding(crate::specs::Scratch::place_at))]
@@ -48,8 +48,8 @@ pub(crate) fn index_of(scratch: &[u32], v: usize) -> usize
 
 // The place v gets the label k, by the choice b from the place u.
 #[tactic(auto, unfolding(crate::specs::Scratch::labelled))]
-pub(crate) fn put_label(scratch: &mut [u32], v: usize, k: u64, u: usize, b: usize)
-    requires { (4 * v + 1 < length scratch.old) × (u < 65536) × (b < 256) × Fits k }
+pub(crate) fn put_label(scratch: &mut [u32], v: usize, k: u64, u: usize, b: u8)
+    requires { (4 * v + 1 < length scratch.old) × (u < 65536) × Fits k }
     ensures { scratch.new ≡ labelled scratch.old v k u b }
 {
     let sum = (k / 4294967296) as u32;

@@ -1,5 +1,5 @@
 // The search for the least sums from a place.
-ghost use Rattle.std.specs.Prelude.{◌≡◌, ℕ, ◌+◌, ◌*◌, ◌/◌, ◌%◌, ◌<◌, ◌≤◌, length, get_or};
+ghost use Rattle.std.specs.Prelude.{◌≡◌, ℕ, ◌+◌, ◌*◌, ◌<◌, ◌≤◌, length};
 ghost use Rattle.paths.specs.Labels.{unlabelled};
 ghost use Rattle.paths.specs.Scratch.{label_at, Fits, Kept};
 ghost use Rattle.paths.specs.Search.{Lent, edge_of, Offered, work};
@@ -10,14 +10,15 @@ use crate::scratch::{clear, label_of, put_label};
 use cells::area::{belongs_to, own_area};
 use cells::link::LinkWords;
 use cells::node::NodeWords;
-use cells::range::{link_count, link_start};
+use cells::range::link_count;
 use cells::ynd::Ynd;
+use walks::part::link_at;
 
 // Where a choice leads, and the length of its link.
 #[derive(Clone, Copy)]
 struct Edge {
     to: usize,
-    length: u64,
+    length: u8,
 }
 
 // A cell's own lists, its nodes and no more, and the place that the search begins at.
@@ -32,28 +33,10 @@ pub(crate) struct Search<'a> {
     ghost inside: { start < ynd.node_count },
 }
 
-fn area_named(w: &LinkWords) -> u16
-    ensures { result ≡ get_or w.now 0 0 }
-{
-    w[0]
-}
-
-fn number_named(w: &LinkWords) -> u16
-    ensures { result ≡ get_or w.now 1 0 }
-{
-    w[1]
-}
-
-fn length_named(w: &LinkWords) -> u64
-    ensures { result ≡ get_or w.now 3 0 / 256 % 256 }
-{
-    (w[3] / 256 % 256) as u64
-}
-
 // The label k, by the choice b from the place u, for the place v: it takes it, and waits, if it is smaller.
 #[tactic(auto, using(crate::proofs::ScratchLaws::put, crate::proofs::SearchLaws::taken_by))]
-fn offer(queue: &mut Queue, scratch: &mut [u32], v: usize, k: u64, u: usize, b: usize)
-    requires { Kept queue.old.n scratch.old × (v < queue.old.n) × (u < queue.old.n) × (b < 256)
+fn offer(queue: &mut Queue, scratch: &mut [u32], v: usize, k: u64, u: usize, b: u8)
+    requires { Kept queue.old.n scratch.old × (v < queue.old.n) × (u < queue.old.n)
         × (k < label_at scratch.old v → Fits k) }
     ensures { (queue.new.n ≡ queue.old.n)
         × Offered queue.old.n queue.old.size v k u b queue.new.size scratch.old scratch.new }
@@ -71,34 +54,24 @@ impl Search<'_> {
 
     // Where the choice b leads from the node at place p.
     #[tactic(auto, using(crate::proofs::EdgeLaws::edge_laws))]
-    fn follow(&self, scratch: &[u32], p: usize, b: usize) -> Option<Edge>
-        requires { Ready self.now scratch.now × (p < length self.now.nodes.now) × (b < 256) }
+    fn follow(&self, scratch: &[u32], p: usize, b: u8) -> Option<Edge>
+        requires { Ready self.now scratch.now × (p < length self.now.nodes.now) }
         ensures { result ≡ edge_of (nodes_in self.now) p b }
     {
-        let node = self.nodes[p];
-        if link_count(node) as usize <= b {
+        let links = &self.links[..self.ynd.link_count as usize];
+        let w = link_at(self.nodes, links, p, b)?;
+        if !belongs_to(own_area(self.nodes, self.nodes.len()), w[0]) {
             return None;
         }
-        let at = link_start(node) as usize + b;
-        if self.ynd.link_count as usize <= at {
-            return None;
-        }
-        let link = &self.links[at];
-        let own = own_area(self.nodes, self.nodes.len());
-        if !belongs_to(own, area_named(link)) {
-            return None;
-        }
-        let to = node_in(self.nodes, scratch, number_named(link))?;
-        Some(Edge {
-            to,
-            length: length_named(link),
-        })
+        let to = node_in(self.nodes, scratch, w[1])?;
+        let [_, length] = w[3].to_le_bytes();
+        Some(Edge { to, length })
     }
 
     // One link of the place u, whose label is key.
-    fn relax_one(&self, queue: &mut Queue, scratch: &mut [u32], u: usize, key: u64, b: usize)
+    fn relax_one(&self, queue: &mut Queue, scratch: &mut [u32], u: usize, key: u64, b: u8)
         requires { Ready self.now scratch.old × Going self.now queue.old scratch.old u b
-            × (u < self.now.ynd.node_count) × (label_at scratch.old u ≡ key) × (key < unlabelled) × (b < 256) }
+            × (u < self.now.ynd.node_count) × (label_at scratch.old u ≡ key) × (key < unlabelled) }
         ensures { Ready self.now scratch.new × Going self.now queue.new scratch.new u (b + 1)
             × (label_at scratch.new u ≡ key)
             × (work queue.new.n scratch.new queue.new.size ≤ work queue.old.n scratch.old queue.old.size) }
@@ -108,7 +81,7 @@ impl Search<'_> {
                 queue,
                 scratch,
                 edge.to,
-                key + edge.length * 4294967296 + 1,
+                key + edge.length as u64 * 4294967296 + 1,
                 u,
                 b,
             );
@@ -123,7 +96,7 @@ impl Search<'_> {
             × (work queue.new.n scratch.new queue.new.size ≤ work queue.old.n scratch.old queue.old.size) }
     {
         let key = label_of(scratch, u);
-        for b in 0..link_count(self.nodes[u]) as usize {
+        for b in 0..link_count(self.nodes[u]) {
             self.relax_one(queue, scratch, u, key, b);
         }
     }

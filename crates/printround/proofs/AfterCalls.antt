@@ -9,7 +9,8 @@ use lib.ListN.{get_or}
 use Rattle.std.specs.Prelude.{codes}
 use Rattle.cells.specs.CellOf.{nodes_of}
 use Rattle.walks.specs.Calls.{Call, run, moved, any_renumbers}
-use Rattle.walks.proofs.Example.{bytes, room, reads, is_sound, first, accepted, refused, stored_read, renumbered, moves}
+use Rattle.walks.proofs.Example.{bytes, room, reads, is_sound, first, accepted, refused, stored_read, renumbered}
+use Rattle.walks.proofs.Example.{moves}
 use Rattle.printround.specs.SameRound.{walk_text, walk_text_with}
 use Rattle.printround.proofs.OtherNumbers.{choices, nodes, with_others, three_numbers, is_inside}
 use Rattle.printround.proofs.RoundsAlike.{printed_rounds_same}
@@ -23,7 +24,8 @@ unfolding any_renumbers
 once = rw renumbered refl
 
 pub printed_after : walk_text (nodes_of (run first calls)) choices 2 (moved first calls 0)
-    ≡ codes "round area 5 choices 2\n0 node 0 x 32 y 36 z 96\n1 node 2 x 0 y 4 z 64\n2 node 1 x 64 y 68 z 128\nend done\n"
+    ≡ codes
+    "round area 5 choices 2\n0 node 0 x 32 y 36 z 96\n1 node 2 x 0 y 4 z 64\n2 node 1 x 64 y 68 z 128\nend done\n"
 printed_after =
     (printed_rounds_same bytes [] room reads is_sound calls 0 is_inside).then_places once choices 2
     ∙ three_numbers (moved first calls)

@@ -25,7 +25,8 @@ use Rattle.numbers.specs.declared.refusal.Refusal.{Refusal}
 pub ended : (y : Ynd) (ns ls js : List (List ℕ)) (hs : List ℕ) (rs : List (List ℕ)) (count : ℕ) (e : End) (n : ℕ)
     (after shown text : List ℕ) (l : WalkLeft)
     → ((links : List Link) → text ≡ round_of (map (node_with links) (take y.node_count ns)) count e shown)
-    → shown ≡ take n after → walk_left (Ok (record { end = e; count = n })) after ≡ l → text ≡ walk_of (memory y ns ls js hs rs) count l
+    → shown ≡ take n after → walk_left (Ok (record { end = e; count = n })) after ≡ l → text
+    ≡ walk_of (memory y ns ls js hs rs) count l
 unfolding nodes_of
 ended y ns ls js hs rs count e n after shown text l said part is =
     let m = memory y ns ls js hs rs in

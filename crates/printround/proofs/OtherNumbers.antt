@@ -1,4 +1,5 @@
--- A round on paper with other numbers, computed at the bytes of walks' Example, whose nodes have the numbers 7, 3 and 9.
+-- A round on paper with other numbers, computed at the bytes of walks' Example, whose nodes have the numbers 7, 3
+-- and 9.
 -- Assumes nothing.
 use Prim.Native.Nat.{ℕ, ◌<◌}
 use native.Mathlib.Omega.{arith}
@@ -34,7 +35,8 @@ nodes = (file_cell bytes []).nodes
 
 -- the round as first printed, of a file of two choices
 pub with_own : walk_text nodes choices 2 0
-    ≡ codes "round area 5 choices 2\n0 node 7 x 32 y 36 z 96\n1 node 3 x 0 y 4 z 64\n2 node 9 x 64 y 68 z 128\nend done\n"
+    ≡ codes
+    "round area 5 choices 2\n0 node 7 x 32 y 36 z 96\n1 node 3 x 0 y 4 z 64\n2 node 9 x 64 y 68 z 128\nend done\n"
 unfolding digits of_bits to_bits round step_of unstep number_at number_bytes signed16 bits16 located extent bytes_of
     array_at unknowns_of root_of root_bytes node_at node_bytes link_at link_bytes junction_at junction_bytes ref_at
     ref_bytes belongs file_nodes file_junctions file_refs cell_from cell_by file_cell up_to first_with find path_node
@@ -43,7 +45,8 @@ with_own = refl
 
 -- with the numbers 0, 2 and 1
 pub with_others : walk_text_with (λ p. get_or (0 ∷ 2 ∷ 1 ∷ []) p 0) nodes choices 2 0
-    ≡ codes "round area 5 choices 2\n0 node 0 x 32 y 36 z 96\n1 node 2 x 0 y 4 z 64\n2 node 1 x 64 y 68 z 128\nend done\n"
+    ≡ codes
+    "round area 5 choices 2\n0 node 0 x 32 y 36 z 96\n1 node 2 x 0 y 4 z 64\n2 node 1 x 64 y 68 z 128\nend done\n"
 unfolding digits of_bits to_bits round step_of unstep number_at number_bytes signed16 bits16 located extent bytes_of
     array_at unknowns_of root_of root_bytes node_at node_bytes link_at link_bytes junction_at junction_bytes ref_at
     ref_bytes belongs file_nodes file_junctions file_refs cell_from cell_by file_cell up_to first_with find path_node

@@ -128,7 +128,8 @@ module _ (m n : Memory) (numbers : ℕ → ℕ) (f : ℕ → ℕ) (r : Route) (c
           ∙ sym (ap (round_with numbers (nodes_of m) count r.ending) (take_at r.places _ _ refl))
 
   by_area : (a : Answer) (visited : List ℕ) (later l : WalkLeft) → Alike later l
-      → Alike (unless a (λ cause. walk_left (Err cause) visited) later) (unless a (λ cause. walk_left (Err cause) visited) l)
+      → Alike (unless a (λ cause. walk_left (Err cause) visited) later)
+      (unless a (λ cause. walk_left (Err cause) visited) l)
   by_area (Ok tt) visited later l e = e
   by_area (Err cause) visited later l e = refl
 
@@ -167,14 +168,16 @@ module _ (m : Memory) (fit : Fit (cell_of m)) (lies : Lies m) (calls : List Call
         ≡ round_with numbers (nodes_of m) count r.ending r.places)
     unfolding cell_of
     text choices count =
-        round_alike (cell_of m) (sound_parts (cell_of m) (omega arith) fit.is_sound) (nodes_of now) f numbers steps_same
+        round_alike (cell_of m) (sound_parts (cell_of m) (omega arith) fit.is_sound) (nodes_of now) f numbers
+        steps_same
         named (area_kept m fit lies calls (omega arith)) choices p count lt
 
     walk_alike : (choices : List ℕ) (count : ℕ)
         → walk_text (nodes_of now) choices count (f p) ≡ walk_text_with numbers (nodes_of m) choices count p
     unfolding cell_of
     walk_alike choices count =
-        ap (λ (r : Route). round_of (nodes_of now) count r.ending r.places) (alike_route (run_alike m calls fit) choices p lt)
+        ap (λ (r : Route). round_of (nodes_of now) count r.ending r.places)
+        (alike_route (run_alike m calls fit) choices p lt)
         ∙ text choices count
 
     print_alike : (version : Version) (count : ℕ) (choices : List ℕ)
@@ -184,7 +187,8 @@ module _ (m : Memory) (fit : Fit (cell_of m)) (lies : Lies m) (calls : List Call
         let bs = take count choices in
         let r = route (nodes_of m) bs p in
         ap (walk_of now count) (followed_now m fit lies calls version bs p lt visited_lent)
-        ∙ by_area m now numbers f r count (text bs count) (area_answer version (Ok (Some (first_of (nodes_of m))))) visited_lent
+        ∙ by_area m now numbers f r count (text bs count) (area_answer version (Ok (Some (first_of (nodes_of m)))))
+        visited_lent
         _ _ (by_room m now numbers f r count (text bs count) visited_lent)
         ∙ sym (ap (λ (l : WalkLeft). walked_with numbers m count l.answer l.visited)
         (followed_first m fit lies version bs p lt visited_lent))
@@ -206,4 +210,5 @@ printed_rounds_same system graphics lent e s calls p lt =
     let same : cell_of m ≡ file_cell system graphics = read_cell system graphics lent e in
     let fit : Fit (cell_of m)
     = record { is_sound = ap sound same ∙ s; is_kept = ap kept same ∙ read_kept system graphics } in
-    rw same at (alike_round m fit (read_lies system graphics lent e) calls p (rw (ap (λ (c : Cell). length c.nodes) same) lt))
+    rw same at (alike_round m fit (read_lies system graphics lent e) calls p
+    (rw (ap (λ (c : Cell). length c.nodes) same) lt))

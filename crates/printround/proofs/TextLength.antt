@@ -49,7 +49,8 @@ use Rattle.rounds.specs.Follow.{starting_at, follow_round, area_answer, follow_v
 use Rattle.rounds.specs.declared.file.Version.{Version}
 use Rattle.rounds.specs.declared.file.Version.TheVariants as version
 use Rattle.rounds.specs.declared.file.VersionRound.{VersionRound}
-use Rattle.printround.specs.Text.{head_of, line_text, steps_of, line_of, lines_of, end_of, round_of, refused_of, bad_input}
+use Rattle.printround.specs.Text.{head_of, line_text, steps_of, line_of, lines_of, end_of, round_of, refused_of}
+use Rattle.printround.specs.Text.{bad_input}
 use Rattle.printround.specs.Printed.{lent, choices_lent, visited_lent, walk_of, followed_of, file_of, unless_refused}
 use Rattle.printround.specs.Printed.{section_of, printed}
 
@@ -197,7 +198,8 @@ end_fits ns h (b ∷ bs) p =
     go (next ns p b) (link_fits ns (link_at ns p b) (every_any kept_link (node_at ns p).links b (links_kept ns p h)))
     (end_fits ns h bs)
   where
-    go : (x : Next ℕ) → NextFits x → ((q : ℕ) → EndFits (route ns bs q).ending) → EndFits (step_on p (route ns bs) x).ending
+    go : (x : Next ℕ) → NextFits x → ((q : ℕ) → EndFits (route ns bs q).ending)
+        → EndFits (step_on p (route ns bs) x).ending
     go (to q) fits later = later q
     go (stop e) fits later = fits
 
@@ -225,7 +227,8 @@ module _ (m : Memory) (kept_all : every kept_node (nodes_of m) ≡ true) (count 
       r = route (nodes_of m) choices start
 
       left : WalkLeft
-      left = walk_left (Ok (record { end = r.ending; count = length r.places })) (r.places ++ drop (length r.places) visited)
+      left = walk_left (Ok (record { end = r.ending; count = length r.places }))
+          (r.places ++ drop (length r.places) visited)
 
       by_room : (b : Bool) → ltb (length visited) (length r.places) ≡ b
           → Short (cond b (walk_left (Err (refused.TooShort kind.List)) visited) left)
@@ -267,7 +270,8 @@ rest_fits v at s choices = go (decided (rest_causes at (length s) (le16 s (at + 
   where
     go : (a : Answer) → CountFits (in_version v
         (unless a (λ cause. round_left (Err cause) choices)
-        (round_left (Ok (record { start = le16 s at; count = le16 s (at + 2) })) (put choices 0 (drop (at + 4) s))))).answer
+        (round_left (Ok (record { start = le16 s at; count = le16 s (at + 2) }))
+        (put choices 0 (drop (at + 4) s))))).answer
     go (Ok tt) = number_below 2 s (at + 2)
     go (Err cause) = tt
 
@@ -275,7 +279,8 @@ count_fits : (s choices : List ℕ) → CountFits (version_read s choices).answe
 unfolding version_read
 count_fits s choices =
     either {A = VersionLeft} (λ l. CountFits l.answer) (has_version 1 s) (rest_fits version.One 5 s choices)
-    (either {A = VersionLeft} (λ l. CountFits l.answer) (has_version 2 s) (rest_fits (version.Two (le16 s 5)) 7 s choices) tt)
+    (either {A = VersionLeft} (λ l. CountFits l.answer) (has_version 2 s)
+    (rest_fits (version.Two (le16 s 5)) 7 s choices) tt)
 
 -- ---- the whole text
 

@@ -16,7 +16,8 @@ use Rattle.cells.specs.declared.ynd.Ynd.{Ynd}
 use Rattle.cells.specs.Memory.{over_limit}
 use Rattle.reach.specs.Reach.{stored, distances, within, nearest_of, places_within, near, times}
 use Rattle.reach.specs.Reach.{Precedes}
-use Rattle.reach.specs.Reach.{Left, left, listed, within_causes, within_call, nearest_causes, nearest_answer, nearest_call}
+use Rattle.reach.specs.Reach.{Left, left, listed, within_causes, within_call, nearest_causes, nearest_answer}
+use Rattle.reach.specs.Reach.{nearest_call}
 use Rattle.reach.specs.declared.reach.NearestNode.{NearestNode}
 use Rattle.reach.proofs.DistanceLaws.{on_spot, spot}
 use Rattle.reach.proofs.ListedLaws.{times_more, some_listed, first_listed, within_once, once_is, once_if}
@@ -139,7 +140,8 @@ module _ (ynd : Ynd) (nodes : List (List ℕ)) (x y : ℤ) (radius : ℕ) (place
           at_most_one (near ynd nodes x y radius p),
         )
 
-    entry_up : (i : ℕ) → i + 1 < length (places_within ynd nodes x y radius) → let l = places_within ynd nodes x y radius
+    entry_up : (i : ℕ) → i + 1 < length (places_within ynd nodes x y radius)
+        → let l = places_within ynd nodes x y radius
         in Before (distances x y nodes) (get_or l i 0) (get_or l (i + 1) 0)
     unfolding places_within
     entry_up i lt = ordered_up (distances x y nodes) (within (distances x y nodes) radius ynd.node_count) i lt
@@ -260,7 +262,8 @@ module _ (ynd : Ynd) (nodes : List (List ℕ)) (x y : ℤ) (radius : ℕ) (place
       let long : 0 < length l = omega (arith, listed_long ynd nodes x y radius places after count h) in
       listed_only ynd nodes x y radius places after count h (get_or l 0 0) (head_listed l long)
 
-  head_before : (q : ℕ) → 0 < times q (take count after) → Before (distances x y nodes) (get_or (take count after) 0 0) q
+  head_before : (q : ℕ) → 0 < times q (take count after)
+      → Before (distances x y nodes) (get_or (take count after) 0 0) q
   unfolding places_within
   head_before q t =
       let d = distances x y nodes in

@@ -13,7 +13,8 @@ use Rattle.reach.proofs.DistanceLaws.{up, up_small, raised_by, raised_up, apart_
 
 -- ---- a step and 32,768 more
 
-pub stored_sum : (z : ℤ) → SFits w16 z → to_z w32 (of_z w32 (to_z w32 (of_z w32 (to_z w16 (of_z w16 z))) +ℤ pos 32768)) ≡ pos (up z)
+pub stored_sum : (z : ℤ) → SFits w16 z
+    → to_z w32 (of_z w32 (to_z w32 (of_z w32 (to_z w16 (of_z w16 z))) +ℤ pos 32768)) ≡ pos (up z)
 stored_sum z f = omega (arith, ints, raised_by z f.sfits)
 
 -- ---- the square of a difference
@@ -48,11 +49,17 @@ module _ (a u : ℕ) (ha : a ≤ 65535) (hu : u ≤ 65535) (A U : ℤ) (ea : A �
 
 -- as the code has it, with a step z of 16 bits
 abbrev pub word_of : ℕ → ℤ → ℤ
-word_of a z = to_z w64 (of_z w64 (to_z w32 (of_z w32 (to_z w32 a -ℤ to_z w32 (of_z w32 (to_z w32 (of_z w32 (to_z w16 (of_z w16 z))) +ℤ pos 32768))))))
+word_of a z = to_z w64 (of_z w64 (to_z w32 (of_z w32 (to_z w32 a -ℤ to_z w32
+    (of_z w32 (to_z w32 (of_z w32 (to_z w16 (of_z w16 z))) +ℤ pos 32768))))))
 
 pub apart_cast : (a : ℕ) (z : ℤ) → a ≤ 65535 → mag z < 32768
-    → (to_z w64 (of_z w64 (word_of a z *ℤ word_of a z)) ≡ pos (square_apart a (raised_step z))) × (square_apart a (raised_step z) ≤ 4294836225)
+    → (to_z w64 (of_z w64 (word_of a z *ℤ word_of a z)) ≡ pos (square_apart a (raised_step z)))
+    × (square_apart a (raised_step z) ≤ 4294836225)
 apart_cast a z h f =
     let fits : SFits w16 z = record { sfits = f } in
     let small = up_small z f in
-    rw (raised_up z f) (stored_product a (up z) h small _ _ (as_word a h) (stored_sum z fits), apart_small a (up z) h small)
+    rw (raised_up z f) (
+      stored_product a (up z) h small _ _ (as_word a h) (stored_sum z fits),
+      apart_small a (up z)
+          h small,
+    )

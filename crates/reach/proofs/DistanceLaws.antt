@@ -58,7 +58,8 @@ far_is x y nodes hx hy = λ i p. far_at x y nodes hx hy p i
 
 -- the same, of the numbers that `raised` gave
 pub far_of : (x y : ℤ) (a b : ℕ) (nodes : List (List ℕ)) → SFits w16 x → SFits w16 y
-    → a ≡ raised_step (to_z w16 (of_z w16 x)) → b ≡ raised_step (to_z w16 (of_z w16 y)) → far a b nodes ≡ distances x y nodes
+    → a ≡ raised_step (to_z w16 (of_z w16 x)) → b ≡ raised_step (to_z w16 (of_z w16 y)) → far a b nodes
+    ≡ distances x y nodes
 far_of x y a b nodes fx fy e f =
     let g : a ≡ raised_step x = e ∙ ap raised_step (to_z-of_z w16 x fx) in
     let h : b ≡ raised_step y = f ∙ ap raised_step (to_z-of_z w16 y fy) in

@@ -1,4 +1,5 @@
--- What `nearest_of` gives: the least distance, the lowest place of equal ones; none only of no places. Assumes nothing.
+-- What `nearest_of` gives: the least distance, the lowest place of equal ones; none only of no places. Assumes
+-- nothing.
 use Prim.Native.Nat.{ℕ, zero, suc, ◌<◌, ◌≤◌}
 use native.Mathlib.Omega.{arith}
 use mathlib.Core.Path.{◌≡◌, refl, ap, sym, ◌∙◌}

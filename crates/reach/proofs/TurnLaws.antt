@@ -4,20 +4,23 @@ use native.Mathlib.Nat.{zero-add, suc-add, sub-add_cancel}
 use native.Mathlib.Numerals.{add-one}
 use native.Mathlib.Omega.{arith}
 use mathlib.Core.Path.{◌≡◌, refl, ap, sym, ◌∙◌}
-use mathlib.Core.Bool.{Bool, true, false}
+use mathlib.Core.Bool.{Bool, true, false, cond}
 use mathlib.Core.List.{List, [], ◌∷◌, ◌++◌, append-nil}
 use mathlib.Core.Option.{some}
-use lib.Dec.{leb}
+use lib.Dec.{leb, ltb}
 use lib.Ieee.{binary32, of_bits}
-use lib.ListN.{get_or, length, drop, set, length-append}
+use lib.ListN.{get_or, length, take, drop, set, length-append}
 use lib.Seq.{drop-cons, set_at, append_snoc}
-use borrow.Author.Tests.{le-leb, lt-leb, lt-ltb, le-ltb}
+use borrow.Author.Tests.{le-leb, lt-leb, lt-ltb, le-ltb, ltb-true, ltb-false}
+use Rattle.std.specs.List.{filter}
+use Rattle.std.proofs.Math.Seq.{take-length}
+use Rattle.std.proofs.lemmas.List.Filters.{length-filter_more}
 use Rattle.std.proofs.lemmas.Bool.Decides.{nat_tests}
 use Rattle.numbers.specs.Steps.{step_of}
 use Rattle.cells.specs.Words.{to_node}
 use Rattle.cells.specs.Lists.{join_to}
 use Rattle.reach.specs.Reach.{stored, only_if, within, nearest_of}
-use Rattle.reach.specs.Parts.{bounded, far_from, square_apart, raised_step}
+use Rattle.reach.specs.Parts.{bounded, far, far_from, square_apart, raised_step}
 
 -- ---- a distance as far as a limit
 
@@ -89,15 +92,53 @@ module _ (d : ℕ → ℕ) (radius i r limit : ℕ) (e : r ≡ bounded limit (d 
   pub listed_not : limit ≤ r → within d radius (i + 1) ≡ within d radius i
   listed_not h = within_not d radius i (omega (arith, not_below r limit (d i) e h))
 
-  pub room_near : (n room : ℕ) → r < limit → i < n → length (within d radius n) ≤ room → length (within d radius i) < room
+  pub room_near : (n room : ℕ) → r < limit → i < n → length (within d radius n) ≤ room → length (within d radius i)
+      < room
   room_near n room h lt le =
-      omega (arith, ap length (listed_near h), length-append (within d radius i) (i ∷ []), within_more d radius (i + 1) n (omega arith))
+      omega (
+        arith,
+        ap length (listed_near h),
+        length-append (within d radius i) (i ∷ []),
+        within_more d radius
+            (i + 1) n (omega arith),
+      )
 
   pub filled_near : (before places : List ℕ) (k : ℕ) → r < limit → k ≡ length (within d radius i) → k < length before
       → places ≡ within d radius i ++ drop k before → set places k i ≡ within d radius (i + 1) ++ drop (k + 1) before
   filled_near before places k h long room is =
       ap (λ (p : List ℕ). set p k i) is ∙ filled_more (within d radius i) before k i long room
       ∙ ap (λ (p : List ℕ). p ++ drop (k + 1) before) (sym (listed_near h))
+
+-- they are as many as the nodes that pass the test
+module _ (x y radius limit : ℕ) (l : limit ≡ radius * radius + 1) (nodes : List (List ℕ)) where
+  abbrev d : ℕ → ℕ
+  d = far x y nodes
+
+  abbrev pub near : List ℕ → Bool
+  near w = ltb (bounded limit (far_from x y w)) limit
+
+  one_counted : (i : ℕ) (b : Bool) → near (get_or nodes i []) ≡ b
+      → length (within d radius i) + cond b 1 0 ≡ length (within d radius (i + 1))
+  unfolding far
+  one_counted i true t = omega (
+    arith,
+    ap length (listed_near d radius i _ limit refl l (ltb-true _ limit t)),
+    length-append (within d radius i) (i ∷ []),
+  )
+  one_counted i false f = omega (arith, ap length (listed_not d radius i _ limit refl l (ltb-false _ limit f)))
+
+  counted_to : (i : ℕ) → i ≤ length nodes → length (filter near (take i nodes)) ≡ length (within d radius i)
+  counted_to zero le = ap length (sym (within_none d radius))
+  counted_to (suc i) le =
+      ap (λ (k : ℕ). length (filter near (take k nodes))) (sym (add-one i))
+      ∙ length-filter_more near nodes i [] (omega arith)
+      ∙ ap (λ (n : ℕ). n + cond (near (get_or nodes i [])) 1 0) (counted_to i (omega arith))
+      ∙ one_counted i (near (get_or nodes i [])) refl
+      ∙ ap (λ (k : ℕ). length (within d radius k)) (add-one i)
+
+  pub all_counted : length (filter near nodes) ≡ length (within d radius (length nodes))
+  all_counted = ap (λ (q : List (List ℕ)). length (filter near q)) (sym (take-length nodes))
+      ∙ counted_to (length nodes) (omega arith)
 
 -- ---- the nearest
 
@@ -117,7 +158,9 @@ module _ (d : ℕ → ℕ) where
 -- ---- the laws that each function goes by, for the check
 
 -- the steps of a node as the code reads them
-pub far_read : (x y : ℕ) (w : List ℕ) → far_from x y w ≡ square_apart x (raised_step (step_of 2 (of_bits binary32 (get_or w 2 0)))) + square_apart y (raised_step (step_of 2 (of_bits binary32 (get_or w 3 0))))
+pub far_read : (x y : ℕ) (w : List ℕ) → far_from x y w
+    ≡ square_apart x (raised_step (step_of 2 (of_bits binary32 (get_or w 2 0))))
+    + square_apart y (raised_step (step_of 2 (of_bits binary32 (get_or w 3 0))))
 unfolding far_from stored to_node
 far_read x y w = refl
 

@@ -66,8 +66,7 @@ impl<'a> Point<'a> {
         if limit <= x {
             return limit;
         }
-        let d = x + square_apart(self.y, w[3]);
-        if d < limit { d } else { limit }
+        limit.min(x + square_apart(self.y, w[3]))
     }
 
     // The whole squared distance.

@@ -18,18 +18,14 @@ pub struct NearestNode {
 
 impl Point<'_> {
     // How many nodes are within reach. Nothing is stored.
-    #[tactic(auto, using(crate::proofs::TurnLaws::within_none, crate::proofs::TurnLaws::within_few))]
     fn count_within(&self, radius: u16) -> usize
         ensures { result ≡ length (within (distances_from self.now) radius (length self.now.nodes.now)) }
     {
         let limit = beyond(radius);
-        let mut count = 0;
-        for w in self.nodes {
-            if self.distance_up_to(w, limit) < limit {
-                count += 1;
-            }
-        }
-        count
+        self.nodes
+            .iter()
+            .filter(|w| self.distance_up_to(*w, limit) < limit)
+            .count()
     }
 
     // Whether they go into a list of `room` entries. They are counted only where there are more nodes than that.
@@ -69,8 +65,8 @@ impl Point<'_> {
     {
         let mut best = 0;
         let mut least = self.square_distance(&self.nodes[0]);
-        for i in 1..self.nodes.len() {
-            let d = self.distance_up_to(&self.nodes[i], least);
+        for (i, w) in self.nodes.iter().enumerate().skip(1) {
+            let d = self.distance_up_to(w, least);
             if d < least {
                 best = i;
                 least = d;

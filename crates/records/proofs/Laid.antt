@@ -51,7 +51,7 @@ pub padded_put : (l l₁ l₂ : List ℕ) (at g : ℕ) (b : List ℕ) → l₁ �
 unfolding padded
 padded_put l l₁ l₂ at g b e f h room =
     f ∙ (λ i. put (e i) (at + sym (length-replicate {A = ℕ} g 0) i) b) ∙ put_put l at (replicate g 0) b room
-        ∙ ap (λ (k : ℕ). put l at (replicate k 0 ++ b)) h
+    ∙ ap (λ (k : ℕ). put l at (replicate k 0 ++ b)) h
 
 -- ---- the numbers
 
@@ -106,7 +106,7 @@ found_here before (x ∷ xs) rest =
     let g = gap_for (length before) (length (x ∷ xs)) in
     let pad : List ℕ = replicate g 0 in
     let e : start_of (length before) (length (x ∷ xs)) ≡ length before
-        + g = some (length before) (length (x ∷ xs)) (λ e. omega arith) in
+    + g = some (length before) (length (x ∷ xs)) (λ e. omega arith) in
     rw (
       e,
       append_assoc pad (x ∷ xs) rest,
@@ -119,24 +119,24 @@ found_here before (x ∷ xs) rest =
 -- each block stands at its offset
 pub found : (before : List ℕ) (bs : List (List ℕ)) (rest : List ℕ) (i : ℕ)
     → take (length (get_or bs i [])) (drop (offset (length before) (map length bs) i)
-        (before ++ (lay (length before) bs ++ rest))) ≡ get_or bs i []
+    (before ++ (lay (length before) bs ++ rest))) ≡ get_or bs i []
 unfolding lay offset
 found before [] rest i = refl
 found before (b ∷ bs) rest zero =
     rw (append_assoc (padded (length before) b))
-        (found_here before b (lay (end_of (length before) (length b)) bs ++ rest))
+    (found_here before b (lay (end_of (length before) (length b)) bs ++ rest))
 found before (b ∷ bs) rest (suc i) =
     let e : end_of (length before) (length b)
-        ≡ length (before ++ padded (length before) b) = omega
-        (arith, length-append before (padded (length before) b), padded_length (length before) b) in
+    ≡ length (before ++ padded (length before) b) = omega
+    (arith, length-append before (padded (length before) b), padded_length (length before) b) in
     let p = padded (length before) b in
     let n = length (before ++ p) in
     let l = lay n bs in
     let regroup : before ++ ((p ++ l) ++ rest) ≡ (before ++ p)
-        ++ (l ++ rest) = ap (λ (x : List ℕ). before ++ x) (append_assoc p l rest)
-        ∙ sym (append_assoc before p (l ++ rest)) in
+    ++ (l ++ rest) = ap (λ (x : List ℕ). before ++ x) (append_assoc p l rest)
+    ∙ sym (append_assoc before p (l ++ rest)) in
     (λ k. take (length (get_or bs i []))
-        (drop (offset (e k) (map length bs) i) (before ++ ((p ++ lay (e k) bs) ++ rest))))
+    (drop (offset (e k) (map length bs) i) (before ++ ((p ++ lay (e k) bs) ++ rest))))
     ∙ ap (λ (x : List ℕ). take (length (get_or bs i [])) (drop (offset n (map length bs) i) x)) regroup
     ∙ found (before ++ p) bs rest i
 
@@ -145,8 +145,13 @@ pub lay_total : (n : ℕ) (bs : List (List ℕ)) → n + length (lay n bs) ≡ t
 unfolding lay total
 lay_total n [] = add-zero n
 lay_total n (b ∷ bs) =
-    omega (arith, length-append (padded n b) (lay (end_of n (length b)) bs), padded_length n b, lay_total
-        (end_of n (length b)) bs)
+    omega (
+      arith,
+      length-append (padded n b) (lay (end_of n (length b)) bs),
+      padded_length n b,
+      lay_total
+          (end_of n (length b)) bs,
+    )
 
 -- ---- blocks that are put one after the other
 
@@ -164,8 +169,13 @@ lay_next n n' len b bs h e = omega (arith, h, ap length (lay_open n n' b bs e), 
 
 pub lay_first : (n len : ℕ) (b : List ℕ) (bs : List (List ℕ)) → n + length (lay n (b ∷ bs)) ≤ len → n
     + length (padded n b) ≤ len
-lay_first n len b bs h = omega (arith, h, ap length (lay_open n (n + length (padded n b)) b bs refl), length-append
-    (padded n b) (lay (n + length (padded n b)) bs))
+lay_first n len b bs h = omega (
+  arith,
+  h,
+  ap length (lay_open n (n + length (padded n b)) b bs refl),
+  length-append
+      (padded n b) (lay (n + length (padded n b)) bs),
+)
 
 -- one block is put, and the others are put behind it
 pub lay_turn : (l l' : List ℕ) (n n' : ℕ) (b : List ℕ) (bs : List (List ℕ)) → l' ≡ put l n (padded n b) → n' ≡ n
@@ -196,7 +206,7 @@ section_length r bs = length-append (header_bytes r) (lay header_size bs)
 -- each array stands in the section where its address says, whatever bytes come later
 pub found_in : (r : Root) (bs : List (List ℕ)) (rest : List ℕ) (i : ℕ)
     → take (length (get_or bs i [])) (drop (offset header_size (map length bs) i) (section_bytes r bs ++ rest))
-        ≡ get_or bs i []
+    ≡ get_or bs i []
 unfolding section_bytes
 found_in r bs rest i = rw (append_assoc (header_bytes r) (lay header_size bs) rest)
     (rw (header_length r) at (found (header_bytes r) bs rest i))

@@ -43,7 +43,7 @@ number_split (suc a) b s at =
     let high : n * 256 ^ suc a ≡ 256 * (n * 256 ^ a) = ap (λ (p : ℕ). n * p) (pow-succ' 256 a) ∙ omega arith in
     ap (λ (k : ℕ). number_at k s at) width
     ∙ ap (λ (k : ℕ). byte_at s at + 256 * k)
-        (number_split a b s (at + 1) ∙ ap (λ (k : ℕ). number_at a s (at + 1) + number_at b s k * 256 ^ a) next)
+    (number_split a b s (at + 1) ∙ ap (λ (k : ℕ). number_at a s (at + 1) + number_at b s k * 256 ^ a) next)
     ∙ omega (arith, high)
 
 pub bytes_length : (w n : ℕ) → length (number_bytes w n) ≡ w
@@ -60,7 +60,7 @@ bytes_join (suc a) b low high h =
     let m = high * 256 ^ a in
     let width : suc a + b ≡ suc (a + b) = omega arith in
     let value : low + high * 256 ^ suc a ≡ low + 256 * m = ap (λ (p : ℕ). low + high * p) (pow-succ' 256 a)
-        ∙ omega arith in
+    ∙ omega arith in
     let first : (low + 256 * m) % 256 ≡ low % 256 = omega arith in
     let rest : (low + 256 * m) / 256 ≡ low / 256 + m = omega arith in
     (λ i. number_bytes (width i) (value i)) ∙ (λ i. first i ∷ number_bytes (a + b) (rest i))
@@ -93,7 +93,7 @@ number_back zero n s at small h = omega arith
 number_back (suc w) n s at small h =
     let here : get_or s at 0 ≡ n % 256 = ap (λ (k : ℕ). get_or s k 0) (sym (add-zero at)) ∙ h 0 (omega arith) in
     let rest : Stands s (at + 1) (number_bytes w (n / 256)) = stands_next s at (n % 256 ∷ [])
-        (number_bytes w (n / 256)) h in
+    (number_bytes w (n / 256)) h in
     omega (arith, here, number_back w (n / 256) s (at + 1) (omega (arith, small, pow-succ' 256 w)) rest)
 
 -- ---- 16 bits with a sign
@@ -131,7 +131,7 @@ reads16 s at h = omega (arith, (h at).fits, (h (at + 1)).fits)
 
 pub reads32 : (s : List ℕ) (at : ℕ) → AreBytes s
     → get_or s at 0 + get_or s (at + 1) 0 * 256 + get_or s (at + 2) 0 * 65536 + get_or s (at + 3) 0 * 16777216
-        ≡ number_at 4 s at
+    ≡ number_at 4 s at
 reads32 s at h =
     let next : at + 2 + 1 ≡ at + 3 = omega arith in
     omega (arith, number_split 2 2 s at, reads16 s at h, reads16 s (at + 2) h, ap (λ (k : ℕ). get_or s k 0) next)

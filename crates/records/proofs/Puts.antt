@@ -62,10 +62,10 @@ module _ {A : Type 0} where
       let total : at + length x + length y ≡ at + length (x ++ y) = omega (arith, length-append x y) in
       let back : drop (at + length x + length y) (p ++ r) ≡ drop (at + length (x ++ y)) l
       = ap (λ (k : ℕ). drop (k + length y) (p ++ r)) (sym e) ∙ drop-append-add p r (length y)
-          ∙ drop-drop (length y) (at + length x) l
+      ∙ drop-drop (length y) (at + length x) l
       ∙ ap (λ (k : ℕ). drop k l) total in
       (λ i. take_at p r (at + length x) e i ++ y ++ back i)
-          ∙ ap (λ (z : List A). z ++ drop (at + length (x ++ y)) l) (append_assoc (take at l) x y)
+      ∙ ap (λ (z : List A). z ++ drop (at + length (x ++ y)) l) (append_assoc (take at l) x y)
 
   pub put_nil : (l : List A) (at : ℕ) → put l at [] ≡ l
   unfolding put
@@ -87,7 +87,7 @@ module _ {A : Type 0} where
   put_part l at e x y same h =
       let long : e - at ≡ length x = omega arith in
       (λ i. take at l ++ (same i ++ drop (long i) (drop at l)))
-          ∙ ap (λ (z : List A). take at l ++ (x ++ z)) (drop-drop (length x) at l)
+      ∙ ap (λ (z : List A). take at l ++ (x ++ z)) (drop-drop (length x) at l)
       ∙ sym (append_assoc (take at l) x (drop (at + length x) l))
 
   pub length_put : (l : List A) (at : ℕ) (x : List A) → at + length x ≤ length l → length (put l at x) ≡ length l
@@ -142,11 +142,11 @@ joined_split f xs i z h = ap (joined f) (drop_more xs i z h)
 pub joined_turn : {A B : Type 0} (f : A → List B) (l₀ l l' whole : List B) (at p q : ℕ) (xs : List A) (i : ℕ)
     (z : A) → i < length xs
     → put l p (joined f (drop i xs)) ≡ put l₀ at whole → l' ≡ put l p (f (get_or xs i z)) → q ≡ p
-        + length (f (get_or xs i z)) → p ≤ length l
+    + length (f (get_or xs i z)) → p ≤ length l
     → put l' q (joined f (drop (i + 1) xs)) ≡ put l₀ at whole
 joined_turn f l₀ l l' whole at p q xs i z h before is-so next room =
     turn l₀ l l' at p q (f (get_or xs i z)) (joined f (drop (i + 1) xs)) whole
-        (ap (put l p) (sym (joined_split f xs i z h)) ∙ before) is-so next room
+    (ap (put l p) (sym (joined_split f xs i z h)) ∙ before) is-so next room
 
 pub joined_ended : {A B : Type 0} (f : A → List B) (l₀ l whole : List B) (at p : ℕ) (xs : List A) (i : ℕ)
     → length xs ≤ i → put l p (joined f (drop i xs)) ≡ put l₀ at whole → l ≡ put l₀ at whole

@@ -77,8 +77,12 @@ node_fit n h = field h.unused0 (field h.unused1 (field h.unused2
 
 node_own : (n : Node) → NodeFits n → node_of (node_values n) ≡ n
 unfolding node_of node_values
-node_own n h = rw (signed_back n.position_x h.position_x, signed_back n.position_y h.position_y, signed_back
-    n.position_z h.position_z)
+node_own n h = rw (
+  signed_back n.position_x h.position_x,
+  signed_back n.position_y h.position_y,
+  signed_back
+      n.position_z h.position_z,
+)
 
 pub node_back : (n : Node) → NodeFits n → (s : List ℕ) (at : ℕ) → Stands s at (node_bytes n) → node_at s at ≡ n
 unfolding node_at node_bytes number_bytes node_of node_widths node_values fields_at field_bytes
@@ -207,8 +211,12 @@ junction_fit j h = field (bits_below j.max_z h.max_z)
 junction_own : (j : NodeJunction) → JunctionFits j → junction_of (junction_values j) ≡ j
 unfolding junction_of junction_values
 junction_own j h =
-    rw (signed_back j.max_z h.max_z, signed_back j.position_x h.position_x, signed_back j.position_y h.position_y,
-        signed_back j.min_z h.min_z)
+    rw (
+      signed_back j.max_z h.max_z,
+      signed_back j.position_x h.position_x,
+      signed_back j.position_y h.position_y,
+      signed_back j.min_z h.min_z,
+    )
 
 pub junction_back : (j : NodeJunction) → JunctionFits j → (s : List ℕ) (at : ℕ) → Stands s at (junction_bytes j)
     → junction_at s at ≡ j

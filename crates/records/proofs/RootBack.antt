@@ -34,9 +34,9 @@ root_widths = 4 ∷ 4 ∷ 8 ∷ 8 ∷ 4 ∷ 4 ∷ 4 ∷ 4 ∷ 8 ∷ 4 ∷ 4 ∷ 
 root_values : Root → List ℕ
 root_values r =
     r.vft ∷ 1 ∷ pages_address ∷ r.nodes ∷ r.node_count ∷ r.vehicle_node_count ∷ r.ped_node_count
-        ∷ get_or r.unknowns 0 0 ∷ r.links ∷ r.link_count ∷ get_or r.unknowns 1 0 ∷ r.junctions ∷ r.heightmap
-        ∷ get_or r.unknowns 2 0 ∷ get_or r.unknowns 3 0 ∷ r.refs ∷ r.ref_count ∷ r.ref_count ∷ get_or r.unknowns 4 0
-        ∷ r.junction_count ∷ r.heightmap_count ∷ get_or r.unknowns 5 0 ∷ get_or r.unknowns 6 0 ∷ []
+    ∷ get_or r.unknowns 0 0 ∷ r.links ∷ r.link_count ∷ get_or r.unknowns 1 0 ∷ r.junctions ∷ r.heightmap
+    ∷ get_or r.unknowns 2 0 ∷ get_or r.unknowns 3 0 ∷ r.refs ∷ r.ref_count ∷ r.ref_count ∷ get_or r.unknowns 4 0
+    ∷ r.junction_count ∷ r.heightmap_count ∷ get_or r.unknowns 5 0 ∷ get_or r.unknowns 6 0 ∷ []
 
 root_from : List ℕ → Root
 root_from vs = record {

@@ -53,7 +53,7 @@ module _ (r : Root) (bs : List (List ℕ)) (small : length (section_bytes r bs) 
   -- its address names that part
   pub located_back : (i count width g : ℕ) → length (get_or bs i []) ≡ count * width
       → located (address (offset header_size (map length bs) i)) count width (length (section_bytes r bs)) g
-          ≡ Some (block_part i)
+      ≡ Some (block_part i)
   unfolding address located
   located_back i count width g long = go (length (get_or bs i [])) refl
     where
@@ -63,22 +63,22 @@ module _ (r : Root) (bs : List (List ℕ)) (small : length (section_bytes r bs) 
       go zero e =
           let none : offset header_size (map length bs) i ≡ 0 = none_at header_size (map length bs) i (size i ∙ e) in
           (λ k. located (address (none k)) count width (length (section_bytes r bs)) g)
-              ∙ (λ k. Some (system_part (sym none k) (sym e k)))
+          ∙ (λ k. Some (system_part (sym none k) (sym e k)))
       go (suc n) e =
           let o = offset header_size (map length bs) i in
           let far : header_size ≤ o = past header_size (map length bs) i (λ z. omega (arith, size i)) in
           rw (ne_eqb o 0 (λ z. omega arith))
           (located_here o count width (length (section_bytes r bs)) g (omega (arith, block_inside i)) small
-              (λ z. omega arith) ∙ ap (λ (k : ℕ). Some (system_part o k)) (sym long))
+          (λ z. omega arith) ∙ ap (λ (k : ℕ). Some (system_part o k)) (sym long))
 
   -- and that part is the block
   pub bytes_back : (i : ℕ) (g : List ℕ) → bytes_of (block_part i) (section_bytes r bs) g ≡ get_or bs i []
   unfolding bytes_of extent
   bytes_back i g =
       rw (le-leb (offset header_size (map length bs) i + length (get_or bs i [])) (length (section_bytes r bs))
-          (block_inside i))
+      (block_inside i))
       (ap (λ (l : List ℕ). take (length (get_or bs i [])) (drop (offset header_size (map length bs) i) l))
-          (sym (append-nil (section_bytes r bs))) ∙ found_in r bs [] i)
+      (sym (append-nil (section_bytes r bs))) ∙ found_in r bs [] i)
 
   pub array_back : (i count width : ℕ) (g : List ℕ) → length (get_or bs i []) ≡ count * width
       → array_at (address (offset header_size (map length bs) i)) count width (section_bytes r bs) g ≡ get_or bs i []
@@ -91,5 +91,5 @@ pub root_in : (r : Root) (bs : List (List ℕ)) (rest : List ℕ) → RootFits r
 unfolding section_bytes header_bytes
 root_in r bs rest h =
     ap root_of (append_assoc (root_bytes r ++ pages) (lay header_size bs) rest
-        ∙ append_assoc (root_bytes r) pages (lay header_size bs ++ rest))
+    ∙ append_assoc (root_bytes r) pages (lay header_size bs ++ rest))
     ∙ root_back r h (pages ++ (lay header_size bs ++ rest))

@@ -51,9 +51,9 @@ fields_back s at k none h = refl
 fields_back s at k (field {w} {v} {ws} {vs} small fit) h =
     let first : value_at w s (placed at k) ≡ v
     = value_is w s (placed at k) ∙ number_back w v s (placed at k) small
-        (stands_first s (placed at k) (number_bytes w v) (field_bytes ws vs) h) in
+    (stands_first s (placed at k) (number_bytes w v) (field_bytes ws vs) h) in
     let next : placed at k + length (number_bytes w v)
-        ≡ placed at (k + w) = omega (arith, bytes_length w v, placed_is at k, placed_is at (k + w)) in
+    ≡ placed at (k + w) = omega (arith, bytes_length w v, placed_is at k, placed_is at (k + w)) in
     let behind : Stands s (placed at (k + w)) (field_bytes ws vs) = rw next at
-        (stands_next s (placed at k) (number_bytes w v) (field_bytes ws vs) h) in
+    (stands_next s (placed at k) (number_bytes w v) (field_bytes ws vs) h) in
     λ i. first i ∷ fields_back s at (k + w) fit behind i

@@ -82,8 +82,8 @@ junction_at s at = record {
 
 unfoldable pub junction_bytes : NodeJunction → List ℕ
 junction_bytes j =
-    bytes16 (bits16 j.max_z) ++ bytes16 (bits16 j.position_x) ++ bytes16 (bits16 j.position_y) ++ bytes16 (bits16 j.min_z)
-    ++ bytes16 j.heightmap_ptr ++ bytes8 j.heightmap_dim_x ++ bytes8 j.heightmap_dim_y
+    bytes16 (bits16 j.max_z) ++ bytes16 (bits16 j.position_x) ++ bytes16 (bits16 j.position_y)
+    ++ bytes16 (bits16 j.min_z) ++ bytes16 j.heightmap_ptr ++ bytes8 j.heightmap_dim_x ++ bytes8 j.heightmap_dim_y
 
 -- Section 2: a ref.
 unfoldable pub ref_at : List ℕ → ℕ → NodeJunctionRef

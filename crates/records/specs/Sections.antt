@@ -28,7 +28,8 @@ located address count width s g =
     (pick (eqb count 0) (Some empty_part)
     (pick (leb 0x1_0000_0000 address) None
     (pick (eqb (bit_and address 0xF000_0000) 0x5000_0000) (inside_of System (address % 0x1000_0000) (count * width) s)
-    (pick (eqb (bit_and address 0xF000_0000) 0x6000_0000) (inside_of Graphics (address % 0x1000_0000) (count * width) g)
+    (pick (eqb (bit_and address 0xF000_0000) 0x6000_0000)
+    (inside_of Graphics (address % 0x1000_0000) (count * width) g)
     None))))
 
 -- Section 1: the part of a list from offset to offset + len, nothing where it doesn't end inside.

@@ -114,7 +114,8 @@ unfolding follow_round node_call over_limit find_in numbers_in number_of find fi
 first_of_two = refl
 
 -- a number can't be missed in a list that isn't there: 7 at 0 before 13
-pub nodes_not_there : follow_round (memory (cell 1) [] [] [] [] []) 0 [] (9 ∷ []) ≡ walk_left (Err (TooShort lent.Nodes)) (9 ∷ [])
+pub nodes_not_there : follow_round (memory (cell 1) [] [] [] [] []) 0 [] (9 ∷ [])
+    ≡ walk_left (Err (TooShort lent.Nodes)) (9 ∷ [])
 unfolding follow_round node_call over_limit
 nodes_not_there = refl
 

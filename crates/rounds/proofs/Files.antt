@@ -20,7 +20,8 @@ use Rattle.records.proofs.Puts.{then}
 use Rattle.numbers.proofs.Refusing.{not_refused, tests}
 use Rattle.cells.proofs.Sequences.Tests.{by_test}
 use Rattle.rounds.specs.Round.{rest_bytes, file_bytes, has_version, round_left, rest_read, written_left, written}
-use Rattle.std.specs.Prelude.{Result, Ok}
+use Rattle.std.specs.Prelude.{Result, Ok, Err}
+use Rattle.std.specs.Result.{OkIff, result_or}
 use Rattle.numbers.specs.declared.refusal.Refusal.{Refusal}
 
 -- ---- the mark and the version
@@ -48,7 +49,8 @@ module _ (v : ℕ) (s : List ℕ) where
       → has_version v s ≡ r && eqb (le16 s 3) v
   unfolding has_version
   version_is h bytes r e =
-      rw (le-ltb _ _ h, e) (regroup (eqb (byte_at s 0) 82) (eqb (byte_at s 1) 78) (eqb (byte_at s 2) 68) (eqb (le16 s 3) v) ∙ ap (λ (b : Bool). b && eqb (le16 s 3) v) (marked s h bytes))
+      rw (le-ltb _ _ h, e) (regroup (eqb (byte_at s 0) 82) (eqb (byte_at s 1) 78) (eqb (byte_at s 2) 68)
+      (eqb (le16 s 3) v) ∙ ap (λ (b : Bool). b && eqb (le16 s 3) v) (marked s h bytes))
     where
       same : (x k : ℕ) → x < 256 → eqb (x % 256) k ≡ eqb k x
       same x k h = let e : x % 256 ≡ x = omega arith in rw e (swap x k)
@@ -58,7 +60,8 @@ module _ (v : ℕ) (s : List ℕ) where
       marked [] h bytes = absurd (omega arith)
       marked (a ∷ []) h bytes = absurd (omega arith)
       marked (a ∷ b ∷ []) h bytes = absurd (omega arith)
-      marked (a ∷ b ∷ c ∷ s) h bytes = λ i. same a 82 (bytes 0) i && (same b 78 (bytes 1) i && (same c 68 (bytes 2) i && true))
+      marked (a ∷ b ∷ c ∷ s) h bytes = λ i. same a 82 (bytes 0) i
+          && (same b 78 (bytes 1) i && (same c 68 (bytes 2) i && true))
 
 -- ---- reading what follows the head
 
@@ -69,7 +72,8 @@ module _ (at : ℕ) (s choices : List ℕ) (count : ℕ) (counted : count ≡ le
 
   -- what an accepted file gives
   pub rest_is : count ≤ length choices
-      → rest_read at s choices ≡ round_left (Ok (record { start = le16 s at; count = count })) (put choices 0 (drop (at + 4) s))
+      → rest_read at s choices ≡ round_left (Ok (record { start = le16 s at; count = count }))
+      (put choices 0 (drop (at + 4) s))
   unfolding rest_read
   rest_is h =
       let room : le16 s (at + 2) ≤ length choices = omega arith in
@@ -78,13 +82,15 @@ module _ (at : ℕ) (s choices : List ℕ) (count : ℕ) (counted : count ≡ le
 
   pub rest_held : count ≤ length choices → (start : ℕ) (front : List ℕ) → start ≡ le16 s at
       → front ≡ take (length s - (at + 4)) (drop (at + 4) s)
-      → round_left (Ok (record { start = start; count = count })) (front ++ drop count choices) ≡ rest_read at s choices
+      → round_left (Ok (record { start = start; count = count })) (front ++ drop count choices)
+      ≡ rest_read at s choices
   unfolding put
   rest_held h start front e f =
       let x = drop (at + 4) s in
       let long : length x ≡ count = omega (arith, length-drop (at + 4) s) in
       let all : front ≡ x = f ∙ take_all _ x (le_of_eq (length-drop (at + 4) s)) in
-      (λ i. round_left (Ok (record { start = e i; count = count })) (all i ++ drop (sym (zero-add (length x) ∙ long) i) choices)) ∙ sym (rest_is h)
+      (λ i. round_left (Ok (record { start = e i; count = count }))
+      (all i ++ drop (sym (zero-add (length x) ∙ long) i) choices)) ∙ sym (rest_is h)
 
 -- ---- writing
 
@@ -114,6 +120,12 @@ module _ (head : List ℕ) (start : ℕ) (choices : List ℕ) where
   unfolding file_bytes
   file_long = length-append (head ++ rest_bytes start (length choices)) choices ∙ omega (arith, front_long)
 
+-- a number that goes into fewer bits, or else a refusal
+module _ {E fits : Type 0} {n k : ℕ} (cause : Refusal) where
+  pub held_in : (r : Result ℕ E) → OkIff r fits n → Ok k ≡ result_or r (Err cause) → fits × (k ≡ n)
+  held_in (Ok v) h e = let same : k ≡ v = cc in (h.0, same ∙ h.1)
+  held_in (Err v) h e = not_refused (sym e)
+
 module _ (head : List ℕ) (start : ℕ) (choices file : List ℕ) where
   abbrev bytes : List ℕ
   bytes = file_bytes head start choices
@@ -135,14 +147,20 @@ module _ (head : List ℕ) (start : ℕ) (choices file : List ℕ) where
         let s₂ = bytes16 start in
         let s₃ = bytes16 (length choices) in
         let two : (n : ℕ) → length (bytes16 n) ≡ 2 = two_bytes in
-        let p₂ : exit₂ ≡ put file 0 (head ++ s₂) = then file exit₁ exit₂ 0 (length head) head s₂ e₁ e₂ (omega arith) (omega arith) in
+        let p₂ : exit₂ ≡ put file 0 (head ++ s₂) = then file exit₁ exit₂ 0 (length head) head s₂ e₁ e₂ (omega arith)
+        (omega arith) in
         let long₂ : length (head ++ s₂) ≡ length head + 2 = length-append head s₂ ∙ omega (arith, two start) in
-        let p₃ : exit₃ ≡ put file 0 ((head ++ s₂) ++ s₃) = then file exit₂ exit₃ 0 (length head + 2) (head ++ s₂) s₃ p₂ e₃ (omega arith) (omega arith) in
-        let long₃ : length ((head ++ s₂) ++ s₃) ≡ length head + 4 = length-append (head ++ s₂) s₃ ∙ omega (arith, two (length choices)) in
-        let p₄ : exit₄ ≡ put file 0 (((head ++ s₂) ++ s₃) ++ choices) = then file exit₃ exit₄ 0 (length head + 4) ((head ++ s₂) ++ s₃) choices p₃ e₄ (omega arith) (omega arith) in
-        let whole : ((head ++ s₂) ++ s₃) ++ choices ≡ bytes = ap (λ (l : List ℕ). l ++ choices) (append_assoc head s₂ s₃) in
+        let p₃ : exit₃ ≡ put file 0 ((head ++ s₂) ++ s₃) = then file exit₂ exit₃ 0 (length head + 2) (head ++ s₂) s₃
+        p₂ e₃ (omega arith) (omega arith) in
+        let long₃ : length ((head ++ s₂) ++ s₃) ≡ length head + 4 = length-append (head ++ s₂) s₃
+        ∙ omega (arith, two (length choices)) in
+        let p₄ : exit₄ ≡ put file 0 (((head ++ s₂) ++ s₃) ++ choices) = then file exit₃ exit₄ 0 (length head + 4)
+        ((head ++ s₂) ++ s₃) choices p₃ e₄ (omega arith) (omega arith) in
+        let whole : ((head ++ s₂) ++ s₃) ++ choices
+        ≡ bytes = ap (λ (l : List ℕ). l ++ choices) (append_assoc head s₂ s₃) in
         let room : length bytes ≤ length file = omega (arith, file_long head start choices) in
-        (λ i. written_left (Ok (sym (file_long head start choices) i)) ((p₄ ∙ ap (put file 0) whole) i)) ∙ sym (write_is room)
+        (λ i. written_left (Ok (sym (file_long head start choices) i)) ((p₄ ∙ ap (put file 0) whole) i))
+        ∙ sym (write_is room)
 
   -- what is known where the writer has written
   pub record Wrote (n : ℕ) : Type 0 where

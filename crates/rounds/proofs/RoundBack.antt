@@ -76,7 +76,8 @@ has_one start choices = rw (le-ltb (length (round_bytes start choices)) 5 (omega
 -- T-03: "Reading a written round gives the same round"
 pub read_written : (start : ℕ) (choices room : List ℕ) → start < 65536 → length choices < 65536
     → length choices ≤ length room
-    → round_read (round_bytes start choices) room ≡ round_left (Ok (record { start = start; count = length choices })) (put room 0 choices)
+    → round_read (round_bytes start choices) room
+    ≡ round_left (Ok (record { start = start; count = length choices })) (put room 0 choices)
 unfolding round_read head_bytes
 read_written start choices room small few enough =
     rw (has_one start choices) (rest_back (head_bytes One) start choices room small few enough)
@@ -150,7 +151,8 @@ module _ (at : ℕ) (s room : List ℕ) (start count : ℕ)
       by_test (ltb (length s) (at + 4)) (λ e. not_refused (rw e at held)) (λ e.
       by_test (eqb (length s) (at + 4 + le16 s (at + 2))) (λ f.
       by_test (ltb (length room) (le16 s (at + 2))) (λ g. not_refused (rw (e, f, g) at held)) (λ g.
-      let same : ◌≡◌ {A = Round} (record { start = le16 s at; count = le16 s (at + 2) }) (record { start = start; count = count })
+      let same : ◌≡◌ {A = Round} (record { start = le16 s at; count = le16 s (at + 2) })
+      (record { start = start; count = count })
       = same_round (rw (e, f, g) at held) in
       record {
         started = ap (λ (r : Round). r.start) (sym same);
@@ -190,7 +192,8 @@ module _ (at : ℕ) (s room : List ℕ) (start count : ℕ)
 
 -- ---- of the call: an accepted file s, read as this start and so many choices
 
-module _ (s room : List ℕ) (start count : ℕ) (held : (round_read s room).answer ≡ Ok (record { start = start; count = count })) where
+module _ (s room : List ℕ) (start count : ℕ)
+    (held : (round_read s room).answer ≡ Ok (record { start = start; count = count })) where
   has : has_version 1 s ≡ true
   unfolding round_read
   has = by_test (has_version 1 s) (λ e. e) (λ e. not_refused (rw e at held))
@@ -240,13 +243,17 @@ pub one_round : (p q : ℕ) (c d : List ℕ) → p < 65536 → q < 65536 → len
 one_round p q c d fp fq fc fd e =
     let room = c ++ d in
     let long : length room ≡ length c + length d = length-append c d in
-    let l : round_left (Ok (record { start = p; count = length c })) (put room 0 c) ≡ round_left (Ok (record { start = q; count = length d })) (put room 0 d)
+    let l : round_left (Ok (record { start = p; count = length c })) (put room 0 c)
+    ≡ round_left (Ok (record { start = q; count = length d })) (put room 0 d)
     = sym (read_written p c room fp fc (omega arith)) ∙ ap (λ (s : List ℕ). round_read s room) e
     ∙ read_written q d room fq fd (omega arith) in
     let same : ◌≡◌ {A = Round} (record { start = p; count = length c }) (record { start = q; count = length d })
     = same_round (ap (λ (x : RoundLeft). x.answer) l) in
-    let n : length c ≡ length d = ap (λ (r : Round). r.count) same in
-    (ap (λ (r : Round). r.start) same, sym (put_taken room c (length c) refl) ∙ (λ i. take (n i) (l i).choices) ∙ put_taken room d (length d) refl)
+    let n : length c ≡ length d = ap (λ (r : Round). r.count) same in (
+      ap (λ (r : Round). r.start) same,
+      sym (put_taken room c (length c) refl) ∙ (λ i. take (n i) (l i).choices)
+          ∙ put_taken room d (length d) refl,
+    )
 
 -- two files of one round are equal, whatever memory they were read into
 pub one_file : (s t room other : List ℕ) (start count : ℕ) → Bytes s → Bytes t

@@ -33,7 +33,8 @@ use Rattle.rounds.specs.Numbers.{number_at, present_number}
 use Rattle.std.specs.Prelude.{Ok}
 
 -- in a sound cell, a round from a node's number is the walk from its place
-pub follow_own : (m : Memory) → Lies m → sound (cell_of m) ≡ true → (choices : List ℕ) (p : ℕ) → p < length (nodes_of m)
+pub follow_own : (m : Memory) → Lies m → sound (cell_of m) ≡ true → (choices : List ℕ) (p : ℕ) → p
+    < length (nodes_of m)
     → (visited : List ℕ) → follow_round m (number_at m p) choices visited ≡ walk_call m choices p visited
 unfolding follow_round cell_of no_node
 follow_own m lies s choices p lt visited =

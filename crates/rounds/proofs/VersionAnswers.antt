@@ -14,7 +14,8 @@ use Rattle.cells.specs.declared.ynd.Ynd.{Ynd}
 use Rattle.walks.specs.WalkCall.{route, walk_call, walk_left}
 use Rattle.walks.specs.declared.walk.End.TheVariants.{Done}
 use Rattle.rounds.specs.declared.file.Version.TheVariants.{One, Two}
-use Rattle.rounds.specs.Round.{head_bytes, rest_bytes, file_bytes, has_version, rest_read, version_read, version_left, written, written_left}
+use Rattle.rounds.specs.Round.{head_bytes, rest_bytes, file_bytes, has_version, rest_read, version_read}
+use Rattle.rounds.specs.Round.{version_left, written, written_left}
 use Rattle.rounds.specs.Follow.{follow_round, follow_version}
 use Rattle.std.specs.Prelude.{Ok, Err}
 use Rattle.numbers.specs.declared.refusal.Refusal.TheVariants.{NoSuchPlace, NoRoundFile, WrongLength, OtherArea}
@@ -28,7 +29,8 @@ unfolding version_read has_version number_at rest_read put
 area_489 = refl
 
 -- ten bytes, which version 1 would take for a round with one choice: 16, for version 2 has eleven at least
-pub ten_bytes : version_read (82 ∷ 78 ∷ 68 ∷ 2 ∷ 0 ∷ 7 ∷ 0 ∷ 1 ∷ 0 ∷ 4 ∷ []) (8 ∷ 9 ∷ []) ≡ version_left (Err WrongLength) (8 ∷ 9 ∷ [])
+pub ten_bytes : version_read (82 ∷ 78 ∷ 68 ∷ 2 ∷ 0 ∷ 7 ∷ 0 ∷ 1 ∷ 0 ∷ 4 ∷ []) (8 ∷ 9 ∷ [])
+    ≡ version_left (Err WrongLength) (8 ∷ 9 ∷ [])
 unfolding version_read has_version number_at rest_read
 ten_bytes = refl
 
@@ -43,7 +45,8 @@ unfolding version_read has_version number_at
 version_513 = refl
 
 -- version 1 by the same reader
-pub version_one : version_read (82 ∷ 78 ∷ 68 ∷ 1 ∷ 0 ∷ 7 ∷ 0 ∷ 1 ∷ 0 ∷ 4 ∷ []) (8 ∷ 9 ∷ []) ≡ version_left (Ok (record { version = One; start = 7; count = 1 })) (4 ∷ 9 ∷ [])
+pub version_one : version_read (82 ∷ 78 ∷ 68 ∷ 1 ∷ 0 ∷ 7 ∷ 0 ∷ 1 ∷ 0 ∷ 4 ∷ []) (8 ∷ 9 ∷ [])
+    ≡ version_left (Ok (record { version = One; start = 7; count = 1 })) (4 ∷ 9 ∷ [])
 unfolding version_read has_version number_at rest_read put
 version_one = refl
 
@@ -74,8 +77,10 @@ abbrev one : ℕ → Memory
 one area = memory (cell 1) (((area + 7 * 65536) ∷ 0 ∷ 0 ∷ 0 ∷ 0 ∷ 0 ∷ 0 ∷ 0 ∷ []) ∷ []) [] [] [] []
 
 -- the cell's area: followed from the number, as a round of version 1
-pub own_round : follow_version (one 5) (Two 5) 7 [] (9 ∷ []) ≡ walk_left (Ok (record { end = Done; count = 1 })) (0 ∷ [])
-unfolding follow_version follow_round area_id_call area_of node_call over_limit find_in numbers_in number_of find first_with walk_call route nodes_of
+pub own_round : follow_version (one 5) (Two 5) 7 [] (9 ∷ [])
+    ≡ walk_left (Ok (record { end = Done; count = 1 })) (0 ∷ [])
+unfolding follow_version follow_round area_id_call area_of node_call over_limit find_in numbers_in number_of find
+    first_with walk_call route nodes_of
 own_round = refl
 
 -- 19 before 13: another area, and a number that no node has
@@ -89,11 +94,13 @@ unfolding follow_version area_id_call area_of over_limit
 island_in_full = refl
 
 -- an empty cell's area is 0: it is the cell that was meant, and the number isn't there
-pub empty_cell : follow_version (memory (cell 0) [] [] [] [] []) (Two 0) 7 [] (9 ∷ []) ≡ walk_left (Err NoSuchPlace) (9 ∷ [])
+pub empty_cell : follow_version (memory (cell 0) [] [] [] [] []) (Two 0) 7 [] (9 ∷ [])
+    ≡ walk_left (Err NoSuchPlace) (9 ∷ [])
 unfolding follow_version follow_round area_id_call node_call over_limit find_in numbers_in find first_with
 empty_cell = refl
 
 -- version 1 belongs to the cell it is followed in
 pub any_cell : follow_version (one 1029) One 7 [] (9 ∷ []) ≡ walk_left (Ok (record { end = Done; count = 1 })) (0 ∷ [])
-unfolding follow_version follow_round area_id_call node_call over_limit find_in numbers_in number_of find first_with walk_call route nodes_of
+unfolding follow_version follow_round area_id_call node_call over_limit find_in numbers_in number_of find first_with
+    walk_call route nodes_of
 any_cell = refl

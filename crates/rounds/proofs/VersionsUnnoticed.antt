@@ -79,7 +79,8 @@ module _ (m : Memory) (fit : Fit (cell_of m)) (lies : Lies m) where
     area_kept some =
         let f = moved m calls in
         let inside = still_inside 0 some in
-        sym (node_area (cell_of now) (sound_parts (cell_of now) (omega arith) (run_fit m calls fit).is_sound) (f 0) inside)
+        sym (node_area (cell_of now) (sound_parts (cell_of now) (omega arith) (run_fit m calls fit).is_sound) (f 0)
+        inside)
         ∙ ap (λ (s : Seen). s.area) (same_seen 0 some)
         ∙ node_area (cell_of m) (sound_parts (cell_of m) some fit.is_sound) 0 some
 

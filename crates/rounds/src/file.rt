@@ -116,9 +116,7 @@ fn write_after(head: &[u8], start: u16, choices: &[u8], file: &mut [u8]) -> Resu
     ensures { written_left result file.new
         ≡ written head.now start choices.now file.old }
 {
-    let Ok(count) = u16::try_from(choices.len()) else {
-        return Err(Refusal::WrongLength);
-    };
+    let count = u16::try_from(choices.len()).or(Err(Refusal::WrongLength))?;
     let n = head.len();
     let end = n + 4 + choices.len();
     if file.len() < end {

@@ -29,9 +29,7 @@ pub fn follow_round(
         ≡ follow_round (memory ynd nodes.now links.now junctions heights refs) start
         choices.now visited.old }
 {
-    let Some(i) = node(ynd, nodes, start)? else {
-        return Err(Refusal::NoSuchPlace);
-    };
+    let i = node(ynd, nodes, start)?.ok_or(Refusal::NoSuchPlace)?;
     walk(ynd, nodes, links, i, choices, visited)
 }
 

@@ -13,7 +13,8 @@ use Rattle.cells.specs.Words.{to_node}
 use Rattle.rounds.specs.declared.file.Version.TheVariants.{One, Two}
 use Rattle.walks.specs.Walk.{next, walk_in}
 use Rattle.walks.specs.declared.walk.End.TheVariants.{Done}
-use Rattle.sets.specs.CellSet.{ynd_of, words_at, total, parts_of, parts_in, members_of, holds_list, lack_of, set_causes}
+use Rattle.sets.specs.CellSet.{ynd_of, words_at, total, parts_of, parts_in, members_of, holds_list, lack_of}
+use Rattle.sets.specs.CellSet.{set_causes}
 use Rattle.sets.specs.Crossing.{next_in, crossing}
 use Rattle.sets.specs.CrossingCall.{crossing_left}
 use Rattle.sets.specs.CrossMember.{cross_causes, cross_member}
@@ -31,7 +32,8 @@ pub of_area_6 : follow_in_set (two_cells 7) (Two 6) 0 9 (0 ∷ []) lent
     ((1 ∷ 1 ∷ []) ∷ (0 ∷ 1 ∷ []) ∷ (74 ∷ 75 ∷ []) ∷ (76 ∷ 77 ∷ []) ∷ [])
 unfolding follow_in_set first_of_area ask_member ask_causes set_causes lack_of node_call find_in numbers_in
     cross_member cross_causes holds_list total words_at every over_set nodes_together any_over over_limit no_memory
-    members_of map_from parts_in parts_of ynd_of crossing walk_in next_in next find member_for belongs first_with cell_of
+    members_of map_from parts_in parts_of ynd_of crossing walk_in next_in next find member_for belongs first_with
+    cell_of
     nodes_of junctions_of refs_of area_of number_of body_of to_node
 of_area_6 = refl
 
@@ -41,19 +43,22 @@ pub in_the_named : follow_in_set (two_cells 7) One 1 9 (0 ∷ []) lent
     ((1 ∷ 1 ∷ []) ∷ (0 ∷ 1 ∷ []) ∷ (74 ∷ 75 ∷ []) ∷ (76 ∷ 77 ∷ []) ∷ [])
 unfolding follow_in_set ask_member ask_causes set_causes lack_of node_call find_in numbers_in
     cross_member cross_causes holds_list total words_at every over_set nodes_together any_over over_limit no_memory
-    members_of map_from parts_in parts_of ynd_of crossing walk_in next_in next find member_for belongs first_with cell_of
+    members_of map_from parts_in parts_of ynd_of crossing walk_in next_in next find member_for belongs first_with
+    cell_of
     nodes_of junctions_of refs_of area_of number_of body_of to_node
 in_the_named = refl
 
 -- no member has area 7, and no node the number 99: 19 before 13
 pub of_area_7 : follow_in_set (two_cells 7) (Two 7) 0 99 [] lent ≡ crossing_left (Err OtherArea) lent
-unfolding follow_in_set first_of_area over_limit no_memory members_of map_from parts_in parts_of words_at ynd_of first_with
+unfolding follow_in_set first_of_area over_limit no_memory members_of map_from parts_in parts_of words_at ynd_of
+    first_with
     cell_of nodes_of junctions_of refs_of area_of number_of body_of to_node
 of_area_7 = refl
 
 -- area 6 with the island's bit is another area
 pub of_area_1030 : follow_in_set (two_cells 7) (Two 1030) 0 9 [] lent ≡ crossing_left (Err OtherArea) lent
-unfolding follow_in_set first_of_area over_limit no_memory members_of map_from parts_in parts_of words_at ynd_of first_with
+unfolding follow_in_set first_of_area over_limit no_memory members_of map_from parts_in parts_of words_at ynd_of
+    first_with
     cell_of nodes_of junctions_of refs_of area_of number_of body_of to_node
 of_area_1030 = refl
 

@@ -23,7 +23,8 @@ use Rattle.sets.specs.Leave.{first_of_area}
 use Rattle.sets.specs.MemberList.{cells_of, unless}
 use Rattle.sets.specs.MemberLookup.{ask_member, there, start_in_member}
 use Rattle.sets.specs.SetStored.{member_in, ask_causes}
-use Rattle.set_rounds.specs.FollowInSet.{member_or, round_member, from_member, follow_in_set}
+use Rattle.std.specs.Option.{ok_or}
+use Rattle.set_rounds.specs.FollowInSet.{round_member, from_member, follow_in_set}
 
 module _ (y : CellSet) (area member start : ℕ) (choices : List ℕ) (visited : List (List ℕ)) where
   -- 19, and nothing visited, where no member has the round's area
@@ -80,7 +81,8 @@ found_no_19 m k = by_limit (over_limit m.ynd)
     by_room false o = found o
 
     by_limit : (b : Bool) → is_number 19 (there (cond b (Err AtLimit)
-        (cond (ltb (length m.nodes) m.ynd.node_count) (Err (TooShort lent.Nodes)) (Ok (find_in m.ynd.node_count m.nodes k))))) ≡ false
+        (cond (ltb (length m.nodes) m.ynd.node_count) (Err (TooShort lent.Nodes))
+        (Ok (find_in m.ynd.node_count m.nodes k))))) ≡ false
     by_limit true = refl
     by_limit false = by_room (ltb (length m.nodes) m.ynd.node_count) (find_in m.ynd.node_count m.nodes k)
 
@@ -101,7 +103,8 @@ walked_no_19 y choices s visited =
     let causes = cross_causes y s (length (places t)) (length visited) in
     go (decided causes) t (decided_no_19 causes refl)
   where
-    go : (a : Answer) (t : Trail Location) → is_number 19 a ≡ false → is_number 19 (crossed_by a t visited).answer ≡ false
+    go : (a : Answer) (t : Trail Location) → is_number 19 a ≡ false → is_number 19 (crossed_by a t visited).answer
+        ≡ false
     go (Ok x) t e = refl
     go (Err r) t e = e
 
@@ -120,7 +123,8 @@ nineteen_only y v member start choices visited e = by_version v e
     not_19 : {A : Type 0} (r : Result A Refusal) → is_number 19 r ≡ false → r ≡ Err OtherArea → ⊥
     not_19 r f e = true_false (sym (ap (is_number 19) e) ∙ f)
 
-    in_member : (j : ℕ) → (from_member (start_in_member y j start) (λ p. cross_member y choices (location j p) visited) visited).answer
+    in_member : (j : ℕ) → (from_member (start_in_member y j start)
+        (λ p. cross_member y choices (location j p) visited) visited).answer
         ≡ Err OtherArea → ⊥
     in_member j = go (start_in_member y j start) (start_no_19 y j start)
       where
@@ -130,7 +134,7 @@ nineteen_only y v member start choices visited e = by_version v e
         go (Err x) f e = not_19 {A = Walked} (Err x) f e
 
     by_area : (area : ℕ) (o : Found ℕ) → first_of_area y area ≡ o
-        → (from_member (member_or (place_of o))
+        → (from_member (ok_or (place_of o) OtherArea)
         (λ j. from_member (start_in_member y j start) (λ p. cross_member y choices (location j p) visited) visited)
         visited).answer ≡ Err OtherArea → NoMember y (Two area)
     by_area area (some j) h e = absurd (in_member j e)

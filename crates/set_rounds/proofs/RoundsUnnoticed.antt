@@ -1,5 +1,7 @@
--- T-11, T-09: in a sound set a round from a node's number is the crossing walk from where the node stands; after any list
--- of renumberings and write-then-reads on the members, the round from the number that the node has now answers what the
+-- T-11, T-09: in a sound set a round from a node's number is the crossing walk from where the node stands; after
+-- any list
+-- of renumberings and write-then-reads on the members, the round from the number that the node has now answers what
+-- the
 -- round from its first number answered, and shows the same, each location moved.
 -- A file names a number: one that was written before a renumbering starts at whichever node then has its number.
 -- Assumes nothing.
@@ -95,7 +97,8 @@ module _ (y : CellSet) (fine : decided (set_causes y) ≡ Ok tt) (s : set_sound 
       → follow_in_set y One j (number_in y q) choices visited ≡ cross_member y choices q visited
   unfolding follow_in_set
   own_walk choices visited =
-      ap (λ (r : Result ℕ Refusal). from_member r (λ p. cross_member y choices (location j p) visited) visited) start_found
+      ap (λ (r : Result ℕ Refusal). from_member r (λ p. cross_member y choices (location j p) visited) visited)
+      start_found
 
   -- and so is one of version 2, of the area by which the set finds the member
   pub own_area_walk : (area member : ℕ) (choices : List ℕ) (visited : List (List ℕ)) → first_of_area y area ≡ some j
@@ -123,7 +126,8 @@ pub record FollowedInSet (y : CellSet) (calls : List SetCall) (choices : List �
   pub same_shown : SameWalk (moved_on y calls) (crossing (cells_in y) choices q)
       (crossing (cells_in (run_set y calls)) choices (moved_on y calls q))
 
--- for every sound set whose members are cells as read, that may be used, every list of calls, every list of choices and
+-- for every sound set whose members are cells as read, that may be used, every list of calls, every list of choices
+-- and
 -- every node
 pub set_rounds_unnoticed : (y : CellSet) → decided (set_causes y) ≡ Ok tt
     → ((i : ℕ) → i < length y.members → CellAsRead (member_in y i)) → set_sound (cells_in y) ≡ true
@@ -157,5 +161,6 @@ set_rounds_unnoticed y fine read s calls choices q st = record {
     one : (visited : List (List ℕ)) → follow_in_set z One q.member (number_in z (moved_on y calls q)) choices visited
         ≡ cross_member z choices (moved_on y calls q) visited
     one visited =
-        ap (λ (k : ℕ). follow_in_set z One k (number_in z (moved_on y calls q)) choices visited) (sym (c.same_member q))
+        ap (λ (k : ℕ). follow_in_set z One k (number_in z (moved_on y calls q)) choices visited)
+        (sym (c.same_member q))
         ∙ own_walk z fine_now c.still_sound (moved_on y calls q) there_now choices visited

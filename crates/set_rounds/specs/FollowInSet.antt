@@ -1,6 +1,7 @@
 -- T-11, T-09: a round followed in a set of cells. A version 2 round says of which area it is: it starts in the member
 -- of that area, and goes on as a crossing walk does.
-use Rattle.std.specs.Prelude.{ℕ, List, Option, Some, None, Result, Ok, Err}
+use Rattle.std.specs.Prelude.{ℕ, List, Result, Ok, Err}
+use Rattle.std.specs.Option.{ok_or}
 use Rattle.numbers.specs.declared.refusal.Refusal.{Refusal}
 use Rattle.numbers.specs.declared.refusal.Refusal.TheVariants.{OtherArea}
 use Rattle.cells.specs.LookupCall.{place_of}
@@ -13,16 +14,12 @@ use Rattle.sets.specs.CrossingCall.{CrossingLeft, crossing_left}
 use Rattle.sets.specs.Leave.{first_of_area}
 use Rattle.sets.specs.MemberLookup.{start_in_member}
 
-abbrev pub member_or : Option ℕ → Result ℕ Refusal
-member_or (Some j) = Ok j
-member_or None = Err OtherArea
-
 -- T-11: "It refuses with 19, on following a round .., when the area isn't the cell's": in a set, when it is no
 -- member's. An empty member's area is 0; of two members of one area the first joined is meant (T-09). "a version 1
 -- round belongs to the cell it is followed in": to the member that the caller names.
 abbrev pub round_member : CellSet → Version → ℕ → Result ℕ Refusal
 round_member y One j = Ok j
-round_member y (Two area) j = member_or (place_of (first_of_area y area))
+round_member y (Two area) j = ok_or (place_of (first_of_area y area)) OtherArea
 
 -- what follows where there is a member, or a place; else the refusal, and the visited list as it was
 abbrev pub from_member : Result ℕ Refusal → (ℕ → CrossingLeft) → List (List ℕ) → CrossingLeft

@@ -2,7 +2,7 @@
 ghost use Rattle.std.specs.Prelude.{◌≡◌, List, ℕ};
 ghost use Rattle.sets.specs.CellSet.{cell_set};
 ghost use Rattle.sets.specs.CrossingCall.{crossing_left};
-ghost use Rattle.sets.specs.Lent.{Lies};
+ghost use Rattle.sets.specs.Lent.{Unlent};
 ghost use Rattle.set_rounds.specs.FollowInSet.{round_member, follow_in_set};
 
 use cells::link::LinkWords;
@@ -28,10 +28,7 @@ fn round_member(
     let Version::Two(area) = version else {
         return Ok(member);
     };
-    match member_of_area(members, nodes, area) {
-        Some(of_area) => Ok(of_area),
-        None => Err(Refusal::OtherArea),
-    }
+    member_of_area(members, nodes, area).ok_or(Refusal::OtherArea)
 }
 
 // The crossing walk from what `node` finds for the start number in the member that the round belongs to, whatever the
@@ -47,11 +44,9 @@ pub fn follow_round_in_set(
     choices: &[u8],
     visited: &mut [LocationWords],
 ) -> Result<Walked, Refusal>
-    ensures { (junctions refs : List (List ℕ)) (heights : List ℕ)
-        → Lies 17 members.now junctions → Lies 18 members.now heights
-        → Lies 19 members.now refs
+    ensures { (u : Unlent members.now)
         → crossing_left result visited.new
-        ≡ follow_in_set (cell_set members.now nodes.now links.now junctions heights refs) version member start
+        ≡ follow_in_set (cell_set members.now nodes.now links.now u.junctions u.heights u.refs) version member start
         choices.now visited.old }
 {
     let j = round_member(members, nodes, version, member)?;

@@ -1,7 +1,6 @@
 -- Links that name a member, by words, test by test.
-use Rattle.std.proofs.Math.Seq.{take-length}
 use Rattle.std.proofs.Math.Bool.{and-true}
-use Prim.Native.Nat.{ℕ, zero, suc, ◌+◌, ◌-◌, ◌≤◌, ◌<◌, min}
+use Prim.Native.Nat.{ℕ, zero, suc, ◌<◌}
 use native.Mathlib.Omega.{arith}
 use mathlib.Core.Path.{◌≡◌, refl, ap, sym, subst, ◌∙◌}
 use mathlib.Core.Bool.{Bool, true, not, ◌&&◌, ◌||◌}
@@ -21,14 +20,12 @@ use Rattle.cells.specs.LookupCall.{numbers_in}
 use Rattle.cells.specs.NodeWords.{link_start, link_count}
 use Rattle.cells.specs.RenumberParts.{Indexed}
 use Rattle.walks.specs.SoundParts.{Ready}
-use Rattle.walks.proofs.Ranges.{cut_none}
-use Rattle.walks.proofs.ShownLaws.{cut_held}
 use Rattle.sets.specs.Members.{member_for}
 use Rattle.sets.specs.SetRenumber.{is_member}
 use Rattle.sets.specs.Leave.{start_of}
 use Rattle.sets.specs.SetParts.{named_of, count_of}
 use Rattle.sets.specs.SetSoundParts.{all_below, word_meets, words_meet, numbers_of, part_meets}
-use Rattle.std.specs.Prelude.{Some, None}
+use Rattle.std.specs.Prelude.{Some}
 
 -- ---- one link
 
@@ -39,29 +36,21 @@ module _ (all : List ℕ) (k : ℕ) (ks : List ℕ) (i : ℕ) (w : List ℕ) whe
   abbrev there : Bool
   there = is_some (first_with ks (get_or w 1 0))
 
-  pub meets_it : (j : ℕ) → Some j ≡ named_of o → j ≡ k → there ≡ word_meets all k ks i w
+  pub meets_it : Some k ≡ named_of o → there ≡ word_meets all k ks i w
   unfolding word_meets
-  meets_it j e h = go o e
+  meets_it e = go o e
     where
-      go : (r : Option ℕ) → Some j ≡ named_of r → there ≡ (not (is_member k r) || there)
-      go (some q) e = let z : j ≡ q = cc in rw (eq-eqb q k (sym z ∙ h))
+      go : (r : Option ℕ) → Some k ≡ named_of r → there ≡ (not (is_member k r) || there)
+      go (some q) e = let z : k ≡ q = cc in rw (eq-eqb q k (sym z))
       go none e = let z : ◌≡◌ {A = ℕ} 0 1 = cc in absurd (omega arith)
 
-  pub meets_other : (j : ℕ) → Some j ≡ named_of o → (j ≡ k → ⊥) → true ≡ word_meets all k ks i w
+  pub meets_other : (Some k ≡ named_of o → ⊥) → true ≡ word_meets all k ks i w
   unfolding word_meets
-  meets_other j e h = go o e
+  meets_other h = go o h
     where
-      go : (r : Option ℕ) → Some j ≡ named_of r → true ≡ (not (is_member k r) || there)
-      go (some q) e = let z : j ≡ q = cc in rw (ne_eqb q k (λ f. h (z ∙ f)))
-      go none e = refl
-
-  pub meets_nobody : None ≡ named_of o → true ≡ word_meets all k ks i w
-  unfolding word_meets
-  meets_nobody e = go o e
-    where
-      go : (r : Option ℕ) → None ≡ named_of r → true ≡ (not (is_member k r) || there)
-      go (some q) e = let z : ◌≡◌ {A = ℕ} 0 1 = cc in absurd (omega arith)
-      go none e = refl
+      go : (r : Option ℕ) → (Some k ≡ named_of r → ⊥) → true ≡ (not (is_member k r) || there)
+      go (some q) h = rw (ne_eqb q k (λ f. h (ap (λ (j : ℕ). Some j) (sym f))))
+      go none h = refl
 
 -- ---- a node's links
 
@@ -69,24 +58,10 @@ module _ (all : List ℕ) (k : ℕ) (ks : List ℕ) (i : ℕ) (links : List (Lis
   abbrev f : List ℕ → Bool
   f = word_meets all k ks i
 
-  pub no_links : length links ≤ link_start w → true ≡ words_meet all k ks i links w
-  unfolding words_meet every
-  no_links h =
-      sym (ap (λ (l : List (List ℕ)). every f (take (link_count w) (drop (link_start w) l))) (sym (take-length links))
-      ∙ ap (every f) (cut_none (length links) (link_start w) (link_count w) links h))
-
-  pub its_links : (start count : ℕ) → start ≡ link_start w → start < length links
-      → count ≡ min (link_count w) (length links - start)
-      → every f (take (start + count - start) (drop start links)) ≡ words_meet all k ks i links w
+  pub its_links : {own : List (List ℕ)} {start count : ℕ} → own ≡ take count (drop start links) → start ≡ link_start w
+      → count ≡ link_count w → every f own ≡ words_meet all k ks i links w
   unfolding words_meet
-  its_links start count es lt e =
-      let end : min (length links) (length links) ≡ length links = omega arith in
-      let n : start + count - start ≡ count = omega arith in
-      ap (λ (n : ℕ). every f (take n (drop start links))) n
-      ∙ ap (every f) (cut_held links (length links) start (link_count w) count (e
-      ∙ ap (λ (x : ℕ). min (link_count w) (x - start)) (sym end)) (omega arith))
-      ∙ ap (λ (l : List (List ℕ)). every f (take (link_count w) (drop start l))) (take-length links)
-      ∙ ap (λ (s : ℕ). every f (take (link_count w) (drop s links))) es
+  its_links eo es en = rw (eo, es, en)
 
 -- ---- all of the first
 

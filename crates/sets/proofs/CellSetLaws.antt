@@ -13,7 +13,6 @@ use Rattle.cells.specs.CellOf.{nodes_of, cell_of}
 use Rattle.cells.specs.Cell.{Cell, first_of}
 use Rattle.cells.specs.Lookup.{first_with}
 use Rattle.cells.specs.NodeWords.{first_area}
-use Rattle.cells.proofs.Lookups.AreaLaws.{own_first, own_none}
 use Rattle.cells.proofs.Lookups.LookupLaws.{area_held}
 use Rattle.sets.specs.Members.{areas, area_of}
 use Rattle.sets.specs.MemberList.{no_memory, member_at, cells_of}
@@ -31,14 +30,16 @@ pub members_many : (y : CellSet) → length (members_of y) ≡ length y.members
 unfolding members_of
 members_many y = length_from (member_with (parts_in y)) 0 y.members
 
-pub member_at_law : (y : CellSet) (i : ℕ) → i < length y.members → member_at (members_of y) i ≡ member_with (parts_in y) i (get_or y.members i [])
+pub member_at_law : (y : CellSet) (i : ℕ) → i < length y.members → member_at (members_of y) i
+    ≡ member_with (parts_in y) i (get_or y.members i [])
 unfolding members_of
 member_at_law y i lt =
     from_map (member_with (parts_in y)) 0 y.members i [] no_memory lt
     ∙ ap (λ (k : ℕ). member_with (parts_in y) k (get_or y.members i [])) (zero-add i)
 
 -- two lists of members are the same where each member is
-pub members_same : (ms ds : List Memory) → length ms ≡ length ds → ((i : ℕ) → i < length ms → member_at ms i ≡ member_at ds i) → ms ≡ ds
+pub members_same : (ms ds : List Memory) → length ms ≡ length ds
+    → ((i : ℕ) → i < length ms → member_at ms i ≡ member_at ds i) → ms ≡ ds
 members_same ms ds e h = ext_get_or no_memory ms ds e h
 
 -- ---- areas
@@ -47,33 +48,30 @@ pub areas_many : (ws nodes : List (List ℕ)) → length (areas_of ws nodes) ≡
 unfolding areas_of
 areas_many ws nodes = length_from _ 0 ws
 
-pub area_in : (ws nodes : List (List ℕ)) (i : ℕ) → i < length ws → get_or (areas_of ws nodes) i 0 ≡ first_area (take (count_of 10 ws i) (get_or (parts_of (words_at 15 ws) nodes) i []))
+pub area_in : (ws nodes : List (List ℕ)) (i : ℕ) → i < length ws
+    → get_or (areas_of ws nodes) i 0 ≡ first_area (take (count_of 10 ws i)
+    (get_or (parts_of (words_at 15 ws) nodes) i []))
 unfolding areas_of
 area_in ws nodes i lt =
     from_map (λ k w. first_area (take (word 10 w) (get_or (parts_of (words_at 15 ws) nodes) k []))) 0 ws i [] 0 lt
     ∙ ap (λ (k : ℕ). first_area (take (count_of 10 ws i) (get_or (parts_of (words_at 15 ws) nodes) k []))) (zero-add i)
 
 -- what the code looks at: from where the part starts, or the list has ended
-pub area_there : (ws nodes : List (List ℕ)) (i start room n : ℕ) → i < length ws → n ≡ count_of 10 ws i → room ≡ count_of 15 ws i
-    → drop start nodes ≡ drop (start_of 15 ws i) nodes → first_area (take n (take room (drop start nodes))) ≡ get_or (areas_of ws nodes) i 0
+pub area_there : (ws nodes : List (List ℕ)) (i start room n : ℕ) → i < length ws → n ≡ count_of 10 ws i → room
+    ≡ count_of 15 ws i
+    → drop start nodes ≡ drop (start_of 15 ws i) nodes → first_area (take n (take room (drop start nodes)))
+    ≡ get_or (areas_of ws nodes) i 0
 area_there ws nodes i start room n lt en er e =
     (λ k. first_area (take (en k) (take (er k) (e k))))
     ∙ ap (λ (p : List (List ℕ)). first_area (take (count_of 10 ws i) p)) (sym (part_of 15 ws nodes i lt))
     ∙ sym (area_in ws nodes i lt)
 
--- the first node is in every part that is not empty
-pub first_cut : (n room : ℕ) (l : List (List ℕ)) → (room ≡ 0 → ⊥) → first_area (take n (take room l)) ≡ first_area (take n l)
-first_cut zero room l ne = sym (own_none 0 (take room l) refl) ∙ own_none 0 l refl
-first_cut (suc n) zero l ne = absurd (ne refl)
-first_cut (suc n) (suc room) [] ne = refl
-first_cut (suc n) (suc room) (w ∷ ws) ne =
-    own_first (suc n) (w ∷ take room ws) (omega arith) (omega arith) ∙ sym (own_first (suc n) (w ∷ ws) (omega arith) (omega arith))
-
 pub areas_held : (y : CellSet) → areas_of y.members y.nodes ≡ areas (cells_of (members_of y))
 unfolding parts_in ynd_of cell_of
 areas_held y =
     let ws = y.members in
-    let many : length (areas (cells_of (members_of y))) ≡ length ws = length-map (cells_of (members_of y)) area_of ∙ length-map (members_of y) cell_of ∙ members_many y in
+    let many : length (areas (cells_of (members_of y))) ≡ length ws =
+    length-map (cells_of (members_of y)) area_of ∙ length-map (members_of y) cell_of ∙ members_many y in
     ext_get_or 0 (areas_of ws y.nodes) (areas (cells_of (members_of y))) (areas_many ws y.nodes ∙ sym many) (λ i lt.
     let li : i < length ws = omega (arith, areas_many ws y.nodes) in
     area_in ws y.nodes i li
@@ -84,11 +82,13 @@ areas_held y =
 
 -- ---- the first with an area
 
-pub first_found : (xs : List ℕ) (k i : ℕ) → i < length xs → get_or xs i 0 ≡ k → ((j : ℕ) → j < i → get_or xs j 0 ≡ k → ⊥) → first_with xs k ≡ some i
+pub first_found : (xs : List ℕ) (k i : ℕ) → i < length xs → get_or xs i 0 ≡ k
+    → ((j : ℕ) → j < i → get_or xs j 0 ≡ k → ⊥) → first_with xs k ≡ some i
 unfolding first_with
 first_found [] k i lt e h = absurd (omega arith)
 first_found (x ∷ xs) k zero lt e h = rw (eq-eqb x k e)
-first_found (x ∷ xs) k (suc i) lt e h = rw (ne_eqb x k (h 0 (omega arith)), first_found xs k i (omega arith) e (λ j l. h (suc j) (omega arith)))
+first_found (x ∷ xs) k (suc i) lt e h =
+    rw (ne_eqb x k (h 0 (omega arith)), first_found xs k i (omega arith) e (λ j l. h (suc j) (omega arith)))
 
 pub first_none : (xs : List ℕ) (k : ℕ) → ((j : ℕ) → j < length xs → get_or xs j 0 ≡ k → ⊥) → first_with xs k ≡ none
 unfolding first_with

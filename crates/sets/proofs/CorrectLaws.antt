@@ -100,7 +100,8 @@ module _ (x : Change) (ws : List (List ℕ)) where
     P = correct_part x i (count_of 11 ws i) (take (z i) D)
 
     long : length P ≡ z i
-    long = part_long x i (count_of 11 ws i) (take (z i) D) ∙ length-take-le (z i) D (omega (arith, length-drop (s i) l))
+    long = part_long x i (count_of 11 ws i) (take (z i) D)
+        ∙ length-take-le (z i) D (omega (arith, length-drop (s i) l))
 
     front : length (take (s i) l ++ P) ≡ s i + z i
     front = omega (arith, length-append (take (s i) l) P, length-take-le (s i) l (omega arith), long)

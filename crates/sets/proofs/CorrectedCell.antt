@@ -30,7 +30,8 @@ module _ (x : Change) (i : ℕ) where
   unfolding no_node
   node_same ns p = get_or-map (correct_node x i) ns p no_node
 
-  pub link_same : (ns : List Node) (p b : ℕ) → link_at (map (correct_node x i) ns) p b ≡ map_option (correct_link x i) (link_at ns p b)
+  pub link_same : (ns : List Node) (p b : ℕ) → link_at (map (correct_node x i) ns) p b
+      ≡ map_option (correct_link x i) (link_at ns p b)
   link_same ns p b = rw (node_same ns p, map_at)
 
   pub see_same : (c : Cell) (p : ℕ) → see (correct_cell x i c) p ≡ see c p
@@ -51,20 +52,24 @@ module _ (x : Change) (i : ℕ) where
         (λ b. rw (own_stays l.area l.number b))
         (λ f. rw f))
 
-    node_sound_law : (n : Node) → node_sound ns n ≡ true → node_sound (map (correct_node x i) ns) (correct_node x i n) ≡ true
+    node_sound_law : (n : Node) → node_sound ns n ≡ true
+        → node_sound (map (correct_node x i) ns) (correct_node x i n) ≡ true
     node_sound_law n h =
         cc (
           ap (eqb n.area) (first_same ns),
           and_left (eqb n.area (first_of ns)) _ h,
-          every_map (link_named (map (correct_node x i) ns)) (correct_link x i) (link_named ns) (λ l t. named_same l ∙ t) n.links (and_right (eqb n.area (first_of ns)) _ h),
+          every_map (link_named (map (correct_node x i) ns)) (correct_link x i) (link_named ns)
+              (λ l t. named_same l ∙ t) n.links (and_right (eqb n.area (first_of ns)) _ h),
         )
 
     parts : Sound c → Sound (correct_cell x i c)
     parts s = record {
       some_node = rw length-map s.some_node;
-      nodes_sound = every_map (node_sound (map (correct_node x i) ns)) (correct_node x i) (node_sound ns) node_sound_law ns s.nodes_sound;
+      nodes_sound = every_map (node_sound (map (correct_node x i) ns)) (correct_node x i) (node_sound ns)
+          node_sound_law ns s.nodes_sound;
       differ = rw (numbers_same ns) s.differ;
-      refs_named = every_imp (ref_named ns) (ref_named (map (correct_node x i) ns)) (λ r t. rw (first_same ns, numbers_same ns) t) c.refs s.refs_named;
+      refs_named = every_imp (ref_named ns) (ref_named (map (correct_node x i) ns))
+          (λ r t. rw (first_same ns, numbers_same ns) t) c.refs s.refs_named;
     }
 
     pub correct_sound : sound c ≡ true → sound (correct_cell x i c) ≡ true

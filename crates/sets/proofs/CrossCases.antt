@@ -5,29 +5,31 @@ use Rattle.std.proofs.lemmas.Bool.{not-false, or_parts}
 use Prim.Native.Nat.{ℕ, ◌≤◌, ◌<◌}
 use native.Mathlib.Omega.{arith}
 use mathlib.Core.Path.{◌≡◌, refl, ap, sym, ◌∙◌}
-use mathlib.Core.Bool.{true, false, not}
+use mathlib.Core.Bool.{Bool, true, false, cond, not}
 use mathlib.Core.List.{List, [], ◌∷◌, ◌++◌, map}
 use lib.Dec.{ltb, leb}
 use lib.ListN.{length, get_or, drop, length-map, get_or-eq_default}
-use borrow.Author.Tests.{lt-ltb, le-ltb, leb-true, leb-false, ltb-true, ltb-false}
+use borrow.Author.Tests.{leb-false, ltb-true, ltb-false}
 use Rattle.numbers.specs.Refusals.{when, decided, unless}
 use Rattle.numbers.proofs.Refusing.{decided_append, passed}
 use Rattle.cells.specs.Memory.{over_limit}
 use Rattle.cells.specs.Cell.{Cell}
+use Rattle.cells.proofs.Forms.Limits.{within as limits}
 use Rattle.cells.specs.CellOf.{cell_of}
 use Rattle.cells.proofs.Sequences.Tests.{by_test, true_false}
-use Rattle.walks.specs.Walk.{Trail}
+use Rattle.walks.specs.Walk.{Trail, walk_in}
+use Rattle.walks.specs.WalkParts.{traced, over, TrailLeft, trail_left, stored_in}
 use Rattle.walks.specs.Claim.{places}
 use Rattle.sets.specs.Members.{no_cell, cell_at}
-use Rattle.sets.specs.Crossing.{Location, crossing}
+use Rattle.sets.specs.Crossing.{Location, world_in, crossing}
 use Rattle.sets.specs.MemberList.{cells_of, node_count, nodes_together, over_set}
 use Rattle.sets.specs.MemberList.{unless as kept_unless}
-use Rattle.sets.specs.CrossingCall.{location_words, crossing_left, crossed_by}
+use Rattle.sets.specs.CrossingCall.{location_words, CrossingLeft, crossing_left, crossed_by}
 use Rattle.sets.specs.CellSet.{CellSet, ynd_of, members_of, holds_list}
 use Rattle.sets.specs.SetStored.{member_in}
 use Rattle.sets.specs.CrossMember.{cross_causes, cross_member}
 use Rattle.sets.specs.SetParts.{count_of, Holding, bare, areas_of}
-use Rattle.sets.specs.CrossParts.{walked_set, cells_in, trail_in, Walking, crossed_of, visits_over, start_causes}
+use Rattle.sets.specs.CrossParts.{walked_set, cells_in, Lent, start_causes}
 use Rattle.walks.specs.declared.walk.Walked.{Walked}
 use Rattle.sets.proofs.CellSetLaws.{members_many, member_at_law, areas_held}
 use Rattle.sets.proofs.RoomLaws.{any_found, few_members, members_over, holding}
@@ -65,23 +67,41 @@ starts ws nodes links s e =
       member = leb-false _ _ (passed cs 0 (sym e));
       place = leb-false _ _ (passed cs 1 (sym e));
       over = passed cs 2 (sym e);
-      nodes_hold = holding 10 15 ws (length nodes) (not-false (holds_list 10 15 ws (length nodes)) (passed cs 3 (sym e)));
-      links_hold = holding 11 16 ws (length links) (not-false (holds_list 11 16 ws (length links)) (passed cs 4 (sym e)));
+      nodes_hold = holding 10 15 ws (length nodes)
+          (not-false (holds_list 10 15 ws (length nodes)) (passed cs 3 (sym e)));
+      links_hold = holding 11 16 ws (length links)
+          (not-false (holds_list 11 16 ws (length links)) (passed cs 4 (sym e)));
     }
 
-pub walking : (all : List ℕ) (ws nodes links : List (List ℕ)) (s : Location) → Starts ws nodes links s
-    → all ≡ areas_of ws nodes → Walking all ws nodes links s
-walking all ws nodes links s h e = record {
-  lent = record {
-    few = few_members ws h.over;
-    within = each_within ws h.over;
-    nodes_hold = h.nodes_hold;
-    areas_are = e;
-  };
-  links_hold = h.links_hold;
-  member = h.member;
-  place = h.place;
+pub lent_by : (all : List ℕ) (ws nodes links : List (List ℕ)) (s : Location) → Starts ws nodes links s
+    → all ≡ areas_of ws nodes → Lent all ws nodes
+lent_by all ws nodes links s h e = record {
+  few = few_members ws h.over;
+  within = each_within ws h.over;
+  nodes_hold = h.nodes_hold;
+  areas_are = e;
 }
+
+pub start_small : {ws nodes links : List (List ℕ)} {s : Location} → Starts ws nodes links s → s.place < 65536
+unfolding ynd_of
+start_small {ws} {s = s} h =
+    omega (arith, h.place, (limits _ (each_within ws h.over s.member h.member)).0)
+
+-- ---- what is left of a walk whose places go into a list
+
+abbrev left_of : TrailLeft (List ℕ) → CrossingLeft
+left_of x = crossing_left x.answer x.visited
+
+left_is : (t : Trail Location) (visited : List (List ℕ)) → left_of (stored_in location_words t visited)
+    ≡ crossed_by (decided (when (ltb (length visited) (length (places t))) (TooShort lent.List) ∷ [])) t visited
+unfolding stored_in
+left_is t visited = go (ltb (length visited) (length (places t)))
+  where
+    go : (b : Bool) → left_of (cond b (trail_left (Err (TooShort lent.List)) visited)
+        (trail_left (Ok (traced t)) (over (map location_words (places t)) visited)))
+        ≡ crossed_by (decided (when b (TooShort lent.List) ∷ [])) t visited
+    go true = refl
+    go false = rw (length-map (places t) location_words) refl
 
 -- ---- the call
 
@@ -134,7 +154,7 @@ module _ (y : CellSet) (bs : List ℕ) (s : Location) (visited : List (List ℕ)
 
   -- the other three lists don't count
   abbrev seen : Trail Location
-  seen = trail_in ws y.nodes y.links bs s
+  seen = crossing (cells_in ws y.nodes y.links) bs s
 
   module _ (done : (Ok tt) ≡ start) where
     h : Starts ws y.nodes y.links s
@@ -161,32 +181,34 @@ module _ (y : CellSet) (bs : List ℕ) (s : Location) (visited : List (List ℕ)
         ap (λ (c : Cell). c.nodes) (past y refl i le ∙ sym (past (walked_set ws y.nodes y.links) refl i le)))
 
     same_trail : SameRoute trail seen
-    unfolding trail_in cells_in
-    same_trail = same_route (cells_of (members_of y)) (cells_of (members_of (walked_set ws y.nodes y.links))) same_nodes
+    unfolding cells_in
+    same_trail = same_route (cells_of (members_of y)) (cells_of (members_of (walked_set ws y.nodes y.links)))
+        same_nodes
         (sym (areas_held y) ∙ areas_held (walked_set ws y.nodes y.links)) bs s
 
     accepted : cross_member y bs s visited
-        ≡ crossed_by (decided (when (ltb (length visited) (length (places seen))) (TooShort lent.List) ∷ [])) seen visited
+        ≡ crossed_by (decided (when (ltb (length visited) (length (places seen))) (TooShort lent.List) ∷ [])) seen
+        visited
     accepted =
         call_split
         ∙ ap (λ (a : Answer). crossed_by (unless a
-        (decided (when (ltb (length visited) (length (places trail))) (TooShort lent.List) ∷ []))) trail visited) (sym done)
+        (decided (when (ltb (length visited) (length (places trail))) (TooShort lent.List) ∷ []))) trail visited)
+        (sym done)
         ∙ by_route (same_trail.ending) (same_trail.visits)
       where
         by_route : trail.ending ≡ seen.ending → places trail ≡ places seen
-            → crossed_by (decided (when (ltb (length visited) (length (places trail))) (TooShort lent.List) ∷ [])) trail visited
-            ≡ crossed_by (decided (when (ltb (length visited) (length (places seen))) (TooShort lent.List) ∷ [])) seen visited
-        by_route e p = λ i. kept_unless (decided (when (ltb (length visited) (length (p i))) (TooShort lent.List) ∷ []))
+            → crossed_by (decided (when (ltb (length visited) (length (places trail))) (TooShort lent.List) ∷ []))
+            trail visited
+            ≡ crossed_by (decided (when (ltb (length visited) (length (places seen))) (TooShort lent.List) ∷ []))
+            seen visited
+        by_route e p = λ i. kept_unless (decided (when (ltb (length visited) (length (p i))) (TooShort lent.List)
+            ∷ []))
             (λ cause. crossing_left (Err cause) visited)
-            (crossing_left (Ok (record { end = (e i); count = (length (p i)) })) (map location_words (p i) ++ drop (length (p i)) visited))
+            (crossing_left (Ok (record { end = (e i); count = (length (p i)) }))
+            (map location_words (p i) ++ drop (length (p i)) visited))
 
-    pub visited_short : leb (length (places seen)) (length visited) ≡ false → crossing_left (Err (TooShort lent.List)) visited
-        ≡ cross_member y bs s visited
-    visited_short f = sym (accepted ∙ rw (lt-ltb (length visited) (length (places seen)) (leb-false _ _ f)))
-
-    pub walked : (t : Walked) (after : List (List ℕ)) → leb (length (places seen)) (length visited) ≡ true
-        → t ≡ crossed_of seen → after ≡ visits_over seen visited
-        → crossing_left (Ok t) after ≡ cross_member y bs s visited
-    walked t after fits et ea =
-        (λ i. crossing_left (Ok (et i)) (ea i))
-        ∙ sym (accepted ∙ rw (le-ltb (length visited) (length (places seen)) (leb-true _ _ fits)))
+    pub walked : (a : Result Walked Refusal) (after : List (List ℕ))
+        → trail_left a after ≡ stored_in location_words (walk_in (world_in (cells_in ws y.nodes y.links)) bs s) visited
+        → crossing_left a after ≡ cross_member y bs s visited
+    unfolding crossing
+    walked a after e = ap left_of e ∙ left_is seen visited ∙ sym accepted

@@ -53,17 +53,23 @@ lent = (70 ∷ 71 ∷ []) ∷ (72 ∷ 73 ∷ []) ∷ (74 ∷ 75 ∷ []) ∷ (76 
 
 -- from node 7 into area 6, back to node 3, and out: four choices, of which the last is not used
 pub crosses : cross_member (two_cells 7) (0 ∷ 0 ∷ 0 ∷ 0 ∷ []) (location 0 0) lent
-    ≡ crossing_left (Ok (record { end = (Left 8 1); count = 3 })) ((0 ∷ 0 ∷ []) ∷ (1 ∷ 1 ∷ []) ∷ (0 ∷ 1 ∷ []) ∷ (76 ∷ 77 ∷ []) ∷ [])
-unfolding cross_member cross_causes holds_list total words_at every over_set nodes_together any_over over_limit no_memory
-    members_of map_from parts_in parts_of ynd_of crossing walk_in next_in next find member_for belongs first_with cell_of
+    ≡ crossing_left (Ok (record { end = (Left 8 1); count = 3 }))
+    ((0 ∷ 0 ∷ []) ∷ (1 ∷ 1 ∷ []) ∷ (0 ∷ 1 ∷ []) ∷ (76 ∷ 77 ∷ []) ∷ [])
+unfolding cross_member cross_causes holds_list total words_at every over_set nodes_together any_over over_limit
+    no_memory
+    members_of map_from parts_in parts_of ynd_of crossing walk_in next_in next find member_for belongs first_with
+    cell_of
     nodes_of junctions_of refs_of area_of number_of body_of to_node
 crosses = refl
 
 -- a link to a number that area 5 lacks
 pub no_node_there : cross_member (two_cells 8) (0 ∷ []) (location 1 0) lent
-    ≡ crossing_left (Ok (record { end = NoNode; count = 1 })) ((1 ∷ 0 ∷ []) ∷ (72 ∷ 73 ∷ []) ∷ (74 ∷ 75 ∷ []) ∷ (76 ∷ 77 ∷ []) ∷ [])
-unfolding cross_member cross_causes holds_list total words_at every over_set nodes_together any_over over_limit no_memory
-    members_of map_from parts_in parts_of ynd_of crossing walk_in next_in next find member_for belongs first_with cell_of
+    ≡ crossing_left (Ok (record { end = NoNode; count = 1 }))
+    ((1 ∷ 0 ∷ []) ∷ (72 ∷ 73 ∷ []) ∷ (74 ∷ 75 ∷ []) ∷ (76 ∷ 77 ∷ []) ∷ [])
+unfolding cross_member cross_causes holds_list total words_at every over_set nodes_together any_over over_limit
+    no_memory
+    members_of map_from parts_in parts_of ynd_of crossing walk_in next_in next find member_for belongs first_with
+    cell_of
     nodes_of junctions_of refs_of area_of number_of body_of to_node
 no_node_there = refl
 
@@ -78,21 +84,25 @@ no_place = refl
 
 pub visited_short : cross_member (two_cells 7) (0 ∷ 0 ∷ 0 ∷ []) (location 0 0) ((70 ∷ 71 ∷ []) ∷ (72 ∷ 73 ∷ []) ∷ [])
     ≡ crossing_left (Err (TooShort lacking.List)) ((70 ∷ 71 ∷ []) ∷ (72 ∷ 73 ∷ []) ∷ [])
-unfolding cross_member cross_causes holds_list total words_at every over_set nodes_together any_over over_limit no_memory
-    members_of map_from parts_in parts_of ynd_of crossing walk_in next_in next find member_for belongs first_with cell_of
+unfolding cross_member cross_causes holds_list total words_at every over_set nodes_together any_over over_limit
+    no_memory
+    members_of map_from parts_in parts_of ynd_of crossing walk_in next_in next find member_for belongs first_with
+    cell_of
     nodes_of junctions_of refs_of area_of number_of body_of to_node
 visited_short = refl
 
 -- made by hand: a part of one entry for two nodes, and parts of more links than the list has
 pub part_short : cross_member (walked (entry 1 2 ∷ []) (node 5 7 0 ∷ node 5 3 1 ∷ []) (link 6 9 ∷ link 8 1 ∷ [])) []
     (location 0 0) lent ≡ crossing_left (Err (TooShort lacking.Nodes)) lent
-unfolding cross_member cross_causes holds_list total words_at every over_set nodes_together any_over over_limit no_memory
+unfolding cross_member cross_causes holds_list total words_at every over_set nodes_together any_over over_limit
+    no_memory
     members_of map_from parts_in parts_of ynd_of
 part_short = refl
 
 pub list_short : cross_member (walked (entry 2 3 ∷ []) (node 5 7 0 ∷ node 5 3 1 ∷ []) (link 6 9 ∷ link 8 1 ∷ [])) []
     (location 0 0) lent ≡ crossing_left (Err (TooShort lacking.Links)) lent
-unfolding cross_member cross_causes holds_list total words_at every over_set nodes_together any_over over_limit no_memory
+unfolding cross_member cross_causes holds_list total words_at every over_set nodes_together any_over over_limit
+    no_memory
     members_of map_from parts_in parts_of ynd_of
 list_short = refl
 
@@ -107,8 +117,10 @@ twice = walked (entry 2 2 ∷ entry 2 2 ∷ entry 2 2 ∷ [])
 -- a link of area 6 means the first joined
 pub first_joined : cross_member twice (0 ∷ []) (location 2 0) ((70 ∷ 71 ∷ []) ∷ (72 ∷ 73 ∷ []) ∷ [])
     ≡ crossing_left (Ok (record { end = Done; count = 2 })) ((2 ∷ 0 ∷ []) ∷ (0 ∷ 0 ∷ []) ∷ [])
-unfolding cross_member cross_causes holds_list total words_at every over_set nodes_together any_over over_limit no_memory
-    members_of map_from parts_in parts_of ynd_of crossing walk_in next_in next find member_for belongs first_with cell_of
+unfolding cross_member cross_causes holds_list total words_at every over_set nodes_together any_over over_limit
+    no_memory
+    members_of map_from parts_in parts_of ynd_of crossing walk_in next_in next find member_for belongs first_with
+    cell_of
     nodes_of junctions_of refs_of area_of number_of body_of to_node
 first_joined = refl
 
@@ -116,8 +128,10 @@ first_joined = refl
 -- node
 pub own_stays : cross_member twice (0 ∷ []) (location 1 1) ((70 ∷ 71 ∷ []) ∷ (72 ∷ 73 ∷ []) ∷ [])
     ≡ crossing_left (Ok (record { end = Done; count = 2 })) ((1 ∷ 1 ∷ []) ∷ (1 ∷ 1 ∷ []) ∷ [])
-unfolding cross_member cross_causes holds_list total words_at every over_set nodes_together any_over over_limit no_memory
-    members_of map_from parts_in parts_of ynd_of crossing walk_in next_in next find member_for belongs first_with cell_of
+unfolding cross_member cross_causes holds_list total words_at every over_set nodes_together any_over over_limit
+    no_memory
+    members_of map_from parts_in parts_of ynd_of crossing walk_in next_in next find member_for belongs first_with
+    cell_of
     nodes_of junctions_of refs_of area_of number_of body_of to_node
 own_stays = refl
 
@@ -127,39 +141,51 @@ abbrev scratch : List ℕ
 scratch = replicate 65536 50
 
 pub is_sound : (set_sound_call (two_cells 7) scratch).answer ≡ (Ok true)
-unfolding set_sound_call sound_causes holds_list total words_at every over_set nodes_together any_over over_limit members_of
-    map_from parts_in parts_of ynd_of set_sound sound every_from member_for belongs first_with cell_of nodes_of junctions_of
+unfolding set_sound_call sound_causes holds_list total words_at every over_set nodes_together any_over over_limit
+    members_of
+    map_from parts_in parts_of ynd_of set_sound sound every_from member_for belongs first_with cell_of nodes_of
+    junctions_of
     refs_of area_of number_of body_of to_node differing
 is_sound = refl
 
 -- the scratch leads to node 9, the second of area 6; an entry of no number stays
 pub scratch_nine : get_or (set_sound_call (two_cells 7) scratch).scratch 9 0 ≡ 1
-unfolding set_sound_call sound_causes holds_list total words_at every over_set nodes_together any_over over_limit members_of
-    map_from parts_in parts_of ynd_of indexed_set indexed cell_of nodes_of junctions_of refs_of area_of number_of body_of
+unfolding set_sound_call sound_causes holds_list total words_at every over_set nodes_together any_over over_limit
+    members_of
+    map_from parts_in parts_of ynd_of indexed_set indexed cell_of nodes_of junctions_of refs_of area_of number_of
+    body_of
     to_node
 scratch_nine = refl
 
 pub scratch_ten : get_or (set_sound_call (two_cells 7) scratch).scratch 10 0 ≡ 50
-unfolding set_sound_call sound_causes holds_list total words_at every over_set nodes_together any_over over_limit members_of
-    map_from parts_in parts_of ynd_of indexed_set indexed cell_of nodes_of junctions_of refs_of area_of number_of body_of
+unfolding set_sound_call sound_causes holds_list total words_at every over_set nodes_together any_over over_limit
+    members_of
+    map_from parts_in parts_of ynd_of indexed_set indexed cell_of nodes_of junctions_of refs_of area_of number_of
+    body_of
     to_node
 scratch_ten = refl
 
 -- a link into area 5 to the number 8, which no node of it has: each member is sound, the set is not
 pub lost_link : (set_sound_call (two_cells 8) scratch).answer ≡ (Ok false)
-unfolding set_sound_call sound_causes holds_list total words_at every over_set nodes_together any_over over_limit members_of
-    map_from parts_in parts_of ynd_of set_sound sound every_from member_for belongs first_with cell_of nodes_of junctions_of
+unfolding set_sound_call sound_causes holds_list total words_at every over_set nodes_together any_over over_limit
+    members_of
+    map_from parts_in parts_of ynd_of set_sound sound every_from member_for belongs first_with cell_of nodes_of
+    junctions_of
     refs_of area_of number_of body_of to_node differing
 lost_link = refl
 
 -- a link into area 5, of which the first joined lacks the number 4 and the second has it
 pub first_lacks : (set_sound_call twice scratch).answer ≡ (Ok false)
-unfolding set_sound_call sound_causes holds_list total words_at every over_set nodes_together any_over over_limit members_of
-    map_from parts_in parts_of ynd_of set_sound sound every_from member_for belongs first_with cell_of nodes_of junctions_of
+unfolding set_sound_call sound_causes holds_list total words_at every over_set nodes_together any_over over_limit
+    members_of
+    map_from parts_in parts_of ynd_of set_sound sound every_from member_for belongs first_with cell_of nodes_of
+    junctions_of
     refs_of area_of number_of body_of to_node differing
 first_lacks = refl
 
-pub scratch_short : set_sound_call (two_cells 7) (50 ∷ []) ≡ record { answer = Err (TooShort lacking.Scratch); scratch = 50 ∷ [] }
-unfolding set_sound_call sound_causes holds_list total words_at every over_set nodes_together any_over over_limit members_of
+pub scratch_short : set_sound_call (two_cells 7) (50 ∷ [])
+    ≡ record { answer = Err (TooShort lacking.Scratch); scratch = 50 ∷ [] }
+unfolding set_sound_call sound_causes holds_list total words_at every over_set nodes_together any_over over_limit
+    members_of
     map_from parts_in parts_of ynd_of
 scratch_short = refl

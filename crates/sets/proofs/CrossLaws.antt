@@ -1,33 +1,38 @@
 -- One step of a crossing walk, by the words in memory.
-use Prim.Native.Nat.{ℕ, ◌+◌, ◌-◌, ◌≤◌, ◌<◌}
+use Prim.Native.Nat.{ℕ, ◌-◌, ◌≤◌, ◌<◌}
 use native.Mathlib.Omega.{arith}
 use mathlib.Core.Path.{◌≡◌, refl, ap, sym, ◌∙◌}
 use mathlib.Core.List.{List, []}
 use mathlib.Core.Option.{Option, none, some}
-use lib.ListN.{length, get_or, take, drop, length-drop}
-use lib.Seq.{get_or-take}
+use lib.ListN.{length, get_or, take, drop, length-drop, length-map}
 use borrow.Author.Tests.{le-ltb}
-use Rattle.cells.specs.Cell.{Link, Node, Cell, numbers}
-use Rattle.cells.specs.CellOf.{link_of, nodes_of}
+use Rattle.cells.specs.Cell.{Link, Node, Cell, no_node, numbers}
+use Rattle.cells.specs.CellOf.{link_of, nodes_of, cell_of}
+use Rattle.cells.proofs.Forms.Limits.{within as limits}
+use Rattle.std.proofs.lemmas.List.{get_or_past}
+use Rattle.std.specs.declared.option.Option as std
 use Rattle.cells.specs.Memory.{Memory}
-use Rattle.cells.specs.NodeWords.{link_start, link_count}
 use Rattle.cells.specs.Lookup.{find}
-use Rattle.cells.specs.LookupCall.{Place, place_of, find_in, node_call}
+use Rattle.cells.specs.LookupCall.{Place, numbers_in, place_of, find_in, node_call}
 use Rattle.cells.specs.declared.ynd.Ynd.{Ynd}
 use Rattle.walks.specs.Walk.{link_at}
 use Rattle.walks.specs.declared.walk.End.{End}
-use Rattle.sets.specs.declared.cross.Location.{Location as Here}
 use Rattle.sets.specs.declared.world.World.{World}
 use Rattle.walks.specs.declared.walk.End.TheVariants.{NoLink, NoNode}
-use Rattle.walks.proofs.StepLaws.{link_past, link_out, link_in}
-use Rattle.sets.specs.Members.{cell_at, areas, member_for}
-use Rattle.sets.specs.Crossing.{location, arrive_in, enter, next_in}
-use Rattle.sets.specs.CellSet.{ynd_of}
+use Rattle.walks.specs.Parts.{chosen}
+use Rattle.walks.specs.WalkParts.{step_of}
+use Rattle.walks.proofs.ScratchLaws.{numbers_long}
+use Rattle.walks.proofs.StepLaws.{find_inside, linked, link_found}
+use Rattle.walks.proofs.WalksAlike.{nodes_long}
+use Rattle.numbers.specs.declared.refusal.Refusal.{Refusal}
+use Rattle.sets.specs.Members.{no_cell, cell_at, areas, member_for}
+use Rattle.sets.specs.Crossing.{Location, location, arrive_in, enter, next_in}
+use Rattle.sets.specs.CellSet.{ynd_of, members_of}
 use Rattle.sets.specs.Leave.{start_of}
 use Rattle.sets.specs.SetParts.{named_of, count_of}
-use Rattle.sets.specs.CrossParts.{walked_set, cells_in, cross_of, Lent}
+use Rattle.sets.specs.CrossParts.{walked_set, cells_in, Lent}
 use Rattle.sets.proofs.PartLaws.{rest, part_inside}
-use Rattle.sets.proofs.CellSetLaws.{areas_many, areas_held}
+use Rattle.sets.proofs.CellSetLaws.{members_many, areas_many, areas_held}
 use Rattle.sets.proofs.MemberLaws.{take_in, next_is, member_inside}
 use Rattle.sets.proofs.MemberCells.{from_start, numbers_at, nodes_at}
 use Rattle.std.specs.Prelude.{Result, Ok, Err, Some, None}
@@ -35,38 +40,76 @@ use Rattle.std.specs.Prelude.{Result, Ok, Err, Some, None}
 -- ---- what `node` finds in a member
 
 -- what the code makes of it
-abbrev arrived : ℕ → Place → Result Here End
-arrived k (Ok (Some q)) = Ok (record { member = k; place = q })
+abbrev arrived : ℕ → Place → Result Location End
+arrived k (Ok (Some q)) = Ok (location k q)
 arrived k (Ok None) = Err NoNode
 arrived k (Err a) = Err NoNode
 
 -- its nodes lent from where the part starts
-pub arrives : (x : World) (number : ℕ) {k start : ℕ} {v : Ynd} {o : Place} → k < length x.members.now
-    → start ≡ start_of 15 x.members.now k → v ≡ ynd_of (get_or x.members.now k [])
-    → o ≡ node_call v (take (length x.nodes.now - start) (drop start x.nodes.now)) number
-    → arrived k o
-    ≡ cross_of (arrive_in k (find (numbers (cell_at (cells_in x.members.now x.nodes.now x.links.now) k).nodes) number))
-unfolding node_call find_in ynd_of cells_in
-arrives x number {k} {start} {v} {o} lt es ev e =
-    let ws = x.members.now in
-    let nodes = x.nodes.now in
-    let h = x.lent.nodes_hold in
-    let a = start_of 15 ws k in
-    let found = find (numbers (cell_at (cells_in ws nodes x.links.now) k).nodes) number in
-    let held : count_of 10 ws k ≤ length (drop a nodes) =
-    omega (arith, length-drop a nodes, part_inside h k lt, h.held k lt) in
-    let told : o ≡ Ok (place_of found) =
-    e
-    ∙ ap (λ (l : List (List ℕ)). node_call v l number) (rest nodes start)
-    ∙ (λ i. node_call (ev i) (drop (es i) nodes) number)
-    ∙ rw (x.lent.within k lt, le-ltb (length (drop a nodes)) (count_of 10 ws k) held)
-    (ap (λ (ns : List ℕ). Ok (place_of (find ns number)))
-    (sym (numbers_at (walked_set ws nodes x.links.now) k lt (h.held k lt)))) in
-    ap (arrived k) told ∙ on found
-  where
-    on : (f : Option ℕ) → arrived k (Ok (place_of f)) ≡ cross_of (arrive_in k f)
-    on (some p) = refl
-    on none = refl
+module _ (x : World) (number : ℕ) {k start : ℕ} {v : Ynd} {o : Place} (lt : k < length x.members.now)
+    (es : start ≡ start_of 15 x.members.now k) (ev : v ≡ ynd_of (get_or x.members.now k []))
+    (e : o ≡ node_call v (take (length x.nodes.now - start) (drop start x.nodes.now)) number) where
+  abbrev ws : List (List ℕ)
+  ws = x.members.now
+
+  abbrev part : List (List ℕ)
+  part = drop (start_of 15 ws k) x.nodes.now
+
+  abbrev ks : List ℕ
+  ks = numbers (cell_at (cells_in ws x.nodes.now x.links.now) k).nodes
+
+  part_held : count_of 10 ws k ≤ length part
+  part_held =
+      let h = x.lent.nodes_hold in
+      omega (arith, length-drop (start_of 15 ws k) x.nodes.now, part_inside h k lt, h.held k lt)
+
+  numbers_here : ks ≡ numbers_in (count_of 10 ws k) part
+  unfolding cells_in
+  numbers_here = numbers_at (walked_set ws x.nodes.now x.links.now) k lt (x.lent.nodes_hold.held k lt)
+
+  told : o ≡ Ok (place_of (find ks number))
+  unfolding node_call find_in ynd_of
+  told =
+      e
+      ∙ ap (λ (l : List (List ℕ)). node_call v l number) (rest x.nodes.now start)
+      ∙ (λ i. node_call (ev i) (drop (es i) x.nodes.now) number)
+      ∙ rw (x.lent.within k lt, le-ltb (length part) (count_of 10 ws k) part_held)
+      (ap (λ (ns : List ℕ). Ok (place_of (find ns number))) (sym numbers_here))
+
+  arrives : arrived k o ≡ step_of (arrive_in k (find ks number))
+  arrives = ap (arrived k) told ∙ on (find ks number)
+    where
+      on : (f : Option ℕ) → arrived k (Ok (place_of f)) ≡ step_of (arrive_in k f)
+      on (some p) = refl
+      on none = refl
+
+  pub there : (q : ℕ) → o ≡ Ok (Some q) → Ok (location k q) ≡ step_of (arrive_in k (find ks number))
+  there q is = ap (arrived k) (sym is) ∙ arrives
+
+  pub not_there : o ≡ Ok None → Err NoNode ≡ step_of (arrive_in k (find ks number))
+  not_there is = ap (arrived k) (sym is) ∙ arrives
+
+  pub not_asked : (x : Refusal) → o ≡ Err x → Err NoNode ≡ step_of (arrive_in k (find ks number))
+  not_asked x is = ap (arrived k) (sym is) ∙ arrives
+
+  -- a place is a small number
+  pub place_small : (q : ℕ) → o ≡ Ok (Some q) → q < 65536
+  unfolding ynd_of
+  place_small q is = go (find ks number) (find_inside ks number) (sym is ∙ told)
+    where
+      go : (f : Option ℕ) → ((j : ℕ) → f ≡ some j → j < length ks) → ◌≡◌ {A = Place} (Ok (Some q)) (Ok (place_of f))
+          → q < 65536
+      go (some j) h f =
+          let z : q ≡ j = cc in
+          omega (
+            arith,
+            z,
+            h j refl,
+            ap length numbers_here,
+            numbers_long (count_of 10 ws k) part part_held,
+            (limits _ (x.lent.within k lt)).0,
+          )
+      go none h f = absurd (cc)
 
 -- ---- by a link
 
@@ -85,91 +128,85 @@ lent_many all ws nodes h = ap length h.areas_are ∙ areas_many ws nodes
 
 -- ---- the step
 
--- from the place p of the member i, whose own nodes these are
-module _ (x : World) (i : ℕ) (lt : i < length x.members.now) (p b : ℕ) (lp : p < count_of 10 x.members.now i)
-    {own : List (List ℕ)} (eo : own ≡ take (count_of 10 x.members.now i) (drop (start_of 15 x.members.now i) x.nodes.now))
-  where
-    abbrev ws : List (List ℕ)
-    ws = x.members.now
+module _ (x : World) (t : Location) (b : ℕ) where
+  abbrev all : List (List ℕ)
+  all = x.members.now
 
-    abbrev cs : List Cell
-    cs = cells_in ws x.nodes.now x.links.now
+  abbrev cs : List Cell
+  cs = cells_in all x.nodes.now x.links.now
 
+  step_by : (l : Option Link) → link_at (cell_at cs t.member).nodes t.place b ≡ l
+      → step_of (next_in cs t b) ≡ step_of (take_in cs t.member l)
+  step_by l e = ap step_of (next_is cs t b ∙ ap (take_in cs t.member) e)
+
+  -- no such member has no nodes
+  pub no_member : length all ≤ t.member → Err NoLink ≡ step_of (next_in cs t b)
+  unfolding cells_in no_node
+  no_member le =
+      let y = walked_set all x.nodes.now x.links.now in
+      let none_there : cell_at cs t.member ≡ no_cell = get_or_past cs t.member no_cell
+      (omega (arith, length-map (members_of y) cell_of, members_many y, le)) in
+      sym (step_by none (ap (λ (c : Cell). link_at c.nodes t.place b) none_there))
+
+  module _ (lt : t.member < length all) where
     abbrev here : Memory
-    here = from_start (walked_set ws x.nodes.now x.links.now) i lt
+    here = from_start (walked_set all x.nodes.now x.links.now) t.member lt
 
-    abbrev w : List ℕ
-    w = get_or own p []
-
-    nodes_here : (cell_at cs i).nodes ≡ nodes_of here
+    nodes_here : (cell_at cs t.member).nodes ≡ nodes_of here
     unfolding cells_in
-    nodes_here =
-        nodes_at (walked_set ws x.nodes.now x.links.now) i lt (x.lent.nodes_hold.held i lt) (x.links_hold.held i lt)
+    nodes_here = nodes_at (walked_set all x.nodes.now x.links.now) t.member lt (x.lent.nodes_hold.held t.member lt)
+        (x.links_hold.held t.member lt)
 
     areas_here : x.areas.now ≡ areas cs
     unfolding cells_in
-    areas_here = x.lent.areas_are ∙ areas_held (walked_set ws x.nodes.now x.links.now)
+    areas_here = x.lent.areas_are ∙ areas_held (walked_set all x.nodes.now x.links.now)
 
-    held_nodes : here.ynd.node_count ≤ length here.nodes
-    unfolding ynd_of
-    held_nodes =
-        let h = x.lent.nodes_hold in
-        omega (arith, length-drop (start_of 15 ws i) x.nodes.now, part_inside h i lt, h.held i lt)
-
-    held_links : here.ynd.link_count ≤ length here.links
-    unfolding ynd_of
-    held_links =
-        let h = x.links_hold in
-        omega (arith, length-drop (start_of 16 ws i) x.links.now, part_inside h i lt, h.held i lt)
-
-    inside : p < here.ynd.node_count
-    unfolding ynd_of
-    inside = lp
-
-    -- the words of the node at the place p
-    words_here : w ≡ get_or here.nodes p []
-    words_here =
-        ap (λ (l : List (List ℕ)). get_or l p []) eo
-        ∙ get_or-take (count_of 10 ws i) (drop (start_of 15 ws i) x.nodes.now) p [] lp
-
-    step_by : (l : Option Link) → link_at (nodes_of here) p b ≡ l → cross_of (next_in cs (location i p) b)
-        ≡ cross_of (take_in cs i l)
-    step_by l e = ap cross_of (next_is cs (location i p) b
-        ∙ ap (λ (ns : List Node). take_in cs i (link_at ns p b)) nodes_here ∙ ap (take_in cs i) e)
-
-    pub past_links : link_count w ≤ b → Err NoLink ≡ cross_of (next_in cs (location i p) b)
-    past_links le = sym (step_by none (link_past here held_nodes p b inside (rw words_here at le)))
-
-    module _ (some-links : b < link_count w) {start : ℕ} (es : start ≡ link_start w) where
-      pub out_of_links : count_of 11 ws i ≤ start + b → Err NoLink ≡ cross_of (next_in cs (location i p) b)
+    -- the member's own nodes and links, and what the choice finds there
+    module _ {own : List (List ℕ)} (eo : own ≡ take (count_of 10 all t.member)
+        (drop (start_of 15 all t.member) x.nodes.now))
+        {links : List (List ℕ)} (el : links ≡ take (count_of 11 all t.member)
+        (drop (start_of 16 all t.member) x.links.now))
+        {o : std.Option (List ℕ)} (is : o ≡ chosen links (get_or own t.place []) b) where
+      link_is : link_at (cell_at cs t.member).nodes t.place b ≡ linked o
       unfolding ynd_of
-      out_of_links le =
-          let far : count_of 11 ws i ≤ link_start w + b = omega arith in
-          sym (step_by none
-          (link_out here held_nodes held_links p b inside (rw words_here at some-links) (rw words_here at far)))
+      link_is =
+          ap (λ (ns : List Node). link_at ns t.place b) nodes_here
+          ∙ link_found here t.place b
+          ∙ ap linked (sym (is ∙ (λ i. chosen (el i) (get_or (eo i) t.place []) b)))
+
+      pub no_link : o ≡ None → Err NoLink ≡ step_of (next_in cs t b)
+      no_link e = sym (step_by none (link_is ∙ ap linked e))
 
       -- a link that is there: on by what it names
-      pub by_link : {links : List (List ℕ)}
-          → links ≡ take (count_of 11 ws i) (drop (start_of 16 ws i) x.links.now) → start + b < count_of 11 ws i
-          → {r : Result Here End}
-          → r ≡ cross_of (enter cs (get_or (get_or links (start + b) []) 0 0) (get_or (get_or links (start + b) []) 1 0)
-          (member_for x.areas.now i (get_or (get_or links (start + b) []) 0 0)))
-          → r ≡ cross_of (next_in cs (location i p) b)
-      unfolding ynd_of
-      by_link {links} el la er =
-          let l = get_or links (start + b) [] in
-          let far : link_start w + b < count_of 11 ws i = omega arith in
-          let e : l ≡ get_or here.links (link_start (get_or here.nodes p []) + b) [] = rw (← words_here, ← es) (
-          ap (λ (ls : List (List ℕ)). get_or ls (start + b) []) el
-          ∙ get_or-take (count_of 11 ws i) (drop (start_of 16 ws i) x.links.now) (start + b) [] la) in
-          er
-          ∙ ap (λ (all : List ℕ). cross_of (enter cs (get_or l 0 0) (get_or l 1 0) (member_for all i (get_or l 0 0))))
+      pub by_link : (w : List ℕ) → o ≡ Some w → (r : Result Location End)
+          → r ≡ step_of (enter cs (get_or w 0 0) (get_or w 1 0) (member_for x.areas.now t.member (get_or w 0 0)))
+          → r ≡ step_of (next_in cs t b)
+      by_link w e r h =
+          h
+          ∙ ap (λ (areas : List ℕ). step_of (enter cs (get_or w 0 0) (get_or w 1 0)
+          (member_for areas t.member (get_or w 0 0))))
           areas_here
-          ∙ ap (λ (v : List ℕ). cross_of (take_in cs i (some (link_of v)))) e
-          ∙ sym (step_by (some (link_of (get_or here.links (link_start (get_or here.nodes p []) + b) [])))
-          (link_in here held_nodes held_links p b inside (rw words_here at some-links) (rw words_here at far)))
+          ∙ sym (step_by (some (link_of w)) (link_is ∙ ap linked e))
 
 -- for the check
+pub ruleset arrive_laws = (there, not_there, not_asked)
+
 pub ruleset named_laws = (lent_many, named_there)
 
-pub ruleset step_laws = (past_links, out_of_links, by_link)
+pub ruleset step_laws = (no_member, no_link, by_link)
+
+-- ---- a member has as many nodes as its entry says
+pub nodes_count : (x : World) (i : ℕ) → i < length x.members.now
+    → length (cell_at (cells_in x.members.now x.nodes.now x.links.now) i).nodes ≡ count_of 10 x.members.now i
+unfolding cells_in cell_of ynd_of
+nodes_count x i lt =
+    let y = walked_set x.members.now x.nodes.now x.links.now in
+    let ws = x.members.now in
+    let hn = x.lent.nodes_hold in
+    let hl = x.links_hold in
+    ap length (nodes_at y i lt (hn.held i lt) (hl.held i lt))
+    ∙ nodes_long (from_start y i lt) (record {
+      within = x.lent.within i lt;
+      nodes_lie = omega (arith, length-drop (start_of 15 ws i) x.nodes.now, part_inside hn i lt, hn.held i lt);
+      links_lie = omega (arith, length-drop (start_of 16 ws i) x.links.now, part_inside hl i lt, hl.held i lt);
+    })

@@ -161,8 +161,10 @@ module _ (m : Memory) where
 
     in_order : {A : Type 0} (a o b c d : Bool) (refusal : Refusal → A) (x : A)
         → cond a (refusal NoSuchPlace) (cond o (refusal AtLimit)
-        (cond b (refusal (TooShort lent.Nodes)) (cond c (refusal (TooShort lent.Links)) (cond d (refusal (TooShort lent.List)) x))))
-        ≡ unless (decided (when a NoSuchPlace ∷ when o AtLimit ∷ when b (TooShort lent.Nodes) ∷ when c (TooShort lent.Links) ∷ when d (TooShort lent.List) ∷ [])) refusal x
+        (cond b (refusal (TooShort lent.Nodes))
+        (cond c (refusal (TooShort lent.Links)) (cond d (refusal (TooShort lent.List)) x))))
+        ≡ unless (decided (when a NoSuchPlace ∷ when o AtLimit ∷ when b (TooShort lent.Nodes)
+        ∷ when c (TooShort lent.Links) ∷ when d (TooShort lent.List) ∷ [])) refusal x
     in_order true o b c d f x = refl
     in_order false true b c d f x = refl
     in_order false false true c d f x = refl

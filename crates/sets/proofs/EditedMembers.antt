@@ -44,7 +44,8 @@ module _ (causes : List Cause) (y : CellSet) (j : ℕ) (edit : Memory → Left) 
 
   -- an accepted one stores what the cell's own edit left
   pub edit_done : (edit_by causes y j edit).answer ≡ (Ok tt)
-      → (decided causes ≡ (Ok tt)) × (m⁺.answer ≡ (Ok tt)) × ((edit_by causes y j edit).lists ≡ with_member y j m⁺.memory)
+      → (decided causes ≡ (Ok tt)) × (m⁺.answer ≡ (Ok tt))
+      × ((edit_by causes y j edit).lists ≡ with_member y j m⁺.memory)
   unfolding edit_by
   edit_done e = go (decided causes) e
     where

@@ -100,7 +100,8 @@ put_junction_kept p j m x e =
 pub put_height_kept : (p k v : ℕ) → Kept (λ m. heights_left m (put_height m.ynd m.junctions m.heights p k v))
 unfolding put_height
 put_height_kept p k v m x e =
-    ap (λ (l : List ℕ). (heights_left m (record { answer = (Ok tt); list = l })).memory) (stored_kept _ _ _ m.heights x e)
+    ap (λ (l : List ℕ). (heights_left m (record { answer = (Ok tt); list = l })).memory)
+    (stored_kept _ _ _ m.heights x e)
 
 pub put_ref_kept : (p : ℕ) (r : NodeJunctionRef) → Kept (λ m. refs_left m (put_ref m.ynd m.refs p r))
 unfolding put_ref
@@ -112,7 +113,8 @@ pub put_words_kept : (vft vehicles peds : ℕ) (u : List ℕ) → Kept (λ m. pu
 put_words_kept vft vehicles peds u m x e = not_refused (sym e)
 
 -- all of them, one after the other
-pub words_put : (y a b c d : Ynd) (vft vehicles peds : ℕ) (u : List ℕ) → a ≡ with_vft y vft → b ≡ with_vehicles a vehicles
+pub words_put : (y a b c d : Ynd) (vft vehicles peds : ℕ) (u : List ℕ) → a ≡ with_vft y vft → b
+    ≡ with_vehicles a vehicles
     → c ≡ with_peds b peds → d ≡ with_unknowns c u → d ≡ with_own y vft vehicles peds u
 unfolding with_own
 words_put y a b c d vft vehicles peds u ea eb ec ed =

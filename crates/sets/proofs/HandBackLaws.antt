@@ -93,7 +93,12 @@ own_words from m v = refl
 
 first_there : (y : CellSet) (area j : ℕ) → first_of_area y area ≡ some j → j < length y.members
 first_there y area j at =
-    omega (arith, (first_has (areas_of y.members y.nodes) area j (found_is y area ∙ at)).0, areas_many y.members y.nodes)
+    omega (
+      arith,
+      (first_has (areas_of y.members y.nodes) area j (found_is y area ∙ at)).0,
+      areas_many y.members
+          y.nodes,
+    )
 
 module _ (y : CellSet) (area : ℕ) (m : Memory) where
   abbrev found : Option ℕ
@@ -143,7 +148,8 @@ module _ (y : CellSet) (area : ℕ) (m : Memory) where
         → left m.ynd r m.nodes m.links m.junctions m.heights m.refs ≡ hand_back y area m
     refuses {x} r h e =
         let k = err_from_is_err_and r e in
-        ap (λ (q : Result Ynd Refusal). left m.ynd q m.nodes m.links m.junctions m.heights m.refs) (k.1 ∙ ap Err k.2) ∙ h
+        ap (λ (q : Result Ynd Refusal). left m.ynd q m.nodes m.links m.junctions m.heights m.refs)
+        (k.1 ∙ ap Err k.2) ∙ h
 
     pub hand_not : {x : Refusal} (r : Result Ynd Refusal) → decided (ask_causes y j) ≡ Err x → IsErrAnd r (λ z. z ≡ x)
         → left m.ynd r m.nodes m.links m.junctions m.heights m.refs ≡ hand_back y area m

@@ -55,33 +55,47 @@ abbrev one : CellSet
 one = nodes_only (entry 1 2 ∷ [] ∷ []) (node 5 ∷ node 50 ∷ node 60 ∷ node 61 ∷ node 62 ∷ [])
 
 -- the cell's one node goes behind the first part; how many entries its part has is the caller's number
-pub joins : join_cell 1 one (cell 6) (room 3) ≡ set_left (Ok tt) 2 (nodes_only (entry 1 2 ∷ entry 1 3 ∷ []) (node 5 ∷ node 50 ∷ node 6 ∷ node 61 ∷ node 62 ∷ []))
-unfolding join_cell join_causes with_cell stored lack_for part_fits first_of_area members_of map_from parts_in parts_of words_at total ynd_of over_set nodes_together any_over over_limit holds_list every cell_of nodes_of first_with area_of number_of
+pub joins : join_cell 1 one (cell 6) (room 3)
+    ≡ set_left (Ok tt) 2 (nodes_only (entry 1 2 ∷ entry 1 3 ∷ [])
+    (node 5 ∷ node 50 ∷ node 6 ∷ node 61 ∷ node 62 ∷ []))
+unfolding join_cell join_causes with_cell stored lack_for part_fits first_of_area members_of map_from parts_in
+    parts_of words_at total ynd_of over_set nodes_together any_over over_limit holds_list every cell_of nodes_of
+    first_with area_of number_of
 joins = refl
 
 pub area_there : join_cell 1 one (cell 5) (room 1) ≡ set_left (Err AreaTaken) 1 one
-unfolding join_cell join_causes first_of_area members_of map_from parts_in parts_of words_at total ynd_of cell_of nodes_of first_with area_of number_of
+unfolding join_cell join_causes first_of_area members_of map_from parts_in parts_of words_at total ynd_of cell_of
+    nodes_of first_with area_of number_of
 area_there = refl
 
 -- no room for four nodes more; a part smaller than the cell's count; no entry left
 pub no_room : join_cell 1 one (cell 6) (room 4) ≡ set_left (Err (TooShort lent.Nodes)) 1 one
-unfolding join_cell join_causes lack_for part_fits first_of_area members_of map_from parts_in parts_of words_at total ynd_of over_set nodes_together any_over over_limit holds_list every cell_of nodes_of first_with area_of number_of
+unfolding join_cell join_causes lack_for part_fits first_of_area members_of map_from parts_in parts_of words_at
+    total ynd_of over_set nodes_together any_over over_limit holds_list every cell_of nodes_of first_with area_of
+    number_of
 no_room = refl
 
 pub part_too_small : join_cell 1 one (cell 6) (room 0) ≡ set_left (Err (TooShort lent.Nodes)) 1 one
-unfolding join_cell join_causes lack_for part_fits first_of_area members_of map_from parts_in parts_of words_at total ynd_of over_set nodes_together any_over over_limit holds_list every cell_of nodes_of first_with area_of number_of
+unfolding join_cell join_causes lack_for part_fits first_of_area members_of map_from parts_in parts_of words_at
+    total ynd_of over_set nodes_together any_over over_limit holds_list every cell_of nodes_of first_with area_of
+    number_of
 part_too_small = refl
 
 abbrev full : CellSet
 full = nodes_only (entry 1 2 ∷ []) (node 5 ∷ node 50 ∷ node 60 ∷ [])
 
 pub no_entry : join_cell 1 full (cell 6) (room 1) ≡ set_left (Err (TooShort lent.Members)) 1 full
-unfolding join_cell join_causes lack_for part_fits first_of_area members_of map_from parts_in parts_of words_at total ynd_of over_set nodes_together any_over over_limit holds_list every cell_of nodes_of first_with area_of number_of
+unfolding join_cell join_causes lack_for part_fits first_of_area members_of map_from parts_in parts_of words_at
+    total ynd_of over_set nodes_together any_over over_limit holds_list every cell_of nodes_of first_with area_of
+    number_of
 no_entry = refl
 
 -- the lowest place: the set's list of nodes is too short, and the cell's list of refs
-pub lowest : join_cell 0 (nodes_only ([] ∷ []) []) (memory (words 1 1) (node 6 ∷ []) [] [] [] []) (per_list 1 0 0 0 1) ≡ set_left (Err (TooShort lent.Nodes)) 0 (nodes_only ([] ∷ []) [])
-unfolding join_cell join_causes lack_for part_fits first_of_area members_of map_from parts_in parts_of words_at total ynd_of over_set nodes_together any_over over_limit holds_list every cell_of nodes_of first_with area_of number_of
+pub lowest : join_cell 0 (nodes_only ([] ∷ []) []) (memory (words 1 1) (node 6 ∷ []) [] [] [] [])
+    (per_list 1 0 0 0 1) ≡ set_left (Err (TooShort lent.Nodes)) 0 (nodes_only ([] ∷ []) [])
+unfolding join_cell join_causes lack_for part_fits first_of_area members_of map_from parts_in parts_of words_at
+    total ynd_of over_set nodes_together any_over over_limit holds_list every cell_of nodes_of first_with area_of
+    number_of
 lowest = refl
 
 -- ten members made by hand, all of area 0: 18 comes before 14
@@ -89,9 +103,11 @@ abbrev ten : CellSet
 ten = nodes_only (replicate 10 (entry 0 0)) []
 
 pub ten_there : join_cell 10 ten (memory (words 0 0) [] [] [] [] []) (room 0) ≡ set_left (Err AreaTaken) 10 ten
-unfolding join_cell join_causes first_of_area members_of map_from parts_in parts_of words_at total ynd_of cell_of nodes_of first_with area_of number_of
+unfolding join_cell join_causes first_of_area members_of map_from parts_in parts_of words_at total ynd_of cell_of
+    nodes_of first_with area_of number_of
 ten_there = refl
 
 pub eleventh : join_cell 10 ten (cell 6) (room 1) ≡ set_left (Err AtLimit) 10 ten
-unfolding join_cell join_causes first_of_area members_of map_from parts_in parts_of words_at total ynd_of over_set nodes_together any_over over_limit cell_of nodes_of first_with area_of number_of
+unfolding join_cell join_causes first_of_area members_of map_from parts_in parts_of words_at total ynd_of over_set
+    nodes_together any_over over_limit cell_of nodes_of first_with area_of number_of
 eleventh = refl

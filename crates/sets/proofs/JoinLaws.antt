@@ -57,7 +57,8 @@ module _ (k size : ℕ) (ws : List (List ℕ)) (len have count room : ℕ) where
         unfolding part_fits
         part_large d = rw (a, le-leb count have b, le-leb count room c, le-ltb room 4294967296 (omega arith))
 
-        pub part_behind : (n : ℕ) → room ≤ 4294967295 → n ≡ total (words_at size ws) → leb room (len - n) ≡ part_fits k size ws len have count room
+        pub part_behind : (n : ℕ) → room ≤ 4294967295 → n ≡ total (words_at size ws) → leb room (len - n)
+            ≡ part_fits k size ws len have count room
         unfolding part_fits
         part_behind n d e =
             let t = total (words_at size ws) in
@@ -74,7 +75,8 @@ pub record Fitting (size : ℕ) (ws : List (List ℕ)) (len have count room : �
   pub small : room < 4294967296
   pub in_list : total (words_at size ws) + room ≤ len
 
-fitting : (k size : ℕ) (ws : List (List ℕ)) (len have count room : ℕ) → part_fits k size ws len have count room ≡ true → Fitting size ws len have count room
+fitting : (k size : ℕ) (ws : List (List ℕ)) (len have count room : ℕ) → part_fits k size ws len have count room
+    ≡ true → Fitting size ws len have count room
 unfolding part_fits
 fitting k size ws len have count room t =
     let t₁ = and_right (holds_list k size ws len) _ t in
@@ -120,7 +122,8 @@ module _ (ws : List (List ℕ)) (lens haves : Counts) (y : Ynd) (sizes : Counts)
 
 -- ---- the limits, with the cell
 
-pub together_more : (ms : List Memory) (m : Memory) → nodes_together (ms ++ (m ∷ [])) ≡ nodes_together ms + node_count m
+pub together_more : (ms : List Memory) (m : Memory) → nodes_together (ms ++ (m ∷ [])) ≡ nodes_together ms
+    + node_count m
 unfolding nodes_together
 together_more [] m = omega arith
 together_more (x ∷ xs) m = let h = together_more xs m in omega (arith, h)
@@ -130,7 +133,8 @@ unfolding any_over
 over_more [] m = or-false (over_limit m.ynd)
 over_more (x ∷ xs) m = go (over_limit x.ynd) (over_more xs m)
   where
-    go : (b : Bool) → any_over (xs ++ (m ∷ [])) ≡ any_over xs || over_limit m.ynd → b || any_over (xs ++ (m ∷ [])) ≡ (b || any_over xs) || over_limit m.ynd
+    go : (b : Bool) → any_over (xs ++ (m ∷ [])) ≡ any_over xs || over_limit m.ynd → b || any_over (xs ++ (m ∷ []))
+        ≡ (b || any_over xs) || over_limit m.ynd
     go true h = refl
     go false h = h
 
@@ -154,11 +158,16 @@ module _ (ws : List (List ℕ)) (y : Ynd) where
 
     pub beyond : (n c : ℕ) → n ≡ total (words_at 10 ws) → c ≡ y.node_count → 65536 < n + c → true ≡ over_set with_it
     unfolding over_set
-    beyond n c e f h = rw (nine, lt-ltb 65536 (nodes_together with_it) (let z : 65536 < nodes_together with_it = omega (arith, more_together, e, f) in z))
+    beyond n c e f h = rw (
+      nine,
+      lt-ltb 65536 (nodes_together with_it)
+          (let z : 65536 < nodes_together with_it = omega (arith, more_together, e, f) in z),
+    )
 
     module _ (n c : ℕ) (e : n ≡ total (words_at 10 ws)) (f : c ≡ y.node_count) (h : n + c ≤ 65536) where
       within : ltb 65536 (nodes_together with_it) ≡ false
-      within = le-ltb 65536 (nodes_together with_it) (let z : nodes_together with_it ≤ 65536 = omega (arith, more_together, e, f) in z)
+      within = le-ltb 65536 (nodes_together with_it)
+          (let z : nodes_together with_it ≤ 65536 = omega (arith, more_together, e, f) in z)
 
       pub member_over : any_over (bare ws) ≡ true → true ≡ over_set with_it
       unfolding over_set
@@ -169,7 +178,8 @@ module _ (ws : List (List ℕ)) (y : Ynd) where
       cell_over t = rw (nine, within, over_more (bare ws) (bare_cell y), t)
 
   pub few_of : over_set with_it ≡ false → length ws < 9
-  few_of e = by_test (ltb (length ws) 9) (λ t. ltb-true (length ws) 9 t) (λ g. true_false (tenth (ltb-false (length ws) 9 g) ∙ e))
+  few_of e = by_test (ltb (length ws) 9) (λ t. ltb-true (length ws) 9 t)
+      (λ g. true_false (tenth (ltb-false (length ws) 9 g) ∙ e))
 
 -- ---- the answer
 

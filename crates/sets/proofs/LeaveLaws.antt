@@ -9,7 +9,8 @@ use lib.ListN.{length}
 use Rattle.cells.specs.Lookup.{first_with}
 use Rattle.sets.specs.MemberList.{unless}
 use Rattle.sets.specs.CellSet.{CellSet, cell_set, words_at}
-use Rattle.sets.specs.Leave.{SetLeft, set_left, left_after, closed, start_of, without, first_of_area, leave_causes, left_by, leave_area}
+use Rattle.sets.specs.Leave.{SetLeft, set_left, left_after, closed, start_of, without, first_of_area, leave_causes}
+use Rattle.sets.specs.Leave.{left_by, leave_area}
 use Rattle.sets.specs.Join.{set_lengths}
 use Rattle.sets.specs.SetParts.{Holding, named_of, starts_of, areas_of, list_causes}
 use Rattle.cells.specs.declared.count.Counts.{Counts}
@@ -18,12 +19,18 @@ use Rattle.sets.proofs.PartLaws.{total_below, start_next, start_all}
 use Rattle.sets.proofs.CellSetLaws.{areas_many, areas_held}
 use Rattle.sets.proofs.RoomLaws.{lists_of, causes_held}
 use Rattle.std.specs.Prelude.{Result, Ok, Err, Some, None}
-use Rattle.std.specs.Result.{IsErrAnd}
+use Rattle.std.specs.Prelude as std
+use Rattle.std.specs.Result.{IsErrAnd, result_ok}
 use Rattle.std.proofs.lemmas.Result.{err_from_is_err_and}
 use Rattle.numbers.specs.Refusals.{decided}
 use Rattle.numbers.specs.declared.refusal.Refusal.{Refusal}
 use Rattle.numbers.specs.Refusals.{Answer}
 use Rattle.numbers.specs.declared.refusal.Refusal.TheVariants.{NoSuchPlace}
+
+-- what `ok_or` hands on is what was found
+pub handed_on : {A E : Type 0} {o n : std.Option A} {r : Result A E} {x : A} → o ≡ result_ok r → r ≡ Ok x → o ≡ n
+    → Some x ≡ n
+handed_on eo er en = sym (eo ∙ ap result_ok er) ∙ en
 
 -- where a list's parts lie; `of` is the list's among the five
 pub closes : {k size room : ℕ} {ws : List (List ℕ)} → Holding k size ws room → (of : Counts → ℕ)
@@ -44,7 +51,8 @@ module _ (y : CellSet) (j : ℕ) where
   ws = y.members
 
   -- the six lists, closed
-  pub taken_out : (a e t : Counts) → a ≡ starts_of ws j → e ≡ starts_of ws (j + 1) → t ≡ starts_of ws (length ws) → (W N L J R : List (List ℕ)) (H : List ℕ)
+  pub taken_out : (a e t : Counts) → a ≡ starts_of ws j → e ≡ starts_of ws (j + 1) → t ≡ starts_of ws (length ws)
+      → (W N L J R : List (List ℕ)) (H : List ℕ)
       → W ≡ closed j (j + 1) (length ws) ws
       → N ≡ closed a.nodes e.nodes t.nodes y.nodes → L ≡ closed a.links e.links t.links y.links
       → J ≡ closed a.junctions e.junctions t.junctions y.junctions → H ≡ closed a.heights e.heights t.heights y.heights
@@ -66,7 +74,8 @@ module _ (y : CellSet) (j : ℕ) where
 -- what the set is asked, by the lists' lengths
 pub checked : (y : CellSet) {lens : Counts} {a : Answer} → lens ≡ set_lengths y
     → a ≡ decided (list_causes y.members lens.nodes lens.links lens.junctions lens.heights lens.refs) → lists_of y ≡ a
-checked y e ea = sym (ea ∙ ap (λ (l : Counts). decided (list_causes y.members l.nodes l.links l.junctions l.heights l.refs)) e)
+checked y e ea = sym (ea ∙ ap (λ (l : Counts). decided (list_causes y.members l.nodes l.links l.junctions l.heights
+    l.refs)) e)
 
 module _ (y : CellSet) (area : ℕ) where
   abbrev found : Option ℕ
@@ -88,15 +97,23 @@ module _ (y : CellSet) (area : ℕ) where
   unfolding leave_area leave_causes
   nobody n = let e : first_of_area y area ≡ none = sym found_is ∙ named_none found n in rw e
 
-  pub asked_of : (j : ℕ) → first_of_area y area ≡ some j → leave_area y area ≡ unless (lists_of y) (λ cause. set_left (Err cause) (length y.members) y) (left_by (some j) y)
+  pub asked_of : (j : ℕ) → first_of_area y area ≡ some j
+      → leave_area y area ≡ unless (lists_of y) (λ cause. set_left (Err cause) (length y.members) y)
+      (left_by (some j) y)
   unfolding leave_area leave_causes
   asked_of j e = rw (e, causes_held y)
 
   module _ (j : ℕ) (n : Some j ≡ named_of found) where
     pub there : j < length y.members
-    there = omega (arith, (first_has (areas_of y.members y.nodes) area j (named_some j found n)).0, areas_many y.members y.nodes)
+    there = omega (
+      arith,
+      (first_has (areas_of y.members y.nodes) area j (named_some j found n)).0,
+      areas_many
+          y.members y.nodes,
+    )
 
-    asked : leave_area y area ≡ unless (lists_of y) (λ cause. set_left (Err cause) (length y.members) y) (left_by (some j) y)
+    asked : leave_area y area ≡ unless (lists_of y) (λ cause. set_left (Err cause) (length y.members) y)
+        (left_by (some j) y)
     asked = asked_of j (sym found_is ∙ named_some j found n)
 
     abbrev left : Answer → SetLeft
@@ -106,7 +123,8 @@ module _ (y : CellSet) (area : ℕ) where
         → left_after (length y.members) r y ≡ leave_area y area
     refused_leave {x} r e er =
         let k = err_from_is_err_and r er in
-        ap (λ (q : Result ℕ Refusal). left_after (length y.members) q y) (k.1 ∙ ap Err k.2) ∙ ap left (sym e) ∙ sym asked
+        ap (λ (q : Result ℕ Refusal). left_after (length y.members) q y) (k.1 ∙ ap Err k.2) ∙ ap left (sym e)
+        ∙ sym asked
 
     pub gone : {y' : CellSet} → lists_of y ≡ (Ok tt) → y' ≡ without y j
         → set_left (Ok tt) (length y.members - 1) y' ≡ leave_area y area

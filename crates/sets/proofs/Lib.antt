@@ -36,9 +36,6 @@ pub mod SetLeft
 pub mod AreasFilled
 pub mod MemberCells
 pub mod CrossLaws
-pub mod TrailReached
-pub mod TrailStored
-pub mod CrossLoop
 pub mod CrossSame
 pub mod CrossCases
 pub mod CrossingHeld

@@ -2,15 +2,17 @@
 use Prim.Native.Nat.{ℕ, ◌≤◌, ◌<◌}
 use native.Mathlib.Omega.{arith}
 use mathlib.Core.Path.{◌≡◌, refl, ap, sym, ◌∙◌}
-use mathlib.Core.List.{List}
+use mathlib.Core.List.{List, []}
 use lib.Dec.{leb}
-use lib.ListN.{length}
+use lib.ListN.{length, replicate, length-replicate}
 use borrow.Author.Tests.{lt-ltb, le-ltb, le-leb}
-use Rattle.std.specs.Prelude.{Result, Ok, Err}
+use Rattle.std.specs.Prelude.{Option, Result, Ok, Err, Some, None}
+use Rattle.std.specs.Option.{ok_or}
 use Rattle.std.specs.Result.{IsErrAnd}
 use Rattle.std.proofs.lemmas.Result.{err_from_is_err_and}
 use Rattle.numbers.specs.Refusals.{Answer, decided}
 use Rattle.numbers.specs.declared.refusal.Refusal.{Refusal}
+use Rattle.numbers.specs.declared.refusal.Refusal.TheVariants.{NoSuchPlace}
 use Rattle.cells.specs.Memory.{Memory}
 use Rattle.cells.specs.declared.count.Counts.{Counts}
 use Rattle.cells.proofs.Sequences.Tests.{by_test}
@@ -18,8 +20,9 @@ use Rattle.sets.specs.MemberList.{over_set, unless}
 use Rattle.sets.specs.CellSet.{CellSet, cell_set, words_at, total, holds_list, lack_of}
 use Rattle.sets.specs.Join.{per_list, set_lengths}
 use Rattle.sets.specs.Leave.{start_of}
-use Rattle.sets.specs.Lent.{Lies}
-use Rattle.sets.specs.MemberLookup.{ask_member}
+use Rattle.sets.specs.Lent.{Lies, Unlent}
+use Rattle.cells.specs.LookupCall.{Place}
+use Rattle.sets.specs.MemberLookup.{ask_member, there}
 use Rattle.sets.specs.MemberParts.{entry_ask, opened, held_by, part_memory}
 use Rattle.sets.specs.SetParts.{starts_of, bare, list_causes}
 use Rattle.sets.specs.SetStored.{member_in, ask_causes}
@@ -28,7 +31,27 @@ use Rattle.sets.proofs.PartLaws.{start_all}
 use Rattle.sets.proofs.RoomLaws.{few_members}
 use Rattle.sets.proofs.MemberPartLaws.{OpenAt, ask_held, open_in, open_refused}
 
--- ---- what the lists that aren't lent count as
+-- ---- the lists that aren't lent
+
+-- some that hold the parts are always there, so a contract that speaks of all such lists speaks of every call
+pub some_unlent : (ws : List (List ℕ)) → Unlent ws
+some_unlent ws =
+    let entries : ℕ → List (List ℕ) = λ k. replicate (total (words_at k ws)) [] in
+    let lie = λ (k : ℕ). length-replicate {A = List ℕ} (total (words_at k ws)) [] in
+    record {
+      nodes = entries 15;
+      links = entries 16;
+      junctions = entries 17;
+      heights = replicate (total (words_at 18 ws)) 0;
+      refs = entries 19;
+      nodes_lie = omega (arith, lie 15);
+      links_lie = omega (arith, lie 16);
+      junctions_lie = omega (arith, lie 17);
+      heights_lie = omega (arith, length-replicate {A = ℕ} (total (words_at 18 ws)) 0);
+      refs_lie = omega (arith, lie 19);
+    }
+
+-- what they count as
 
 pub held_many : (ws : List (List ℕ)) → 9 < length ws → per_list 0 0 0 0 0 ≡ held_by ws
 unfolding held_by
@@ -44,7 +67,8 @@ held_is ws t e few = rw (le-ltb 9 (length ws) few) at e
 
 -- a list is asked as one of `len` entries: all its own where it is lent, else those that the members' parts hold
 pub record Counted {A : Type 0} (k : ℕ) (ws : List (List ℕ)) (held len : ℕ) (l : List A) : Type 0 where
-  pub alike : held ≡ start_of k ws (length ws) → leb (total (words_at k ws)) len ≡ leb (total (words_at k ws)) (length l)
+  pub alike : held ≡ start_of k ws (length ws) → leb (total (words_at k ws)) len
+      ≡ leb (total (words_at k ws)) (length l)
 
 pub lent : {A : Type 0} {k : ℕ} {ws : List (List ℕ)} {held : ℕ} (l : List A) → Counted k ws held (length l) l
 lent l = record { alike = λ _. refl }
@@ -113,6 +137,14 @@ module _ {lens : Counts} {y : CellSet} (j : ℕ) {o : Result MemberPart Refusal}
       → o ≡ Err x → IsErrAnd r (λ z. z ≡ x) → r ≡ ask_member y j Err call
   not_asked {A} call = not_told (λ (z : Result A Refusal). z) call
 
+  -- where a start is looked up
+  pub not_there : {x : Refusal} {r : Result ℕ Refusal} (call : Memory → Place) → o ≡ Err x
+      → IsErrAnd r (λ z. z ≡ x) → r ≡ there (ask_member y j Err call)
+  unfolding ask_member
+  not_there call is e =
+      let k = err_from_is_err_and _ e in
+      k.1 ∙ ap Err k.2 ∙ ap (λ (a : Answer). there (unless a Err (call (member_in y j)))) (sym (shuts is))
+
 module _ {A : Type 0} {y : CellSet} {j : ℕ} {p : MemberPart} (refused : Refusal → A) (call : Memory → A) {r : A}
     (k : OpenAt y j p) (e : r ≡ call (part_memory p.ynd p.a p.e y)) where
   pub called : r ≡ unless (decided (ask_causes y j)) refused (call (member_in y j))
@@ -121,6 +153,20 @@ module _ {A : Type 0} {y : CellSet} {j : ℕ} {p : MemberPart} (refused : Refusa
   pub answered : r ≡ ask_member y j refused call
   unfolding ask_member
   answered = called
+
+pub found_not : {o n : Place} {x : Refusal} {r : Result ℕ Refusal} → o ≡ n → o ≡ Err x → IsErrAnd r (λ z. z ≡ x)
+    → r ≡ there n
+found_not e is er =
+    let k = err_from_is_err_and _ er in
+    k.1 ∙ ap Err k.2 ∙ ap there (sym is ∙ e)
+
+pub found_there : {o n : Place} {q : Option ℕ} {r : Result ℕ Refusal} → o ≡ n → o ≡ Ok q → r ≡ ok_or q NoSuchPlace
+    → r ≡ there n
+found_there {q = q} e is er = er ∙ go q ∙ ap there (sym is ∙ e)
+  where
+    go : (q : Option ℕ) → ok_or q NoSuchPlace ≡ there (Ok q)
+    go (Some p) = refl
+    go None = refl
 
 -- for the check
 pub ruleset held_laws = (held_many, held_few)

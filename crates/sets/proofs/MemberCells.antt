@@ -25,7 +25,8 @@ module _ (y : CellSet) (i : ℕ) (lt : i < length y.members) where
 
   -- the member, with lists that go on behind its parts
   abbrev pub from_start : Memory
-  from_start = memory (ynd_of (get_or ws i [])) (drop (start_of 15 ws i) y.nodes) (drop (start_of 16 ws i) y.links) [] []
+  from_start = memory (ynd_of (get_or ws i [])) (drop (start_of 15 ws i) y.nodes) (drop (start_of 16 ws i) y.links)
+      [] []
       []
 
   abbrev member : Memory

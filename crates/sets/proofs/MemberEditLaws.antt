@@ -86,7 +86,8 @@ module _ (y : CellSet) (j : ℕ) (edit : Memory → Left) (causes : List Cause) 
   edit_not e = rw e
 
   -- what the `?` at the opening gives
-  pub not_edited : {x : Refusal} {r : Answer} {lens : Counts} {o : Result MemberPart Refusal} → decided causes ≡ decided (ask_causes y j)
+  pub not_edited : {x : Refusal} {r : Answer} {lens : Counts} {o : Result MemberPart Refusal} → decided causes
+      ≡ decided (ask_causes y j)
       → Asks lens y → o ≡ opened y.members lens j → o ≡ Err x → IsErrAnd r (λ z. z ≡ x)
       → set_edited r y ≡ edit_by causes y j edit
   unfolding edit_by
@@ -130,7 +131,8 @@ module _ {y : CellSet} {j : ℕ} {p : MemberPart} (k : OpenAt y j p)
     settled (Ok tt) e = refl
     settled (Err x) e = ap (with_member y j) (kept part x e) ∙ part_back
 
-    pub leaves : (causes : List Cause) → decided causes ≡ decided (ask_causes y j) → {a : Answer} {v : Ynd} {W : List (List ℕ)}
+    pub leaves : (causes : List Cause) → decided causes ≡ decided (ask_causes y j)
+        → {a : Answer} {v : Ynd} {W : List (List ℕ)}
         → ◌≡◌ {A = Left} (record { answer = a; memory = memory v n l i h r }) (edit part) → W ≡ with_ynd v
         → set_edited a (cell_set W N L J H R) ≡ edit_by causes y j edit
     unfolding edit_by with_member
@@ -144,7 +146,8 @@ module _ {y : CellSet} {j : ℕ} {p : MemberPart} (k : OpenAt y j p)
           links = (wl.is lie.links_rise lie.links_end ∙ (λ u. put y.links (s u).links (e u).memory.links)) t;
           junctions = (wj.is lie.junctions_rise lie.junctions_end
               ∙ (λ u. put y.junctions (s u).junctions (e u).memory.junctions)) t;
-          heights = (wh.is lie.heights_rise lie.heights_end ∙ (λ u. put y.heights (s u).heights (e u).memory.heights)) t;
+          heights = (wh.is lie.heights_rise lie.heights_end
+              ∙ (λ u. put y.heights (s u).heights (e u).memory.heights)) t;
           refs = (wr.is lie.refs_rise lie.refs_end ∙ (λ u. put y.refs (s u).refs (e u).memory.refs)) t;
         } in
         rw (passed, k.asked) (

@@ -53,7 +53,8 @@ two = pair (entry 1 2 0 1 ∷ entry 1 1 0 1 ∷ []) (ref 7 ∷ ref 8 ∷ ref 9 �
 -- of the second member the count of refs alone changes, and the ref in its part
 pub ref_added : edit_member two 1 (λ m. add_ref m ref_of_node)
     ≡ set_edited (Ok tt) (pair (entry 1 2 0 1 ∷ entry 1 1 1 1 ∷ []) (ref 7 ∷ (6 ∷ 2 ∷ 3 ∷ 4 ∷ []) ∷ ref 9 ∷ []))
-unfolding edit_by ask_causes set_causes members_of map_from parts_in parts_of words_at total ynd_of over_set nodes_together
+unfolding edit_by ask_causes set_causes members_of map_from parts_in parts_of words_at total ynd_of over_set
+    nodes_together
     any_over over_limit lack_of holds_list every with_member put add_ref room_for with_counts ref_words
 ref_added = refl
 
@@ -66,14 +67,17 @@ no_member = refl
 abbrev full_refs : CellSet
 full_refs = pair (entry 1 2 0 1 ∷ entry 1 1 1 1 ∷ []) (ref 7 ∷ ref 8 ∷ ref 9 ∷ [])
 
-pub refs_full : edit_member full_refs 1 (λ m. add_ref m ref_of_node) ≡ set_edited (Err (TooShort lacking.Refs)) full_refs
-unfolding edit_by ask_causes set_causes members_of map_from parts_in parts_of words_at total ynd_of over_set nodes_together
+pub refs_full : edit_member full_refs 1 (λ m. add_ref m ref_of_node)
+    ≡ set_edited (Err (TooShort lacking.Refs)) full_refs
+unfolding edit_by ask_causes set_causes members_of map_from parts_in parts_of words_at total ynd_of over_set
+    nodes_together
     any_over over_limit lack_of holds_list every add_ref room_for
 refs_full = refl
 
 -- a node more: 7 where the part is full; 14 where the set has 65,536 together, though neither cell has
 pub nodes_full : (at : Vec3) → add_node_member two 1 6 at ≡ set_edited (Err (TooShort lacking.Nodes)) two
-unfolding edit_by add_causes members_of map_from parts_in parts_of words_at total ynd_of over_set nodes_together any_over
+unfolding edit_by add_causes members_of map_from parts_in parts_of words_at total ynd_of over_set nodes_together
+    any_over
     over_limit lack_of holds_list every add_node room_for
 nodes_full at = refl
 
@@ -81,7 +85,8 @@ abbrev wide : CellSet
 wide = cell_set (entry 32768 40000 0 0 ∷ entry 32768 32768 0 0 ∷ []) [] [] [] [] []
 
 pub total_full : (at : Vec3) → add_node_member wide 0 5 at ≡ set_edited (Err AtLimit) wide
-unfolding edit_by add_causes members_of map_from parts_in parts_of words_at total ynd_of over_set nodes_together any_over
+unfolding edit_by add_causes members_of map_from parts_in parts_of words_at total ynd_of over_set nodes_together
+    any_over
     over_limit
 total_full at = refl
 
@@ -94,24 +99,29 @@ lent nodes = memory new_ynd nodes [] [] [] []
 pub back : hand_back two 5 (lent (node 1 ∷ node 2 ∷ []))
     ≡ done (memory (ynd_of (entry 1 2 0 1)) (node 5 ∷ node 2 ∷ []) [] [] [] [])
 unfolding hand_back hand_causes leave_causes leaver copied stored first_of_area set_causes members_of map_from parts_in
-    parts_of words_at total ynd_of over_set nodes_together any_over over_limit lack_of holds_list every short_of cell_of
+    parts_of words_at total ynd_of over_set nodes_together any_over over_limit lack_of holds_list every short_of
+    cell_of
     nodes_of first_with area_of number_of
 back = refl
 
 pub back_short : hand_back two 5 (lent []) ≡ record { answer = Err (TooShort lacking.Nodes); memory = lent [] }
-unfolding hand_back hand_causes leave_causes leaver first_of_area set_causes members_of map_from parts_in parts_of words_at
-    total ynd_of over_set nodes_together any_over over_limit lack_of holds_list every short_of cell_of nodes_of first_with
+unfolding hand_back hand_causes leave_causes leaver first_of_area set_causes members_of map_from parts_in parts_of
+    words_at
+    total ynd_of over_set nodes_together any_over over_limit lack_of holds_list every short_of cell_of nodes_of
+    first_with
     area_of number_of
 back_short = refl
 
 pub back_nobody : hand_back two 7 (lent []) ≡ record { answer = Err NoSuchPlace; memory = lent [] }
-unfolding hand_back hand_causes leave_causes leaver first_of_area set_causes members_of map_from parts_in parts_of words_at
+unfolding hand_back hand_causes leave_causes leaver first_of_area set_causes members_of map_from parts_in parts_of
+    words_at
     total ynd_of short_of cell_of nodes_of first_with area_of number_of
 back_nobody = refl
 
 -- ---- a lookup
 
 pub found : node_member two 1 0 ≡ Ok (Some 0)
-unfolding ask_member ask_causes set_causes members_of map_from parts_in parts_of words_at total ynd_of over_set nodes_together
+unfolding ask_member ask_causes set_causes members_of map_from parts_in parts_of words_at total ynd_of over_set
+    nodes_together
     any_over over_limit lack_of holds_list every node_call find_in numbers_in find first_with number_of
 found = refl

@@ -14,7 +14,8 @@ use Rattle.records.specs.Sections.{located, bytes_of}
 use Rattle.records.specs.declared.section.Part.{Part}
 use Rattle.records.specs.declared.root.Root.{Root}
 use Rattle.cells.specs.Lists.{up_to, join_to}
-use Rattle.cells.specs.Checks.{root_read, sizes_check, too_few, arrays_found, opened, arrays_check, counts_of, links_at}
+use Rattle.cells.specs.Checks.{root_read, sizes_check, too_few, arrays_found, opened, arrays_check, counts_of}
+use Rattle.cells.specs.Checks.{links_at}
 use Rattle.cells.specs.Checks.{values_at}
 use Rattle.cells.specs.Memory.{Memory, Left, unless, over_limit, short}
 use Rattle.cells.specs.Read.{node_in, links_in, junction_in, values_in, ref_in, room_check, cell_read, filled, if_held}
@@ -24,7 +25,8 @@ use Rattle.cells.specs.Write.{held, write_call}
 use Rattle.cells.specs.WriteRead.{if_read, if_written, write_read_of}
 use Rattle.cells.specs.NodeWords.{is_ped, number_from, reordered, old_of, relinked}
 use Rattle.cells.specs.Order.{parted}
-use Rattle.cells.specs.Renumber.{over, recounted, renumber_lists, new_lists, renumber_memory, answer_of, left_by, renumber}
+use Rattle.cells.specs.Renumber.{over, recounted, renumber_lists, new_lists, renumber_memory, answer_of, left_by}
+use Rattle.cells.specs.Renumber.{renumber}
 use Rattle.cells.specs.declared.count.Counts.{Counts}
 use Rattle.cells.proofs.Forms.Limits.{not_over}
 use Rattle.cells.proofs.Reading.Fits.{Whole}
@@ -160,7 +162,8 @@ arrays_filled root n l j h r m e = go (arrays_check n l j h r) refl e
       limits = record { few_nodes = q.few_nodes; few_junctions = q.few_junctions; counts = refl };
     }
 
-    go : (c : Result Counts Refusal) → arrays_check n l j h r ≡ c → (if_held c m (λ k. unless (room k) m (fill k))).answer ≡ (Ok tt)
+    go : (c : Result Counts Refusal) → arrays_check n l j h r ≡ c
+        → (if_held c m (λ k. unless (room k) m (fill k))).answer ≡ (Ok tt)
         → Filled root n l j h r m (if_held c m (λ k. unless (room k) m (fill k))).memory
     go (Err a) d t = refused t
     go (Ok k) d t = inner k (room k) refl (laws.holds n l j h r k d) t
@@ -263,7 +266,8 @@ module _ (h m : Memory) (told : Told h) where
 
       by : Option Part → Option Part → Option Part → Option Part → Option Part → Left
       by a b c d f =
-          if_found (opened array.Nodes a λ n. opened array.Links b λ l. opened array.Junctions c λ j. opened array.Heightmap d λ t. opened array.Refs f λ r. Ok
+          if_found (opened array.Nodes a λ n. opened array.Links b λ l. opened array.Junctions c λ j. opened
+          array.Heightmap d λ t. opened array.Refs f λ r. Ok
           (record { nodes = n; links = l; junctions = j; heights = t; refs = r })) m reading
 
       parts : Root → Left

@@ -28,7 +28,8 @@ unfolding first_with
 first_has [] k q e = never e
 first_has (x ∷ xs) k q e = go (eqb x k) refl (first_with xs k) (first_has xs k) e
   where
-    go : (b : Bool) → eqb x k ≡ b → (r : Option ℕ) → ((j : ℕ) → r ≡ some j → (j < length xs) × (get_or xs j 0 ≡ k)) → or_later b r ≡ some q → (q < suc (length xs)) × (get_or (x ∷ xs) q 0 ≡ k)
+    go : (b : Bool) → eqb x k ≡ b → (r : Option ℕ) → ((j : ℕ) → r ≡ some j → (j < length xs) × (get_or xs j 0 ≡ k))
+        → or_later b r ≡ some q → (q < suc (length xs)) × (get_or (x ∷ xs) q 0 ≡ k)
     go true t r h e = let z : 0 ≡ q = cc in rw (← z) (omega arith, eqb-true x k t)
     go false t (some j) h e = let z : suc j ≡ q = cc in let r = h j refl in rw (← z) (omega (arith, r.0), r.1)
     go false t none h e = never e
@@ -58,9 +59,11 @@ module _ (all : List ℕ) (i a : ℕ) where
       (λ b. rw b (eq-eqb i i refl))
       (λ f. rw f (go (first_with all a) (first_has all a) f))
     where
-      go : (r : Option ℕ) → ((q : ℕ) → r ≡ some q → (q < length all) × (get_or all q 0 ≡ a)) → belongs (get_or all i 0) a ≡ false → is_member i r ≡ false
+      go : (r : Option ℕ) → ((q : ℕ) → r ≡ some q → (q < length all) × (get_or all q 0 ≡ a))
+          → belongs (get_or all i 0) a ≡ false → is_member i r ≡ false
       go none h f = refl
-      go (some q) h f = ne_eqb q i (λ e. true_false (sym (belongs_own a) ∙ (ap (λ (x : ℕ). belongs x a) (sym (h q refl).1 ∙ ap (λ (x : ℕ). get_or all x 0) e) ∙ f)))
+      go (some q) h f = ne_eqb q i (λ e. true_false (sym (belongs_own a)
+          ∙ (ap (λ (x : ℕ). belongs x a) (sym (h q refl).1 ∙ ap (λ (x : ℕ). get_or all x 0) e) ∙ f)))
 
 -- ---- the step
 
@@ -72,7 +75,8 @@ take_in cs i none = stop NoLink
 pub area_at : (cs : List Cell) (i : ℕ) → get_or (areas cs) i 0 ≡ area_of (cell_at cs i)
 area_at cs i = get_or-map area_of cs i no_cell
 
-pub next_is : (cs : List Cell) (s : Location) (b : ℕ) → next_in cs s b ≡ take_in cs s.member (link_at (cell_at cs s.member).nodes s.place b)
+pub next_is : (cs : List Cell) (s : Location) (b : ℕ) → next_in cs s b
+    ≡ take_in cs s.member (link_at (cell_at cs s.member).nodes s.place b)
 unfolding next_in next member_for
 next_is cs s b = go (link_at (cell_at cs s.member).nodes s.place b)
   where

@@ -191,7 +191,8 @@ module _ (ws : List (List ℕ)) (lens : Counts) (j : ℕ) where
   pub asked_few : (Ok tt) ≡ decided (entry_ask ws lens j) → (j < length ws) × (length ws ≤ 9)
   unfolding entry_ask list_causes
   asked_few e = by_test (leb (length ws) j) (λ t. refused (rw t at e)) (λ f.
-      by_test (over_set (bare ws)) (λ t. refused (rw (f, t) at e)) (λ o. (leb-false (length ws) j f, few_members ws o)))
+      by_test (over_set (bare ws)) (λ t. refused (rw (f, t) at e))
+      (λ o. (leb-false (length ws) j f, few_members ws o)))
 
   pub open_refused : (x : Refusal) → Err x ≡ opened ws lens j → decided (entry_ask ws lens j) ≡ Err x
   unfolding opened
@@ -202,7 +203,8 @@ module _ (ws : List (List ℕ)) (lens : Counts) (j : ℕ) where
       go (Err m) e = cc
       go (Ok tt) e = let z : ◌≡◌ {A = ℕ} 0 1 = cc in absurd (omega arith)
 
-  pub open_at : (p : MemberPart) → Ok p ≡ opened ws lens j → ((Ok tt) ≡ decided (entry_ask ws lens j)) × (p ≡ member_part ws j)
+  pub open_at : (p : MemberPart) → Ok p ≡ opened ws lens j → ((Ok tt) ≡ decided (entry_ask ws lens j))
+      × (p ≡ member_part ws j)
   unfolding opened
   open_at p e = go (decided (entry_ask ws lens j)) e
     where

@@ -69,7 +69,8 @@ module _ (y : CellSet) (j : ℕ) (lt : j < length y.members) where
 
     parts_new : {A : Type 0} (size : ℕ) (l x : List A) → word size W ≡ word size (get_or ws j [])
         → total (words_at size ws) ≤ length l → length x ≡ count_of size ws j
-        → parts_of (words_at size (set ws j W)) (put l (start_of size ws j) x) ≡ set (parts_of (words_at size ws) l) j x
+        → parts_of (words_at size (set ws j W)) (put l (start_of size ws j) x)
+        ≡ set (parts_of (words_at size ws) l) j x
     parts_new {A} size l x e f n =
         ap (λ (cs : List ℕ). parts_of cs (put l (start_of size ws j) x)) (words_kept size e)
         ∙ parts_put (words_at size ws) l x j (rw words_many lt) f (n ∙ sym (count_of_law size ws j))
@@ -132,4 +133,5 @@ module _ (y : CellSet) (j : ℕ) (lt : j < length y.members) where
           by_test (eqb i j)
           (λ t. ap (member_at (members_of y⁺)) (eqb-true i j t) ∙ own
           ∙ sym (get_or-set_same (members_of y) j m no_memory there) ∙ ap (member_at target) (sym (eqb-true i j t)))
-          (λ f. other i li⁺ (eqb-false i j f) ∙ sym (get_or-set_other (members_of y) j i m no_memory (eqb-false i j f))))
+          (λ f. other i li⁺ (eqb-false i j f)
+          ∙ sym (get_or-set_other (members_of y) j i m no_memory (eqb-false i j f))))

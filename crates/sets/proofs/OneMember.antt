@@ -10,7 +10,8 @@ use Rattle.cells.specs.Area.{belongs}
 use Rattle.cells.specs.Cell.{Link, Cell, numbers}
 use Rattle.cells.specs.Lookup.{first_with, find}
 use Rattle.cells.proofs.Sequences.Tests.{by_test, true_false}
-use Rattle.walks.specs.Walk.{Next, to, stop, next, see, link_at, body_of, take_link, arrive, Visit, Trail, go_on, walk_in, walk}
+use Rattle.walks.specs.Walk.{Next, to, stop, next, see, link_at, body_of, take_link, arrive, Visit, Trail, go_on}
+use Rattle.walks.specs.Walk.{walk_in, walk}
 use Rattle.sets.specs.Members.{area_of, areas, member_for}
 use Rattle.sets.specs.Crossing.{Location, location, arrive_in, next_in, crossing}
 use Rattle.cells.proofs.Lookups.AreaLaws.{belongs_own}
@@ -18,7 +19,11 @@ use Rattle.sets.proofs.MemberLaws.{take_in, next_is}
 
 -- a trail with each place of another kind
 abbrev pub placed_in : {L M : Type 0} → (L → M) → Trail L → Trail M
-placed_in f t = record { ending = t.ending; visits = map (λ v. record { place = f v.place; seen = v.seen; link = v.link }) t.visits }
+placed_in f t = record {
+  ending = t.ending;
+  visits = map (λ v. record
+      { place = f v.place; seen = v.seen; link = v.link }) t.visits;
+}
 
 abbrev next_by : {L M : Type 0} → (L → M) → Next L → Next M
 next_by f (to q) = to (f q)
@@ -57,6 +62,10 @@ module _ (c : Cell) where
 
       go : (x : Next ℕ) → ((q : ℕ) → crossing (c ∷ []) bs (location 0 q) ≡ placed_in (location 0) (walk c bs q))
           → go_on here (crossing (c ∷ []) bs) (next_by (location 0) x)
-          ≡ placed_in (location 0) (go_on (record { place = p; seen = see c p; link = body_of (link_at c.nodes p b) }) (walk c bs) x)
+          ≡ placed_in (location 0) (go_on (record {
+            place = p;
+            seen = see c p;
+            link = body_of (link_at c.nodes p b);
+          }) (walk c bs) x)
       go (to q) ih = rw (ih q)
       go (stop e) ih = refl

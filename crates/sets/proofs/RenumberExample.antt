@@ -37,8 +37,10 @@ node area number link = (area + number * 65536) ∷ 1 ∷ 2 ∷ 3 ∷ 4 ∷ 0 �
 abbrev link : ℕ → ℕ → List ℕ
 link area number = area ∷ number ∷ 5 ∷ 6 ∷ []
 
--- Area 5, which has one node and a link into area 6, one out of the set, and an entry to spare; area 6, whose two nodes
--- have each other's place for their number; area 6 once more, with a link to its own node. One entry stands behind all.
+-- Area 5, which has one node and a link into area 6, one out of the set, and an entry to spare; area 6, whose two
+-- nodes
+-- have each other's place for their number; area 6 once more, with a link to its own node. One entry stands behind
+-- all.
 abbrev three : CellSet
 three = cell_set
     (entry 0 1 2 1 3 ∷ entry 0 2 1 2 1 ∷ entry 0 1 1 1 1 ∷ [])
@@ -54,8 +56,10 @@ pub first_renumbered : renumber_member three 1 65536 (50 ∷ 51 ∷ 52 ∷ []) �
     (link 6 0 ∷ link 8 1 ∷ link 6 1 ∷ link 5 7 ∷ link 6 1 ∷ link 6 1 ∷ [])
     [] [] []) (0 ∷ 1 ∷ 52 ∷ [])
 unfolding renumber_member ask_causes set_causes members_of map_from parts_in parts_of words_at total ynd_of over_set
-    nodes_together any_over over_limit lack_of holds_list every with_member others_corrected correct_parts correct_words
-    member_for belongs first_with put cell_of nodes_of body_of to_node area_of number_of is_ped new_number last_with new_place
+    nodes_together any_over over_limit lack_of holds_list every with_member others_corrected correct_parts
+    correct_words
+    member_for belongs first_with put cell_of nodes_of body_of to_node area_of number_of is_ped new_number last_with
+    new_place
     keep rank renumber answer_of short_of renumber_memory new_lists renumber_lists recounted vehicles peds reordered
     number_from numbered parted first_area old_of relinked renamed new_places listed
 first_renumbered = refl
@@ -67,8 +71,10 @@ pub later_renumbered : renumber_member three 2 65536 (50 ∷ []) ≡ member_renu
     (link 6 1 ∷ link 8 1 ∷ link 6 1 ∷ link 5 7 ∷ link 6 0 ∷ link 6 1 ∷ [])
     [] [] []) (0 ∷ [])
 unfolding renumber_member ask_causes set_causes members_of map_from parts_in parts_of words_at total ynd_of over_set
-    nodes_together any_over over_limit lack_of holds_list every with_member others_corrected correct_parts correct_words
-    member_for belongs first_with put cell_of nodes_of body_of to_node area_of number_of is_ped new_number last_with new_place
+    nodes_together any_over over_limit lack_of holds_list every with_member others_corrected correct_parts
+    correct_words
+    member_for belongs first_with put cell_of nodes_of body_of to_node area_of number_of is_ped new_number last_with
+    new_place
     keep rank renumber answer_of short_of renumber_memory new_lists renumber_lists recounted vehicles peds reordered
     number_from numbered parted first_area old_of relinked renamed new_places listed
 later_renumbered = refl
@@ -84,7 +90,8 @@ unfolding renumber_member ask_causes set_causes members_of map_from parts_in par
     nodes_together any_over over_limit lack_of holds_list every renumber answer_of short_of
 scratch_short = refl
 
-pub places_short : renumber_member three 1 65536 (50 ∷ []) ≡ member_renumbered (Err (TooShort lent.NewPlaces)) three (50 ∷ [])
+pub places_short : renumber_member three 1 65536 (50 ∷ [])
+    ≡ member_renumbered (Err (TooShort lent.NewPlaces)) three (50 ∷ [])
 unfolding renumber_member ask_causes set_causes members_of map_from parts_in parts_of words_at total ynd_of over_set
     nodes_together any_over over_limit lack_of holds_list every renumber answer_of short_of
 places_short = refl

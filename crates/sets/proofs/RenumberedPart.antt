@@ -67,7 +67,14 @@ module _ {A : Type 0} (f : List A → List A) (n z at : ℕ) (l l' : List A) whe
       let same : take n (take z D) ≡ take n D = take-take n z D le in
       let many : length X ≡ z =
       length-append (f (take n (take z D))) (drop n (take z D))
-      ∙ omega (arith, ap (λ (t : List A). length (f t)) same, long, length-drop n (take z D), length-take-le z D far) in
+      ∙ omega (
+        arith,
+        ap (λ (t : List A). length (f t)) same,
+        long,
+        length-drop n (take z D),
+        length-take-le z D
+            far,
+      ) in
       sym (take-append-drop at l')
       ∙ (λ i. ef i ++ (ed ∙ part_over f n z D le far) i)
       ∙ ap (λ (t : List A). take at l ++ (X ++ t)) (drop-drop z at l ∙ ap (λ (k : ℕ). drop (at + k) l) (sym many))
@@ -82,7 +89,8 @@ old_cut n z nodes le =
 
 -- a cell over no limit, in lists that hold it
 asked_plain : (over : Bool) (n : ℕ) (lack : Answer) (s p : ℕ) → over ≡ false → lack ≡ (Ok tt)
-    → answer_of over n lack s p ≡ decided (when (ltb s 65536) (TooShort lent.Scratch) ∷ when (ltb p n) (TooShort lent.NewPlaces) ∷ [])
+    → answer_of over n lack s p ≡ decided (when (ltb s 65536) (TooShort lent.Scratch)
+    ∷ when (ltb p n) (TooShort lent.NewPlaces) ∷ [])
 unfolding answer_of
 asked_plain over n lack s p e w = rw (e, w)
 
@@ -183,7 +191,8 @@ module _ (y : CellSet) (j : ℕ) (part : MemberPart) (q : Lent y j part) where
       → answer_of (over_limit m'.ynd) m'.ynd.node_count (short m') s p ≡ causes s p
   asked_part m' e w s p =
       asked_plain (over_limit m'.ynd) m'.ynd.node_count (short m') s p (ap over_limit e ∙ few) w
-      ∙ ap (λ (u : Ynd). decided (when (ltb s 65536) (TooShort lent.Scratch) ∷ when (ltb p u.node_count) (TooShort lent.NewPlaces) ∷ [])) e
+      ∙ ap (λ (u : Ynd). decided (when (ltb s 65536) (TooShort lent.Scratch)
+      ∷ when (ltb p u.node_count) (TooShort lent.NewPlaces) ∷ [])) e
 
   module _ (S P : List ℕ) where
     abbrev o : Old
@@ -261,9 +270,11 @@ module _ (y : CellSet) (j : ℕ) (part : MemberPart) (q : Lent y j part) where
             (ltb-false (length S) 65536 f, ltb-false (length P) n g)))
           where
             first : Bool → Answer
-            first b = cond b (Err (TooShort lent.Scratch)) (cond (ltb (length P) n) (Err (TooShort lent.NewPlaces)) (Ok tt))
+            first b = cond b (Err (TooShort lent.Scratch))
+                (cond (ltb (length P) n) (Err (TooShort lent.NewPlaces)) (Ok tt))
 
-            second : ltb (length S) 65536 ≡ false → ltb (length P) n ≡ true → causes (length S) (length P) ≡ Err (TooShort lent.NewPlaces)
+            second : ltb (length S) 65536 ≡ false → ltb (length P) n ≡ true → causes (length S) (length P)
+                ≡ Err (TooShort lent.NewPlaces)
             second f u = rw (f, u)
 
             no : {Z : Type 0} {x : Refusal} → ◌≡◌ {A = Answer} (Err x) (Ok tt) → Z
@@ -461,7 +472,8 @@ module _ (y : CellSet) (j : ℕ) (part : MemberPart) (q : Lent y j part) where
 
             -- it is accepted
             pub never_refused : {Z : Type 0} (x : Refusal) → r ≡ Err x → Z
-            never_refused x q = not_refused (sym (ap (λ (z : Result Ynd Refusal). answer_from z) q) ∙ ap (λ (z : Renumbered). z.answer) done)
+            never_refused x q = not_refused (sym (ap (λ (z : Result Ynd Refusal). answer_from z) q)
+                ∙ ap (λ (z : Renumbered). z.answer) done)
 
             pub renumbered_at_law : (next : Ynd) → r ≡ Ok next → member_renumbered (Ok tt)
                 (cell_set (set ws j (entry_with next (get_or ws j []))) N' L' y.junctions y.heights R') P'

@@ -1,4 +1,5 @@
--- A sound set in which one member is renumbered: each crossing walk is the one before, its locations moved, and the set is sound.
+-- A sound set in which one member is renumbered: each crossing walk is the one before, its locations moved, and the
+-- set is sound.
 use Rattle.std.proofs.lemmas.List.{map-set}
 use Prim.Native.Nat.{ℕ, ◌<◌}
 use native.Mathlib.Omega.{arith}
@@ -13,9 +14,11 @@ use lib.Seq.{get_or-set_same, get_or-set_other, set-get_or}
 use borrow.Author.Tests.{eqb-true, eqb-false}
 use Rattle.cells.specs.Lists.{every}
 use Rattle.cells.specs.Order.{Old, parted, keep, new_place, new_number, renamed}
-use Rattle.cells.specs.Cell.{Link, Node, Cell, no_node, node_at, numbers, ped_flags, first_of, is_ped_node, is_vehicle_node, ordered, relink, old_nodes, renumber_cell}
+use Rattle.cells.specs.Cell.{Link, Node, Cell, no_node, node_at, numbers, ped_flags, first_of, is_ped_node}
+use Rattle.cells.specs.Cell.{is_vehicle_node, ordered, relink, old_nodes, renumber_cell}
 use Rattle.cells.specs.Lookup.{first_with, find}
-use Rattle.cells.proofs.Sequences.Tests.{and_left, and_right, by_test, every_at, every_any, every_map, every_keep, every_append, if_any, map_option}
+use Rattle.cells.proofs.Sequences.Tests.{and_left, and_right, by_test, every_at, every_any, every_map, every_keep}
+use Rattle.cells.proofs.Sequences.Tests.{every_append, if_any, map_option}
 use Rattle.cells.proofs.Renumbering.NewCell.{new_at, new_length, new_number_law, number_is, every_number}
 use Rattle.walks.specs.Sound.{differing, sound}
 use Rattle.walks.specs.Walk.{link_at, body_of, see}
@@ -25,7 +28,8 @@ use Rattle.walks.proofs.NewWalks.{move, move_next, AllNext, Simulates, walk_alik
 use Rattle.sets.specs.Members.{no_cell, cell_at, area_of, areas, member_for, map_from}
 use Rattle.sets.specs.Crossing.{Location, enter, world_in, crossing}
 use Rattle.sets.specs.SetSound.{has_node, link_arrives, node_arrives, member_arrives, set_sound}
-use Rattle.sets.specs.SetRenumber.{Change, is_member, corrected, correct_link, correct_node, correct_cell, change_of, renumber_cells}
+use Rattle.sets.specs.SetRenumber.{Change, is_member, corrected, correct_link, correct_node, correct_cell}
+use Rattle.sets.specs.SetRenumber.{change_of, renumber_cells}
 use Rattle.sets.specs.SetCalls.{moves_to}
 use Rattle.sets.specs.SetClaim.{Stands}
 use Rattle.sets.proofs.SetLists.{every_all, from_at, from_all, length_from, from_map, map_from_same}
@@ -49,7 +53,8 @@ area_kept c s = by_size c.nodes refl
 abbrev pub Numbered : List Cell → ℕ → Type 0
 Numbered cs i = (q : ℕ) → q < length (cell_at cs i).nodes → (node_at (cell_at cs i).nodes q).number ≡ q
 
--- What is to be known of a member i of the set ds, where a node at place p of it stood before, and the number k was the number n k.
+-- What is to be known of a member i of the set ds, where a node at place p of it stood before, and the number k was
+-- the number n k.
 pub record View (c d : Cell) (g : Link → Link) (f : ℕ → ℕ) (n : ℕ → ℕ) : Type 0 where
   pub same_count : length d.nodes ≡ length c.nodes
   pub inside : (p : ℕ) → p < length c.nodes → f p < length c.nodes
@@ -86,7 +91,8 @@ module _ (cs : List Cell) (j : ℕ) (lj : j < length cs) (s : set_sound cs ≡ t
 
   at_own : cell_at ds j ≡ renumber_cell cj
   unfolding renumber_cells
-  at_own = get_or-set_same (map_from (correct_cell x) 0 cs) j (renumber_cell cj) no_cell (rw (length_from (correct_cell x) 0 cs) lj)
+  at_own = get_or-set_same (map_from (correct_cell x) 0 cs) j (renumber_cell cj) no_cell
+      (rw (length_from (correct_cell x) 0 cs) lj)
 
   at_other : (i : ℕ) → i < length cs → eqb i j ≡ false → cell_at ds i ≡ correct_cell x i (cell_at cs i)
   unfolding renumber_cells
@@ -107,7 +113,8 @@ module _ (cs : List Cell) (j : ℕ) (lj : j < length cs) (s : set_sound cs ≡ t
   unfolding renumber_cells
   areas_same =
       map-set area_of (map_from (correct_cell x) 0 cs) j (renumber_cell cj)
-      ∙ (λ i. set (map_from_same area_of (correct_cell x) (λ k c. first_same x k c.nodes) 0 cs i) j (area_kept cj (sound_at j lj) i))
+      ∙ (λ i. set (map_from_same area_of (correct_cell x) (λ k c. first_same x k c.nodes) 0 cs i) j
+      (area_kept cj (sound_at j lj) i))
       ∙ ap (set (areas cs) j) (sym (area_at cs j))
       ∙ set-get_or (areas cs) j 0
 
@@ -127,7 +134,12 @@ module _ (cs : List Cell) (j : ℕ) (lj : j < length cs) (s : set_sound cs ≡ t
     has_same = λ k q h.
         let lt : q < length cj.nodes = rw length-map at h.inside in
         let m : new_place (ped_flags cj.nodes) q < length cj.nodes = (new_at cj.nodes q lt).0 in
-        rw (new_is o k q (part q lt).differ h) (record { inside = rw length-map (omega (arith, new_length cj)); number = number_is (renumber_cell cj).nodes _ ∙ new_number_law cj _ m });
+        rw (new_is o k q (part q lt).differ h)
+        (record {
+          inside = rw length-map (omega (arith, new_length cj));
+          number = number_is
+              (renumber_cell cj).nodes _ ∙ new_number_law cj _ m;
+        });
     differ_same = λ z. new_differ cj;
   }
     where
@@ -138,26 +150,31 @@ module _ (cs : List Cell) (j : ℕ) (lj : j < length cs) (s : set_sound cs ≡ t
       same (some l) = ap {B = Option Link} some (relink_own l)
       same none = refl
 
-  view_other : (i : ℕ) → i < length cs → View (cell_at cs i) (correct_cell x i (cell_at cs i)) (correct_link x i) (λ p. p) (λ k. k)
+  view_other : (i : ℕ) → i < length cs
+      → View (cell_at cs i) (correct_cell x i (cell_at cs i)) (correct_link x i) (λ p. p) (λ k. k)
   view_other i li = record {
     same_count = length-map (cell_at cs i).nodes (correct_node x i);
     inside = λ p lt. lt;
     see_same = λ p lt. see_same x i (cell_at cs i) p;
     link_same = λ p b lt. link_same x i (cell_at cs i).nodes p b;
     has_same = λ k q h. rw (numbers_same x i (cell_at cs i).nodes) h;
-    differ_same = λ z. rw (numbers_same x i (cell_at cs i).nodes) (sound_parts (cell_at cs i) z (sound_at i li)).differ;
+    differ_same = λ z. rw (numbers_same x i (cell_at cs i).nodes)
+        (sound_parts (cell_at cs i) z (sound_at i li)).differ;
   }
 
   view : (i : ℕ) → i < length cs → View (cell_at cs i) (cell_at ds i) (correct_link x i) (f i) (n i)
   view i li = go (eqb i j) refl
     where
-      go : (b : Bool) → eqb i j ≡ b → View (cell_at cs i) (cell_at ds i) (correct_link x i) (λ p. cond b (new_place (ped_flags cj.nodes) p) p) (λ k. cond b (new_number o k) k)
+      go : (b : Bool) → eqb i j ≡ b → View (cell_at cs i) (cell_at ds i) (correct_link x i)
+          (λ p. cond b (new_place (ped_flags cj.nodes) p) p) (λ k. cond b (new_number o k) k)
       go true t = let e : i ≡ j = eqb-true i j t in rw (e, at_own) view_own
       go false t = rw (at_other i li t) (view_other i li)
 
   -- a number that names a node of the member k names it still
   found : (k a q : ℕ) → k < length cs → Has (numbers (cell_at cs k).nodes) a q
-      → (find (numbers (cell_at cs k).nodes) a ≡ some q) × (find (numbers (cell_at ds k).nodes) (n k a) ≡ some (f k q)) × (first_with (numbers (cell_at ds k).nodes) (n k a) ≡ some (f k q)) × (q < length (cell_at cs k).nodes)
+      → (find (numbers (cell_at cs k).nodes) a ≡ some q)
+      × (find (numbers (cell_at ds k).nodes) (n k a) ≡ some (f k q))
+      × (first_with (numbers (cell_at ds k).nodes) (n k a) ≡ some (f k q)) × (q < length (cell_at cs k).nodes)
   found k a q lk h =
       let v = view k lk in
       let lt : q < length (cell_at cs k).nodes = rw length-map at h.inside in
@@ -176,13 +193,16 @@ module _ (cs : List Cell) (j : ℕ) (lj : j < length cs) (s : set_sound cs ≡ t
 
   -- a link leads to the node that it led to
   leads_same : (i : ℕ) → i < length cs → (l : Option Link) → if_any (link_arrives cs i) l
-      → (take_in ds i (map_option (correct_link x i) l) ≡ move_next (moves_to cs j) (take_in cs i l)) × AllNext (Stands cs) (take_in cs i l)
+      → (take_in ds i (map_option (correct_link x i) l) ≡ move_next (moves_to cs j) (take_in cs i l))
+      × AllNext (Stands cs) (take_in cs i l)
   unfolding corrected
   leads_same i li none h = (refl, tt)
   leads_same i li (some l) h = rw areas_same (go (member_for (areas cs) i l.area) (λ k e. there i l.area k li e) h)
     where
       go : (r : Option ℕ) → ((k : ℕ) → r ≡ some k → k < length cs) → has_node cs l.number r ≡ true
-          → (enter ds l.area (cond (is_member j r) (new_number o l.number) l.number) r ≡ move_next (moves_to cs j) (enter cs l.area l.number r)) × AllNext (Stands cs) (enter cs l.area l.number r)
+          → (enter ds l.area (cond (is_member j r) (new_number o l.number) l.number) r
+          ≡ move_next (moves_to cs j) (enter cs l.area l.number r))
+          × AllNext (Stands cs) (enter cs l.area l.number r)
       go none m h = (refl, tt)
       go (some k) m h =
           let w = named_has (numbers (cell_at cs k).nodes) l.number h in
@@ -190,10 +210,12 @@ module _ (cs : List Cell) (j : ℕ) (lj : j < length cs) (s : set_sound cs ≡ t
           rw (g.0, g.1) (refl, record { in_set = m k refl; in_cell = g.3 })
 
   -- the links of a node arrive
-  chosen : (t : Location) (b : ℕ) → Stands cs t → if_any (link_arrives cs t.member) (link_at (cell_at cs t.member).nodes t.place b)
+  chosen : (t : Location) (b : ℕ) → Stands cs t
+      → if_any (link_arrives cs t.member) (link_at (cell_at cs t.member).nodes t.place b)
   chosen t b h =
       every_any (link_arrives cs t.member) (node_at (cell_at cs t.member).nodes t.place).links b
-      (every_at (node_arrives cs t.member) (cell_at cs t.member).nodes t.place no_node (arrives_at t.member h.in_set) h.in_cell)
+      (every_at (node_arrives cs t.member) (cell_at cs t.member).nodes t.place no_node
+      (arrives_at t.member h.in_set) h.in_cell)
 
   body_same : (i : ℕ) (l : Option Link) → body_of (map_option (correct_link x i) l) ≡ body_of l
   body_same i (some l) = refl
@@ -201,31 +223,46 @@ module _ (cs : List Cell) (j : ℕ) (lj : j < length cs) (s : set_sound cs ≡ t
 
   pub simulates : Simulates (Stands cs) (world_in cs) (world_in ds) (moves_to cs j)
   simulates = record {
-    next_same = λ t b h. rw (next_is ds (moves_to cs j t) b, next_is cs t b, (view t.member h.in_set).link_same t.place b h.in_cell) (leads_same t.member h.in_set (link_at (cell_at cs t.member).nodes t.place b) (chosen t b h)).0;
-    next_ok = λ t b h. rw (next_is cs t b) (leads_same t.member h.in_set (link_at (cell_at cs t.member).nodes t.place b) (chosen t b h)).1;
+    next_same = λ t b h. rw (
+      next_is ds (moves_to cs j t) b,
+      next_is cs t b,
+      (view t.member h.in_set).link_same
+          t.place b h.in_cell,
+    ) (leads_same t.member h.in_set (link_at (cell_at cs t.member).nodes t.place b)
+        (chosen t b h)).0;
+    next_ok = λ t b h. rw (next_is cs t b)
+        (leads_same t.member h.in_set (link_at (cell_at cs t.member).nodes t.place b) (chosen t b h)).1;
     see_same = λ t h. (view t.member h.in_set).see_same t.place h.in_cell;
-    link_same = λ t b h. ap body_of ((view t.member h.in_set).link_same t.place b h.in_cell) ∙ body_same t.member (link_at (cell_at cs t.member).nodes t.place b);
+    link_same = λ t b h. ap body_of ((view t.member h.in_set).link_same t.place b h.in_cell)
+        ∙ body_same t.member (link_at (cell_at cs t.member).nodes t.place b);
   }
 
-  pub crossing_same : (bs : List ℕ) (t : Location) → Stands cs t → crossing ds bs (moves_to cs j t) ≡ move (moves_to cs j) (crossing cs bs t)
+  pub crossing_same : (bs : List ℕ) (t : Location) → Stands cs t → crossing ds bs (moves_to cs j t)
+      ≡ move (moves_to cs j) (crossing cs bs t)
   unfolding crossing
   crossing_same = walk_alike simulates
 
   pub stands_on : (t : Location) → Stands cs t → Stands ds (moves_to cs j t)
   stands_on t h =
       let v = view t.member h.in_set in
-      record { in_set = omega (arith, same_length, h.in_set); in_cell = omega (arith, v.same_count, v.inside t.place h.in_cell) }
+      record {
+        in_set = omega (arith, same_length, h.in_set);
+        in_cell = omega
+            (arith, v.same_count, v.inside t.place h.in_cell);
+      }
 
   pub same_nodes : (i : ℕ) → i < length cs → length (cell_at ds i).nodes ≡ length (cell_at cs i).nodes
   same_nodes i li = (view i li).same_count
 
   -- ---- soundness
 
-  link_arrives_law : (i : ℕ) → i < length cs → (l : Link) → link_arrives cs i l ≡ true → link_arrives ds i (correct_link x i l) ≡ true
+  link_arrives_law : (i : ℕ) → i < length cs → (l : Link) → link_arrives cs i l ≡ true
+      → link_arrives ds i (correct_link x i l) ≡ true
   unfolding corrected
   link_arrives_law i li l h = rw areas_same (go (member_for (areas cs) i l.area) (λ k e. there i l.area k li e) h)
     where
-      go : (r : Option ℕ) → ((k : ℕ) → r ≡ some k → k < length cs) → has_node cs l.number r ≡ true → has_node ds (cond (is_member j r) (new_number o l.number) l.number) r ≡ true
+      go : (r : Option ℕ) → ((k : ℕ) → r ≡ some k → k < length cs) → has_node cs l.number r ≡ true
+          → has_node ds (cond (is_member j r) (new_number o l.number) l.number) r ≡ true
       go none m h = refl
       go (some k) m h =
           let w = named_has (numbers (cell_at cs k).nodes) l.number h in
@@ -236,9 +273,12 @@ module _ (cs : List Cell) (j : ℕ) (lj : j < length cs) (s : set_sound cs ≡ t
   own_arrives =
       let all = arrives_at j lj in
       every_number o (node_arrives ds j) (node_arrives cs j)
-      (λ k m h. every_map (link_arrives ds j) (relink o) (link_arrives cs j) (λ l t. ap (link_arrives ds j) (relink_own l) ∙ link_arrives_law j lj l t) m.links h)
+      (λ k m h. every_map (link_arrives ds j) (relink o) (link_arrives cs j)
+      (λ l t. ap (link_arrives ds j) (relink_own l) ∙ link_arrives_law j lj l t) m.links h)
       0 (ordered cj.nodes)
-      (every_append (node_arrives cs j) (keep is_vehicle_node cj.nodes) (keep is_ped_node cj.nodes) (every_keep (node_arrives cs j) is_vehicle_node cj.nodes all) (every_keep (node_arrives cs j) is_ped_node cj.nodes all))
+      (every_append (node_arrives cs j) (keep is_vehicle_node cj.nodes) (keep is_ped_node cj.nodes)
+      (every_keep (node_arrives cs j) is_vehicle_node cj.nodes all)
+      (every_keep (node_arrives cs j) is_ped_node cj.nodes all))
 
   other_arrives : (i : ℕ) → i < length cs → member_arrives ds i (correct_cell x i (cell_at cs i)) ≡ true
   other_arrives i li =
@@ -249,7 +289,11 @@ module _ (cs : List Cell) (j : ℕ) (lj : j < length cs) (s : set_sound cs ≡ t
   member_sound : (i : ℕ) → i < length cs → (sound (cell_at ds i) ≡ true) × (member_arrives ds i (cell_at ds i) ≡ true)
   member_sound i li = by_test (eqb i j)
       (λ t. let e : i ≡ j = eqb-true i j t in rw (e, at_own) (sound_new cj (sound_at j lj), own_arrives))
-      (λ t. rw (at_other i li t) (correct_sound x i (cell_at cs i) (area_at cs i) t (sound_at i li), other_arrives i li))
+      (λ t. rw (at_other i li t) (
+        correct_sound x i (cell_at cs i) (area_at cs i) t (sound_at i li),
+        other_arrives i
+            li,
+      ))
 
   pub set_sound_law : set_sound ds ≡ true
   unfolding set_sound
@@ -267,11 +311,13 @@ module _ (cs : List Cell) (j : ℕ) (lj : j < length cs) (s : set_sound cs ≡ t
   pub numbered_all : (i : ℕ) → i < length cs → Numbered cs i → Numbered ds i
   numbered_all i li h = by_test (eqb i j)
       (λ t. let e : i ≡ j = eqb-true i j t in rw e numbered_own)
-      (λ t. rw (at_other i li t) (λ q lt. ap (λ (m : Node). m.number) (node_same x i (cell_at cs i).nodes q) ∙ h q (rw length-map at lt)))
+      (λ t. rw (at_other i li t) (λ q lt. ap (λ (m : Node). m.number) (node_same x i (cell_at cs i).nodes q)
+      ∙ h q (rw length-map at lt)))
 
   -- ---- what holds of each member
 
-  pub members_hold : (P : Cell → Bool) → P (renumber_cell cj) ≡ true → ((i : ℕ) → i < length cs → P (correct_cell x i (cell_at cs i)) ≡ true) → every P ds ≡ true
+  pub members_hold : (P : Cell → Bool) → P (renumber_cell cj) ≡ true
+      → ((i : ℕ) → i < length cs → P (correct_cell x i (cell_at cs i)) ≡ true) → every P ds ≡ true
   members_hold P own other = every_all P ds no_cell (λ i lt.
       by_test (eqb i j)
       (λ t. let e : i ≡ j = eqb-true i j t in rw (e, at_own) own)

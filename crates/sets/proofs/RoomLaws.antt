@@ -16,7 +16,8 @@ use Rattle.cells.specs.Memory.{memory, over_limit}
 use Rattle.cells.proofs.Sequences.Tests.{by_test, and_left, and_right, every_at, true_false}
 use Rattle.sets.specs.Members.{map_from}
 use Rattle.sets.specs.MemberList.{nodes_together, any_over, over_set}
-use Rattle.sets.specs.CellSet.{CellSet, word, ynd_of, words_at, total, Parts, parts_in, member_with, members_of, room_for, holds_list, lack_of, lack, set_causes}
+use Rattle.sets.specs.CellSet.{CellSet, word, ynd_of, words_at, total, Parts, parts_in, member_with, members_of}
+use Rattle.sets.specs.CellSet.{room_for, holds_list, lack_of, lack, set_causes}
 use Rattle.sets.specs.SetParts.{Holding, Holds, bare, list_causes}
 use Rattle.sets.proofs.SetLists.{length_from}
 use Rattle.std.specs.Prelude.{Ok, Err}
@@ -25,7 +26,8 @@ use Rattle.numbers.specs.declared.refusal.Refusal.TheVariants.{AtLimit}
 
 -- ---- limits
 
-pub any_found : (ws : List (List ℕ)) (i : ℕ) → i < length ws → over_limit (ynd_of (get_or ws i [])) ≡ true → true ≡ any_over (bare ws)
+pub any_found : (ws : List (List ℕ)) (i : ℕ) → i < length ws → over_limit (ynd_of (get_or ws i [])) ≡ true → true
+    ≡ any_over (bare ws)
 unfolding any_over bare
 any_found [] i lt e = absurd (omega arith)
 any_found (w ∷ ws) zero lt e = rw e
@@ -53,30 +55,36 @@ pub over_many : (ws : List (List ℕ)) → 9 < length ws → true ≡ over_set (
 unfolding over_set
 over_many ws h = rw (bare_many ws, lt-ltb 9 (length ws) h)
 
-pub over_nodes : (ws : List (List ℕ)) (n : ℕ) → length ws ≤ 9 → n ≡ total (words_at 10 ws) → 65536 < n → true ≡ over_set (bare ws)
+pub over_nodes : (ws : List (List ℕ)) (n : ℕ) → length ws ≤ 9 → n ≡ total (words_at 10 ws) → 65536 < n → true
+    ≡ over_set (bare ws)
 unfolding over_set
 over_nodes ws n h e l = rw (bare_many ws, le-ltb 9 (length ws) h, bare_together ws, ← e, lt-ltb 65536 n l)
 
-pub over_else : (ws : List (List ℕ)) (n : ℕ) → length ws ≤ 9 → n ≡ total (words_at 10 ws) → n ≤ 65536 → any_over (bare ws) ≡ over_set (bare ws)
+pub over_else : (ws : List (List ℕ)) (n : ℕ) → length ws ≤ 9 → n ≡ total (words_at 10 ws) → n ≤ 65536
+    → any_over (bare ws) ≡ over_set (bare ws)
 unfolding over_set
 over_else ws n h e l = rw (bare_many ws, le-ltb 9 (length ws) h, bare_together ws, ← e, le-ltb 65536 n l)
 
 -- what a set that is over no limit has
 pub few_members : (ws : List (List ℕ)) → over_set (bare ws) ≡ false → length ws ≤ 9
 unfolding over_set
-few_members ws e = by_test (ltb 9 (length ws)) (λ t. true_false (sym (over_true t) ∙ e)) (λ f. ltb-false 9 (length ws) f)
+few_members ws e = by_test (ltb 9 (length ws)) (λ t. true_false (sym (over_true t) ∙ e))
+    (λ f. ltb-false 9 (length ws) f)
   where
-    over_true : ltb 9 (length ws) ≡ true → ltb 9 (length (bare ws)) || (ltb 65536 (nodes_together (bare ws)) || any_over (bare ws)) ≡ true
+    over_true : ltb 9 (length ws) ≡ true → ltb 9 (length (bare ws))
+        || (ltb 65536 (nodes_together (bare ws)) || any_over (bare ws)) ≡ true
     over_true t = rw (bare_many ws, t)
 
 -- ---- the members' own limits are those of their entries
 
-pub from_together : (p : Parts) (k : ℕ) (ws : List (List ℕ)) → nodes_together (map_from (member_with p) k ws) ≡ nodes_together (bare ws)
+pub from_together : (p : Parts) (k : ℕ) (ws : List (List ℕ)) → nodes_together (map_from (member_with p) k ws)
+    ≡ nodes_together (bare ws)
 unfolding nodes_together bare map_from
 from_together p k [] = refl
 from_together p k (w ∷ ws) = ap (λ (n : ℕ). (ynd_of w).node_count + n) (from_together p (suc k) ws)
 
-pub from_over : (p : Parts) (k : ℕ) (ws : List (List ℕ)) → any_over (map_from (member_with p) k ws) ≡ any_over (bare ws)
+pub from_over : (p : Parts) (k : ℕ) (ws : List (List ℕ)) → any_over (map_from (member_with p) k ws)
+    ≡ any_over (bare ws)
 unfolding any_over bare map_from
 from_over p k [] = refl
 from_over p k (w ∷ ws) = ap (λ (b : Bool). over_limit (ynd_of w) || b) (from_over p (suc k) ws)
@@ -86,15 +94,18 @@ unfolding over_set members_of
 members_over y =
     let p = parts_in y in
     let ws = y.members in
-    λ i. ltb 9 ((length_from (member_with p) 0 ws ∙ sym (bare_many ws)) i) || (ltb 65536 (from_together p 0 ws i) || from_over p 0 ws i)
+    λ i. ltb 9 ((length_from (member_with p) 0 ws ∙ sym (bare_many ws)) i)
+    || (ltb 65536 (from_together p 0 ws i) || from_over p 0 ws i)
 
 -- ---- room
 
-pub held_no : (k size : ℕ) (ws : List (List ℕ)) (len : ℕ) → every (room_for k size) ws ≡ false → false ≡ holds_list k size ws len
+pub held_no : (k size : ℕ) (ws : List (List ℕ)) (len : ℕ) → every (room_for k size) ws ≡ false → false
+    ≡ holds_list k size ws len
 unfolding holds_list
 held_no k size ws len e = rw e
 
-pub held_yes : (k size : ℕ) (ws : List (List ℕ)) (len n : ℕ) → every (room_for k size) ws ≡ true → n ≡ total (words_at size ws) → leb n len ≡ holds_list k size ws len
+pub held_yes : (k size : ℕ) (ws : List (List ℕ)) (len n : ℕ) → every (room_for k size) ws ≡ true → n
+    ≡ total (words_at size ws) → leb n len ≡ holds_list k size ws len
 unfolding holds_list
 held_yes k size ws len n e en = rw (e, en)
 
@@ -102,7 +113,8 @@ pub holding : (k size : ℕ) (ws : List (List ℕ)) (len : ℕ) → holds_list k
 unfolding holds_list
 holding k size ws len t = record {
   fit = leb-true _ _ (and_right (every (room_for k size) ws) (leb (total (words_at size ws)) len) t);
-  held = λ i lt. leb-true _ _ (every_at (room_for k size) ws i [] (and_left (every (room_for k size) ws) (leb (total (words_at size ws)) len) t) lt);
+  held = λ i lt. leb-true _ _ (every_at (room_for k size) ws i []
+      (and_left (every (room_for k size) ws) (leb (total (words_at size ws)) len) t) lt);
 }
 
 -- of an accepted list the later causes are an accepted list
@@ -125,7 +137,8 @@ holds y e = record {
 
 -- the set's causes, by its entries and the lists' lengths
 abbrev pub lists_of : CellSet → Answer
-lists_of y = decided (list_causes y.members (length y.nodes) (length y.links) (length y.junctions) (length y.heights) (length y.refs))
+lists_of y = decided (list_causes y.members (length y.nodes) (length y.links) (length y.junctions)
+    (length y.heights) (length y.refs))
 
 pub causes_held : (y : CellSet) → decided (set_causes y) ≡ lists_of y
 unfolding set_causes list_causes

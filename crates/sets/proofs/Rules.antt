@@ -1,22 +1,14 @@
 -- The laws that functions of the set's calls go by, for the check.
-use borrow.Author.Tests.{leb-true}
-use Rattle.std.proofs.Math.Seq.{length-take-le, get_or-take}
 use Rattle.std.proofs.lemmas.List.{get_or_default}
-use Rattle.std.proofs.lemmas.List.Edits.{map_over_more, paste_all}
-use Rattle.std.proofs.lemmas.Slice.{put_mid-paste}
+use Rattle.std.proofs.lemmas.List.Edits.{map_over_more}
 use Rattle.numbers.proofs.Refusing.{tested}
-use Rattle.cells.proofs.Lookups.AreaLaws.{own_of_none}
-use Rattle.sets.proofs.PartLaws.{rest, start_next, end_cut, end_inside}
-use Rattle.sets.proofs.CellSetLaws.{first_cut, first_found, first_none}
 use Rattle.sets.proofs.RoomLaws.{few_members, held_no, held_yes, over_many, over_nodes, over_else}
 use Rattle.sets.proofs.CrossLaws.{lent_many, named_there}
-use Rattle.sets.proofs.CrossCases.{starts, walking, visited_short, walked}
-use Rattle.sets.proofs.ArrivalLaws.{meets_it, meets_other, meets_nobody}
+use Rattle.sets.proofs.CrossCases.{starts, walked}
+use Rattle.sets.proofs.ArrivalLaws.{meets_it, meets_other}
 use Rattle.sets.proofs.JoinLaws.{not_held, list_held, cell_short, part_small, part_large, part_behind}
 use Rattle.sets.proofs.JoinLaws.{tenth, beyond, member_over, cell_over}
 use Rattle.sets.proofs.JoinLaws.{few_of, area_there, limit_passed, list_full, may_join}
-
-pub ruleset area_laws = (own_of_none, rest, first_cut)
 
 pub ruleset fit_laws = (not_held, list_held, cell_short, part_small, part_large, part_behind)
 
@@ -30,16 +22,12 @@ pub ruleset few_laws = (tested, few_members)
 
 -- ---- areas and members
 
-pub ruleset meet_laws = (lent_many, meets_it, meets_other, meets_nobody)
+pub ruleset meet_laws = (lent_many, meets_it, meets_other)
 
 -- ---- parts of the lists
-
-pub ruleset before_laws = (length-take-le, get_or-take, start_next)
-
-pub ruleset paste_laws = (paste_all, put_mid-paste)
 
 pub ruleset map_laws = (map_over_more, get_or_default)
 
 -- ---- calls
 
-pub ruleset start_laws = (few_members, starts, walking, visited_short, walked, leb-true)
+pub ruleset start_laws = (few_members, starts, walked)

@@ -19,7 +19,8 @@ use Rattle.sets.specs.SetRenumber.{both_in, not_written, write_read_in}
 use Rattle.sets.specs.SetCalls.{SetCall, after_in, run_in, renumbers_in, moves_to, moved_in}
 use Rattle.sets.specs.CellSet.{CellSet, members_of}
 use Rattle.sets.specs.SetStored.{member_in, with_member}
-use Rattle.sets.specs.RenumberMember.{MemberRenumbered, member_renumbered, others_corrected, lists_after, renumbered_at}
+use Rattle.sets.specs.RenumberMember.{MemberRenumbered, member_renumbered, others_corrected, lists_after}
+use Rattle.sets.specs.RenumberMember.{renumbered_at}
 use Rattle.sets.specs.RenumberMember.{renumber_member}
 use Rattle.sets.specs.WriteMember as write
 use Rattle.sets.specs.WriteMember.{SetWritten, set_written, wrote_in, write_read_member}

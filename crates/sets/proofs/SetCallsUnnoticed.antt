@@ -23,9 +23,9 @@ use Rattle.sets.specs.SetSound.{set_sound}
 use Rattle.sets.specs.MemberList.{cells_of}
 use Rattle.sets.specs.SetCalls.{SetCall, run_in, renumbers_in, moves_to, moved_in, any_renumbers_in}
 use Rattle.sets.specs.CrossingCall.{CrossingLeft, location_words, visit_words, crossed_by, crossing_call}
-use Rattle.sets.specs.SetClaim.{Stands, CellAsRead, SetUnnoticed}
+use Rattle.sets.specs.SetClaim.{Stands, SetUnnoticed}
 use Rattle.sets.specs.CellSet.{CellSet, members_of, set_causes}
-use Rattle.sets.specs.SetStored.{member_in, ask_causes}
+use Rattle.sets.specs.SetStored.{ask_causes}
 use Rattle.sets.specs.CrossMember.{cross_causes, cross_member}
 use Rattle.sets.specs.RenumberMember.{MemberRenumbered, member_renumbered, renumber_member}
 use Rattle.sets.specs.WriteMember.{SetWritten, set_written, write_read_member}

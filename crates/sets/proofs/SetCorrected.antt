@@ -104,7 +104,8 @@ module _ (y : CellSet) (j : ℕ) (u : Usable y) where
       ∙ ap (λ (l : List (List ℕ)). memory (ynd_of (get_or y.members j []))
       (get_or (parts_of (words_at 15 y.members) y.nodes) j []) l
       (get_or (parts_of (words_at 17 y.members) y.junctions) j [])
-      (get_or (parts_of (words_at 18 y.members) y.heights) j []) (get_or (parts_of (words_at 19 y.members) y.refs) j []))
+      (get_or (parts_of (words_at 18 y.members) y.heights) j [])
+      (get_or (parts_of (words_at 19 y.members) y.refs) j []))
       (part_at j lt ∙ rw (eq-eqb j j refl) refl)
       ∙ sym (member_at_law y j lt)
 
@@ -117,7 +118,8 @@ module _ (y : CellSet) (j : ℕ) (u : Usable y) where
       ∙ ap (λ (l : List (List ℕ)). memory (ynd_of (get_or y.members i []))
       (get_or (parts_of (words_at 15 y.members) y.nodes) i []) l
       (get_or (parts_of (words_at 17 y.members) y.junctions) i [])
-      (get_or (parts_of (words_at 18 y.members) y.heights) i []) (get_or (parts_of (words_at 19 y.members) y.refs) i []))
+      (get_or (parts_of (words_at 18 y.members) y.heights) i [])
+      (get_or (parts_of (words_at 19 y.members) y.refs) i []))
       (part_at i li ∙ rw ne refl)
       ∙ ap (correct_memory x i) (sym (member_at_law y i li))
 

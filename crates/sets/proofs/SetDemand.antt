@@ -23,7 +23,7 @@ use Rattle.sets.proofs.CrossingAlike.{Held, same_over, answers_alike, run_held}
 use Rattle.std.specs.Prelude.{Ok}
 
 -- of a sound set that storing keeps, in lists that hold it, and of every list of calls
-unnoticed : (ms : List Memory) → Fit (cells_of ms) → Held ms → (calls : List SetCall) → SetUnnoticed ms calls
+pub unnoticed : (ms : List Memory) → Fit (cells_of ms) → Held ms → (calls : List SetCall) → SetUnnoticed ms calls
 unnoticed ms h l calls =
     let ds = run_in ms calls in
     let f = moved_in ms calls in
@@ -40,9 +40,12 @@ unnoticed ms h l calls =
       same_member = a.same_member;
       still_sound = (run_fit ms calls h).is_sound;
       same_areas = a.same_areas;
-      same_walks = λ choices s st. same_walk f (crossing (cells_of ms) choices s) (crossing (cells_of ds) choices (f s)) (a.same_walks choices s st);
+      same_walks = λ choices s st.
+          same_walk f (crossing (cells_of ms) choices s) (crossing (cells_of ds) choices (f s))
+          (a.same_walks choices s st);
       same_answers = λ choices s st. answers_alike ms ds f l lies over choices s st (a.inside s st)
-          (same_walk f (crossing (cells_of ms) choices s) (crossing (cells_of ds) choices (f s)) (a.same_walks choices s st));
+          (same_walk f (crossing (cells_of ms) choices s) (crossing (cells_of ds) choices (f s))
+          (a.same_walks choices s st));
       numbered = λ i li. run_numbers ms calls h i (rw length-map li);
     }
 
@@ -59,7 +62,8 @@ set_unnoticed ms r s calls =
     calls
 
 -- the memory that an accepted reading leaves is a member as read
-pub as_read : (system graphics : List ℕ) (lent : Memory) → (read_of system graphics lent).answer ≡ (Ok tt) → CellAsRead (read_of system graphics lent).memory
+pub as_read : (system graphics : List ℕ) (lent : Memory) → (read_of system graphics lent).answer ≡ (Ok tt)
+    → CellAsRead (read_of system graphics lent).memory
 as_read system graphics lent e =
     let l = read_lies system graphics lent e in
     record {

@@ -1,4 +1,5 @@
--- The claim speaks of something: a sound set of two members that link into each other, one of which is renumbered. All of it is computed.
+-- The claim speaks of something: a sound set of two members that link into each other, one of which is renumbered.
+-- All of it is computed.
 use Prim.Native.Nat.{ℕ, ◌+◌, ◌*◌}
 use mathlib.Core.Path.{◌≡◌, refl}
 use mathlib.Core.Bool.{true, false}
@@ -10,10 +11,12 @@ use Rattle.cells.specs.Memory.{Memory, memory, over_limit, short_of}
 use Rattle.cells.specs.Words.{to_node}
 use Rattle.cells.specs.Area.{belongs}
 use Rattle.cells.specs.Order.{keep, rank, parted, new_place, listed, new_places, last_with, new_number, renamed}
-use Rattle.cells.specs.NodeWords.{area_of, number_of, is_ped, numbered, number_from, reordered, first_area, old_of, relinked}
+use Rattle.cells.specs.NodeWords.{area_of, number_of, is_ped, numbered, number_from, reordered, first_area, old_of}
+use Rattle.cells.specs.NodeWords.{relinked}
 use Rattle.cells.specs.CellOf.{body_of, nodes_of, junctions_of, refs_of, cell_of}
 use Rattle.cells.specs.Lookup.{first_with, find}
-use Rattle.cells.specs.Renumber.{vehicles, peds, renumber_lists, recounted, answer_of, new_lists, renumber_memory, renumber}
+use Rattle.cells.specs.Renumber.{vehicles, peds, renumber_lists, recounted, answer_of, new_lists, renumber_memory}
+use Rattle.cells.specs.Renumber.{renumber}
 use Rattle.cells.specs.declared.ynd.Ynd.{Ynd}
 use Rattle.walks.specs.Sound.{differing, sound}
 use Rattle.walks.specs.Walk.{next, walk_in}
@@ -28,7 +31,8 @@ use Rattle.sets.specs.SetCalls.{SetCall, after_in, run_in, renumbers_in, moved_i
 
 -- a node of this area and number with one link
 abbrev node : ℕ → ℕ → ℕ → ℕ → List ℕ
-node area number link flags1 = (area + number * 65536) ∷ 1 ∷ 2 ∷ 3 ∷ 4 ∷ (flags1 * 256) ∷ 65536 ∷ link ∷ 7 ∷ 8 ∷ 9 ∷ 10 ∷ 11 ∷ []
+node area number link flags1 = (area + number * 65536) ∷ 1 ∷ 2 ∷ 3 ∷ 4 ∷ (flags1 * 256) ∷ 65536 ∷ link ∷ 7 ∷ 8 ∷ 9
+    ∷ 10 ∷ 11 ∷ []
 
 abbrev link : ℕ → ℕ → List ℕ
 link area number = area ∷ number ∷ 5 ∷ 6 ∷ []
@@ -46,7 +50,8 @@ two = record {
   ref_count = 0;
 }
 
--- area 5: nodes 7 and 3 (ped), links to node 9 of the area 6 and out of the set; area 6: nodes 4 (ped) and 9, links to 7 and to 3 of the area 5
+-- area 5: nodes 7 and 3 (ped), links to node 9 of the area 6 and out of the set; area 6: nodes 4 (ped) and 9, links
+-- to 7 and to 3 of the area 5
 abbrev yards : List Memory
 yards =
     memory two (node 5 7 0 0 ∷ node 5 3 1 80 ∷ []) (link 6 9 ∷ link 8 1 ∷ []) [] [] []
@@ -54,32 +59,45 @@ yards =
     ∷ []
 
 pub yards_sound : set_sound (cells_of yards) ≡ true
-unfolding set_sound sound every every_from member_for belongs first_with cell_of nodes_of junctions_of refs_of area_of number_of body_of to_node differing
+unfolding set_sound sound every every_from member_for belongs first_with cell_of nodes_of junctions_of refs_of
+    area_of number_of body_of to_node differing
 yards_sound = refl
 
 abbrev call : SetCall
 call = record { member = 1; call = renumbering (replicate 65536 7) (50 ∷ 51 ∷ []) }
 
 -- the walk by the first link of each node, until it leaves the set
-pub first_visits : places (crossing (cells_of yards) (0 ∷ 0 ∷ 0 ∷ []) (location 0 0)) ≡ location 0 0 ∷ location 1 1 ∷ location 0 1 ∷ []
-unfolding crossing walk_in next_in next find member_for belongs first_with cell_of nodes_of junctions_of refs_of area_of number_of body_of to_node
+pub first_visits : places (crossing (cells_of yards) (0 ∷ 0 ∷ 0 ∷ []) (location 0 0)) ≡ location 0 0 ∷ location 1 1
+    ∷ location 0 1 ∷ []
+unfolding crossing walk_in next_in next find member_for belongs first_with cell_of nodes_of junctions_of refs_of
+    area_of number_of body_of to_node
 first_visits = refl
 
 pub renumbered : renumbers_in yards call ≡ true
-unfolding renumbers_in renumber_in member_causes over_set nodes_together any_over over_limit renumber answer_of short_of no_memory
+unfolding renumbers_in renumber_in member_causes over_set nodes_together any_over over_limit renumber answer_of
+    short_of no_memory
 renumbered = refl
 
 -- the second member's nodes change places, and the first member's link follows
 pub corrected_link : get_or (member_at (run_in yards (call ∷ [])) 0).links 0 [] ≡ link 6 0
-unfolding run_in after_in renumber_in member_causes over_set nodes_together any_over over_limit renumber answer_of short_of map_from correct_memory correct_words member_for belongs first_with no_memory cell_of nodes_of junctions_of refs_of area_of number_of body_of to_node new_number last_with new_place keep rank is_ped
+unfolding run_in after_in renumber_in member_causes over_set nodes_together any_over over_limit renumber answer_of
+    short_of map_from correct_memory correct_words member_for belongs first_with no_memory cell_of nodes_of
+    junctions_of refs_of area_of number_of body_of to_node new_number last_with new_place keep rank is_ped
 corrected_link = refl
 
-pub moves : map (moved_in yards (call ∷ [])) (location 0 0 ∷ location 1 1 ∷ location 0 1 ∷ []) ≡ location 0 0 ∷ location 1 0 ∷ location 0 1 ∷ []
-unfolding moved_in renumbers_in renumber_in member_causes over_set nodes_together any_over over_limit renumber answer_of short_of no_memory new_place keep rank cell_of nodes_of area_of number_of body_of to_node
+pub moves : map (moved_in yards (call ∷ [])) (location 0 0 ∷ location 1 1 ∷ location 0 1 ∷ []) ≡ location 0 0
+    ∷ location 1 0 ∷ location 0 1 ∷ []
+unfolding moved_in renumbers_in renumber_in member_causes over_set nodes_together any_over over_limit renumber
+    answer_of short_of no_memory new_place keep rank cell_of nodes_of area_of number_of body_of to_node
 moves = refl
 
-pub later_visits : places (crossing (cells_of (run_in yards (call ∷ []))) (0 ∷ 0 ∷ 0 ∷ []) (location 0 0)) ≡ location 0 0 ∷ location 1 0 ∷ location 0 1 ∷ []
-unfolding run_in after_in renumber_in member_causes over_set nodes_together any_over over_limit renumber answer_of short_of map_from correct_memory correct_words no_memory new_number last_with new_place keep rank is_ped renumber_memory new_lists renumber_lists recounted vehicles peds reordered number_from numbered parted first_area old_of relinked renamed new_places listed crossing walk_in next_in next find member_for belongs first_with cell_of nodes_of junctions_of refs_of area_of number_of body_of to_node
+pub later_visits : places (crossing (cells_of (run_in yards (call ∷ []))) (0 ∷ 0 ∷ 0 ∷ []) (location 0 0))
+    ≡ location 0 0 ∷ location 1 0 ∷ location 0 1 ∷ []
+unfolding run_in after_in renumber_in member_causes over_set nodes_together any_over over_limit renumber answer_of
+    short_of map_from correct_memory correct_words no_memory new_number last_with new_place keep rank is_ped
+    renumber_memory new_lists renumber_lists recounted vehicles peds reordered number_from numbered parted
+    first_area old_of relinked renamed new_places listed crossing walk_in next_in next find member_for belongs
+    first_with cell_of nodes_of junctions_of refs_of area_of number_of body_of to_node
 later_visits = refl
 
 -- ---- the limits: nine members, and 65,536 nodes together

@@ -34,7 +34,8 @@ use Rattle.sets.specs.Join.{joined_member, with_cell, join_cell}
 use Rattle.sets.specs.SetParts.{Holding, Holds}
 use Rattle.sets.specs.HandBack.{copied, leaver, lack_of_back, hand_causes, hand_back}
 use Rattle.sets.specs.SetStored.{member_in}
-use Rattle.sets.specs.SetCallLaws.{joined_set, JoinStores, JoinStoresTheorem, ReadThenJoin, JoinThenLeave, JoinThenLeaveTheorem}
+use Rattle.sets.specs.SetCallLaws.{joined_set, JoinStores, JoinStoresTheorem, ReadThenJoin, JoinThenLeave}
+use Rattle.sets.specs.SetCallLaws.{JoinThenLeaveTheorem}
 use Rattle.cells.specs.declared.count.Counts.{Counts}
 use Rattle.sets.proofs.CellSetLaws.{members_many}
 use Rattle.sets.proofs.JoinLaws.{Fitting, AllFit, all_fit, both_done, together_more, over_more}

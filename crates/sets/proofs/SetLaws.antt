@@ -21,7 +21,9 @@ use Rattle.cells.specs.WriteRead.{if_read, if_written, write_read_of}
 use Rattle.cells.proofs.Sequences.Tests.{by_test, true_false}
 use Rattle.sets.specs.Members.{cell_at, area_of, areas, member_for}
 use Rattle.sets.specs.MemberList.{member_at, member_causes, unless}
-use Rattle.sets.specs.SetRenumber.{Change, is_member, meant, change_of, correct_words, correct_memory, members_after, SetRenumbered, renumbered_in, not_renumbered, renumber_in, SetBoth, both_in, not_written, write_read_in}
+use Rattle.sets.specs.SetRenumber.{Change, is_member, meant, change_of, correct_words, correct_memory}
+use Rattle.sets.specs.SetRenumber.{members_after, SetRenumbered, renumbered_in, not_renumbered, renumber_in}
+use Rattle.sets.specs.SetRenumber.{SetBoth, both_in, not_written, write_read_in}
 use Rattle.sets.proofs.SetLists.{over_same}
 use Rattle.sets.proofs.MemberLaws.{first_has, area_at}
 use Rattle.std.specs.Prelude.{Result, Ok, Err}
@@ -30,7 +32,8 @@ use Rattle.numbers.specs.declared.refusal.Refusal.{Refusal}
 
 -- ---- "A write refused in one member changes none", and so a renumbering
 
-pub written_refused : (m : Memory) (s : List ℕ) (x : Refusal) → (write_read_of m s).answer ≡ Err x → ((write_read_of m s).memory ≡ m) × ((write_read_of m s).section ≡ s)
+pub written_refused : (m : Memory) (s : List ℕ) (x : Refusal) → (write_read_of m s).answer ≡ Err x
+    → ((write_read_of m s).memory ≡ m) × ((write_read_of m s).section ≡ s)
 unfolding write_read_of
 written_refused m s x e = go (write_call m s).answer e
   where
@@ -38,15 +41,18 @@ written_refused m s x e = go (write_call m s).answer e
     t = (write_call m s).section
 
     reading : (n : ℕ) (c : Answer) → (if_read n t c (read_of (take n t) [] m).memory m s).answer ≡ Err x
-        → ((if_read n t c (read_of (take n t) [] m).memory m s).memory ≡ m) × ((if_read n t c (read_of (take n t) [] m).memory m s).section ≡ s)
+        → ((if_read n t c (read_of (take n t) [] m).memory m s).memory ≡ m)
+        × ((if_read n t c (read_of (take n t) [] m).memory m s).section ≡ s)
     reading n (Err y) e = (refl, refl)
     reading n (Ok tt) e = let z : ◌≡◌ {A = ℕ} 0 1 = cc in absurd (omega arith)
 
-    go : (a : Result ℕ Refusal) → (if_written a t m s).answer ≡ Err x → ((if_written a t m s).memory ≡ m) × ((if_written a t m s).section ≡ s)
+    go : (a : Result ℕ Refusal) → (if_written a t m s).answer ≡ Err x → ((if_written a t m s).memory ≡ m)
+        × ((if_written a t m s).section ≡ s)
     go (Err y) e = (refl, refl)
     go (Ok n) e = reading n (read_of (take n t) [] m).answer e
 
-pub write_refused : (ms : List Memory) (j : ℕ) (s : List ℕ) (x : Refusal) → (write_read_in ms j s).answer ≡ Err x → ((write_read_in ms j s).members ≡ ms) × ((write_read_in ms j s).section ≡ s)
+pub write_refused : (ms : List Memory) (j : ℕ) (s : List ℕ) (x : Refusal) → (write_read_in ms j s).answer ≡ Err x
+    → ((write_read_in ms j s).members ≡ ms) × ((write_read_in ms j s).section ≡ s)
 unfolding write_read_in
 write_refused ms j s x e = go (decided (member_causes ms j)) e
   where
@@ -54,10 +60,12 @@ write_refused ms j s x e = go (decided (member_causes ms j)) e
     left a = unless a (not_written ms s) (both_in ms j (write_read_of (member_at ms j) s))
 
     go : (a : Answer) → (left a).answer ≡ Err x → ((left a).members ≡ ms) × ((left a).section ≡ s)
-    go (Ok tt) e = let r = written_refused (member_at ms j) s x e in (ap (λ (m : Memory). set ms j m) r.0 ∙ set-get_or ms j _, r.1)
+    go (Ok tt) e = let r = written_refused (member_at ms j) s x e in
+        (ap (λ (m : Memory). set ms j m) r.0 ∙ set-get_or ms j _, r.1)
     go (Err y) e = (refl, refl)
 
-pub places_stay : (m : Memory) (ps : List ℕ) (s : ℕ) (x : Refusal) → (renumber m s ps).answer ≡ Err x → (renumber m s ps).places ≡ ps
+pub places_stay : (m : Memory) (ps : List ℕ) (s : ℕ) (x : Refusal) → (renumber m s ps).answer ≡ Err x
+    → (renumber m s ps).places ≡ ps
 unfolding renumber
 places_stay m ps s x e = go (answer_of (over_limit m.ynd) m.ynd.node_count (short m) s (length ps)) e
   where
@@ -65,7 +73,8 @@ places_stay m ps s x e = go (answer_of (over_limit m.ynd) m.ynd.node_count (shor
     go (Ok tt) e = let z : ◌≡◌ {A = ℕ} 0 1 = cc in absurd (omega arith)
     go (Err y) e = refl
 
-pub renumbering_refused : (ms : List Memory) (j s : ℕ) (ps : List ℕ) (x : Refusal) → (renumber_in ms j s ps).answer ≡ Err x
+pub renumbering_refused : (ms : List Memory) (j s : ℕ) (ps : List ℕ) (x : Refusal) → (renumber_in ms j s ps).answer
+    ≡ Err x
     → ((renumber_in ms j s ps).members ≡ ms) × ((renumber_in ms j s ps).places ≡ ps)
 unfolding renumber_in
 renumbering_refused ms j s ps x e = go (decided (member_causes ms j)) e
@@ -78,10 +87,14 @@ renumbering_refused ms j s ps x e = go (decided (member_causes ms j)) e
     called (Err y) m e = refl
 
     go : (a : Answer) → (left a).answer ≡ Err x → ((left a).members ≡ ms) × ((left a).places ≡ ps)
-    go (Ok tt) e = (called (renumber (member_at ms j) s ps).answer (renumber (member_at ms j) s ps).memory e, places_stay (member_at ms j) ps s x e)
+    go (Ok tt) e = (
+      called (renumber (member_at ms j) s ps).answer (renumber (member_at ms j) s ps).memory e,
+      places_stay (member_at ms j) ps s x e,
+    )
     go (Err y) e = (refl, refl)
 
--- ---- "Where edits gave two members one area, the one that joined first is meant by links .., and renumbering the other
+-- ---- "Where edits gave two members one area, the one that joined first is meant by links .., and renumbering the
+-- other
 -- corrects no links outside it"
 
 -- a link in another member, where the member renumbered is not the first of its area
@@ -115,7 +128,8 @@ module _ (cs : List Cell) (j k : ℕ) (first : first_with (areas cs) (area_of (c
 
 -- ---- the same by one area: what a fast correction tests
 
--- where the member renumbered is the first of its area, a link in another member is meant exactly if it names that area
+-- where the member renumbered is the first of its area, a link in another member is meant exactly if it names that
+-- area
 -- and the own rule doesn't claim it
 pub meant_of_area : (x : Change) (area : ℕ) → area ≡ get_or x.areas x.member 0
     → is_member x.member (first_with x.areas area) ≡ true
@@ -136,4 +150,5 @@ meant_of_area x area is first i a ne = by_test (belongs (get_or x.areas i 0) a)
 pub meant_by_area : (cs : List Cell) (j : ℕ) → first_with (areas cs) (area_of (cell_at cs j)) ≡ some j → (i a : ℕ)
     → eqb i j ≡ false
     → meant (change_of cs j) i a ≡ not (belongs (get_or (areas cs) i 0) a) && eqb a (area_of (cell_at cs j))
-meant_by_area cs j first = meant_of_area (change_of cs j) (area_of (cell_at cs j)) (sym (area_at cs j)) (ap (is_member j) first ∙ eq-eqb j j refl)
+meant_by_area cs j first = meant_of_area (change_of cs j) (area_of (cell_at cs j)) (sym (area_at cs j))
+    (ap (is_member j) first ∙ eq-eqb j j refl)

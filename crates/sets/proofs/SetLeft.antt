@@ -108,77 +108,78 @@ module _ (ws : List (List ℕ)) (j : ℕ) (lt : j < length ws) where
 
 -- ---- the call
 
-module _ (y : CellSet) (area j : ℕ) (f : first_of_area y area ≡ some j) (e : (leave_area y area).answer ≡ (Ok tt)) where
-  abbrev after : Answer → SetLeft
-  after a = unless a (λ cause. set_left (Err cause) (length y.members) y) (left_by (some j) y)
+module _ (y : CellSet) (area j : ℕ) (f : first_of_area y area ≡ some j) (e : (leave_area y area).answer ≡ (Ok tt))
+  where
+    abbrev after : Answer → SetLeft
+    after a = unless a (λ cause. set_left (Err cause) (length y.members) y) (left_by (some j) y)
 
-  accepted : lists_of y ≡ (Ok tt)
-  accepted = go (lists_of y) (ap (λ (r : SetLeft). r.answer) (sym (asked_of y area j f)) ∙ e)
-    where
-      go : (a : Answer) → (after a).answer ≡ (Ok tt) → a ≡ (Ok tt)
-      go (Ok tt) t = refl
-      go (Err x) t = t
+    accepted : lists_of y ≡ (Ok tt)
+    accepted = go (lists_of y) (ap (λ (r : SetLeft). r.answer) (sym (asked_of y area j f)) ∙ e)
+      where
+        go : (a : Answer) → (after a).answer ≡ (Ok tt) → a ≡ (Ok tt)
+        go (Ok tt) t = refl
+        go (Err x) t = t
 
-  leaves : leave_area y area ≡ set_left (Ok tt) (length y.members - 1) (without y j)
-  leaves = asked_of y area j f ∙ ap after accepted
+    leaves : leave_area y area ≡ set_left (Ok tt) (length y.members - 1) (without y j)
+    leaves = asked_of y area j f ∙ ap after accepted
 
-  u : Usable y
-  u = usable y (causes_held y ∙ accepted)
+    u : Usable y
+    u = usable y (causes_held y ∙ accepted)
 
-  members : members_of (left_set y area) ≡ removed j (members_of y)
-  members = leave_done y area j f e
+    members : members_of (left_set y area) ≡ removed j (members_of y)
+    members = leave_done y area j f e
 
-  lt : j < length y.members
-  lt = there y area j f
+    lt : j < length y.members
+    lt = there y area j f
 
-  abbrev es : List (List ℕ)
-  es = y.members
+    abbrev es : List (List ℕ)
+    es = y.members
 
-  abbrev z : CellSet
-  z = cell_set (removed j es) (shut es j lt 15 y.nodes) (shut es j lt 16 y.links) (shut es j lt 17 y.junctions)
-      (shut es j lt 18 y.heights) (shut es j lt 19 y.refs)
+    abbrev z : CellSet
+    z = cell_set (removed j es) (shut es j lt 15 y.nodes) (shut es j lt 16 y.links) (shut es j lt 17 y.junctions)
+        (shut es j lt 18 y.heights) (shut es j lt 19 y.refs)
 
-  z_is : left_set y area ≡ z
-  unfolding without
-  z_is =
-      ap (λ (r : SetLeft). used r.count r.lists) leaves
-      ∙ ap (λ (l : List (List ℕ)). cell_set l z.nodes z.links z.junctions z.heights z.refs) (entries_left es j lt)
+    z_is : left_set y area ≡ z
+    unfolding without
+    z_is =
+        ap (λ (r : SetLeft). used r.count r.lists) leaves
+        ∙ ap (λ (l : List (List ℕ)). cell_set l z.nodes z.links z.junctions z.heights z.refs) (entries_left es j lt)
 
-  z_held : Holds z
-  z_held = record {
-    nodes_hold = less_held es j lt 10 15 y.nodes u.whole.nodes_hold;
-    links_hold = less_held es j lt 11 16 y.links u.whole.links_hold;
-    junctions_hold = less_held es j lt 12 17 y.junctions u.whole.junctions_hold;
-    heights_hold = less_held es j lt 13 18 y.heights u.whole.heights_hold;
-    refs_hold = less_held es j lt 14 19 y.refs u.whole.refs_hold;
-  }
+    z_held : Holds z
+    z_held = record {
+      nodes_hold = less_held es j lt 10 15 y.nodes u.whole.nodes_hold;
+      links_hold = less_held es j lt 11 16 y.links u.whole.links_hold;
+      junctions_hold = less_held es j lt 12 17 y.junctions u.whole.junctions_hold;
+      heights_hold = less_held es j lt 13 18 y.heights u.whole.heights_hold;
+      refs_hold = less_held es j lt 14 19 y.refs u.whole.refs_hold;
+    }
 
-  one_less : length (left_set y area).members + 1 ≡ length es
-  one_less = ap (λ (q : CellSet). length q.members + 1) z_is ∙ removed_length es j lt
+    one_less : length (left_set y area).members + 1 ≡ length es
+    one_less = ap (λ (q : CellSet). length q.members + 1) z_is ∙ removed_length es j lt
 
-  limits : over_set (members_of (left_set y area)) ≡ false
-  limits =
-      let w = within (members_of y) u.within in
-      ap over_set members
-      ∙ not_over (removed j (members_of y)) (record {
-        few = omega (
-          arith,
-          removed_length (members_of y) j
-              (let q : j < length (members_of y) = omega (arith, lt, members_many y) in q),
-          w.few,
-        );
-        together = omega (arith, fewer_together (members_of y) j, w.together);
-        none = fewer_over (members_of y) j w.none;
-      })
+    limits : over_set (members_of (left_set y area)) ≡ false
+    limits =
+        let w = within (members_of y) u.within in
+        ap over_set members
+        ∙ not_over (removed j (members_of y)) (record {
+          few = omega (
+            arith,
+            removed_length (members_of y) j
+                (let q : j < length (members_of y) = omega (arith, lt, members_many y) in q),
+            w.few,
+          );
+          together = omega (arith, fewer_together (members_of y) j, w.together);
+          none = fewer_over (members_of y) j w.none;
+        })
 
-  keeps : LeaveKeeps y area j
-  keeps = record {
-    members_left = members;
-    one_less = one_less;
-    counted = ap (λ (r : SetLeft). r.count) leaves ∙ omega (arith, one_less);
-    usable = may_be_used (left_set y area)
-        (record { within = limits; whole = subst (λ (q : CellSet). Holds q) (sym z_is) z_held });
-  }
+    keeps : LeaveKeeps y area j
+    keeps = record {
+      members_left = members;
+      one_less = one_less;
+      counted = ap (λ (r : SetLeft). r.count) leaves ∙ omega (arith, one_less);
+      usable = may_be_used (left_set y area)
+          (record { within = limits; whole = subst (λ (q : CellSet). Holds q) (sym z_is) z_held });
+    }
 
 pub leave_keeps : LeaveKeepsTheorem
 leave_keeps = keeps

@@ -26,12 +26,14 @@ firsts_all (suc n) k w e =
 
 module _ {A : Type 0} where
   -- all, by place
-  pub every_all : (f : A → Bool) (l : List A) (d : A) → ((i : ℕ) → i < length l → f (get_or l i d) ≡ true) → every f l ≡ true
+  pub every_all : (f : A → Bool) (l : List A) (d : A) → ((i : ℕ) → i < length l → f (get_or l i d) ≡ true)
+      → every f l ≡ true
   unfolding every
   every_all f [] d h = refl
   every_all f (x ∷ xs) d h = cc (h 0 (omega arith), every_all f xs d (λ i lt. h (suc i) (omega arith)))
 
-  pub from_at : (f : ℕ → A → Bool) (k : ℕ) (l : List A) (i : ℕ) (d : A) → every_from f k l ≡ true → i < length l → f (k + i) (get_or l i d) ≡ true
+  pub from_at : (f : ℕ → A → Bool) (k : ℕ) (l : List A) (i : ℕ) (d : A) → every_from f k l ≡ true → i < length l
+      → f (k + i) (get_or l i d) ≡ true
   unfolding every_from
   from_at f k [] i d h lt = absurd (omega arith)
   from_at f k (x ∷ xs) zero d h lt = rw add-zero (and_left _ _ h)
@@ -39,11 +41,17 @@ module _ {A : Type 0} where
       let r : f (suc k + i) (get_or xs i d) ≡ true = from_at f (suc k) xs i d (and_right (f k x) _ h) (omega arith) in
       rw add-suc (rw suc-add at r)
 
-  pub from_all : (f : ℕ → A → Bool) (k : ℕ) (l : List A) (d : A) → ((i : ℕ) → i < length l → f (k + i) (get_or l i d) ≡ true) → every_from f k l ≡ true
+  pub from_all : (f : ℕ → A → Bool) (k : ℕ) (l : List A) (d : A)
+      → ((i : ℕ) → i < length l → f (k + i) (get_or l i d) ≡ true) → every_from f k l ≡ true
   unfolding every_from
   from_all f k [] d h = refl
   from_all f k (x ∷ xs) d h =
-      cc (rw add-zero at (h 0 (omega arith)), from_all f (suc k) xs d (λ i lt. let r : f (k + suc i) (get_or xs i d) ≡ true = h (suc i) (omega arith) in rw suc-add (rw add-suc at r)))
+      cc (
+        rw add-zero at (h 0 (omega arith)),
+        from_all f (suc k) xs d
+            (λ i lt. let r : f (k + suc i) (get_or xs i d)
+            ≡ true = h (suc i) (omega arith) in rw suc-add (rw add-suc at r)),
+      )
 
   -- the front of what is stored over the front, however short the list is
   pub front_over : (f : A → A) (n : ℕ) (l : List A) → take n (over (map f) n l) ≡ map f (take n l)
@@ -67,20 +75,23 @@ module _ {A B : Type 0} where
   length_from f k [] = refl
   length_from f k (x ∷ xs) = ap suc (length_from f (suc k) xs)
 
-  pub from_map : (f : ℕ → A → B) (k : ℕ) (l : List A) (i : ℕ) (d : A) (e : B) → i < length l → get_or (map_from f k l) i e ≡ f (k + i) (get_or l i d)
+  pub from_map : (f : ℕ → A → B) (k : ℕ) (l : List A) (i : ℕ) (d : A) (e : B) → i < length l
+      → get_or (map_from f k l) i e ≡ f (k + i) (get_or l i d)
   unfolding map_from
   from_map f k [] i d e lt = absurd (omega arith)
   from_map f k (x ∷ xs) zero d e lt = rw add-zero
   from_map f k (x ∷ xs) (suc i) d e lt = from_map f (suc k) xs i d e (omega arith) ∙ rw (suc-add, add-suc)
 
   -- what a function makes of changed elements, where it makes the same of each
-  pub map_from_same : (h : A → B) (f : ℕ → A → A) → ((i : ℕ) (x : A) → h (f i x) ≡ h x) → (k : ℕ) (l : List A) → map h (map_from f k l) ≡ map h l
+  pub map_from_same : (h : A → B) (f : ℕ → A → A) → ((i : ℕ) (x : A) → h (f i x) ≡ h x) → (k : ℕ) (l : List A)
+      → map h (map_from f k l) ≡ map h l
   unfolding map_from
   map_from_same h f e k [] = refl
   map_from_same h f e k (x ∷ xs) = λ i. e k x i ∷ map_from_same h f e (suc k) xs i
 
   -- what a function makes of changed elements, where the change is one of what it makes
-  pub map_from_law : (h : A → B) (f : ℕ → A → A) (g : ℕ → B → B) → ((i : ℕ) (x : A) → h (f i x) ≡ g i (h x)) → (k : ℕ) (l : List A) → map h (map_from f k l) ≡ map_from g k (map h l)
+  pub map_from_law : (h : A → B) (f : ℕ → A → A) (g : ℕ → B → B) → ((i : ℕ) (x : A) → h (f i x) ≡ g i (h x))
+      → (k : ℕ) (l : List A) → map h (map_from f k l) ≡ map_from g k (map h l)
   unfolding map_from
   map_from_law h f g e k [] = refl
   map_from_law h f g e k (x ∷ xs) = λ i. e k x i ∷ map_from_law h f g e (suc k) xs i

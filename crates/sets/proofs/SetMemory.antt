@@ -17,7 +17,8 @@ use Rattle.cells.proofs.Sequences.Tests.{by_test}
 use Rattle.cells.proofs.Renumbering.CellRenumbered.{done_call}
 use Rattle.sets.specs.Members.{no_cell, cell_at, map_from}
 use Rattle.sets.specs.MemberList.{no_memory, member_at, cells_of, member_causes}
-use Rattle.sets.specs.SetRenumber.{Change, meant, corrected, correct_link, correct_node, correct_cell, change_of, renumber_cells, correct_words, correct_memory, members_after}
+use Rattle.sets.specs.SetRenumber.{Change, meant, corrected, correct_link, correct_node, correct_cell, change_of}
+use Rattle.sets.specs.SetRenumber.{renumber_cells, correct_words, correct_memory, members_after}
 use Rattle.sets.proofs.SetLists.{front_over, map_from_law}
 use Rattle.std.specs.Prelude.{Ok}
 
@@ -30,11 +31,15 @@ module _ (x : Change) (i : ℕ) where
   links_new [] = refl
   links_new (w ∷ ws) = λ k. link_new w k ∷ links_new ws k
 
-  node_new : (ls : List Link) (w : List ℕ) → node_with (map (correct_link x i) ls) w ≡ correct_node x i (node_with ls w)
-  node_new ls w = ap (λ (l : List Link). record { area = (node_with ls w).area; number = (node_with ls w).number; links = l; body = (node_with ls w).body })
-      (ap (take (link_count w)) (drop-map (correct_link x i) (link_start w) ls) ∙ take-map (correct_link x i) (link_count w) (drop (link_start w) ls))
+  node_new : (ls : List Link) (w : List ℕ) → node_with (map (correct_link x i) ls) w
+      ≡ correct_node x i (node_with ls w)
+  node_new ls w = ap (λ (l : List Link). record
+      { area = (node_with ls w).area; number = (node_with ls w).number; links = l; body = (node_with ls w).body })
+      (ap (take (link_count w)) (drop-map (correct_link x i) (link_start w) ls)
+      ∙ take-map (correct_link x i) (link_count w) (drop (link_start w) ls))
 
-  nodes_new : (ls : List Link) (ws : List (List ℕ)) → map (node_with (map (correct_link x i) ls)) ws ≡ map (correct_node x i) (map (node_with ls) ws)
+  nodes_new : (ls : List Link) (ws : List (List ℕ)) → map (node_with (map (correct_link x i) ls)) ws
+      ≡ map (correct_node x i) (map (node_with ls) ws)
   nodes_new ls [] = refl
   nodes_new ls (w ∷ ws) = λ k. node_new ls w k ∷ nodes_new ls ws k
 
@@ -43,9 +48,13 @@ module _ (x : Change) (i : ℕ) where
   correct_memory_law m =
       let n = m.ynd.node_count in
       let l = m.ynd.link_count in
-      let e : map link_of (take l (over (map (correct_words x i)) l m.links)) ≡ map (correct_link x i) (map link_of (take l m.links)) = ap (map link_of) (front_over (correct_words x i) l m.links) ∙ links_new (take l m.links) in
-      let f : map (node_with (map link_of (take l (over (map (correct_words x i)) l m.links)))) (take n m.nodes) ≡ map (correct_node x i) (map (node_with (map link_of (take l m.links))) (take n m.nodes)) =
-      ap (λ (ls : List Link). map (node_with ls) (take n m.nodes)) e ∙ nodes_new (map link_of (take l m.links)) (take n m.nodes) in
+      let e : map link_of (take l (over (map (correct_words x i)) l m.links))
+      ≡ map (correct_link x i) (map link_of (take l m.links)) = ap (map link_of)
+      (front_over (correct_words x i) l m.links) ∙ links_new (take l m.links) in
+      let f : map (node_with (map link_of (take l (over (map (correct_words x i)) l m.links)))) (take n m.nodes)
+      ≡ map (correct_node x i) (map (node_with (map link_of (take l m.links))) (take n m.nodes)) =
+      ap (λ (ls : List Link). map (node_with ls) (take n m.nodes)) e
+      ∙ nodes_new (map link_of (take l m.links)) (take n m.nodes) in
       λ k. record {
         nodes = f k;
         junctions = junctions_of m;
@@ -69,7 +78,8 @@ pub cell_at_law : (ms : List Memory) (i : ℕ) → cell_at (cells_of ms) i ≡ c
 cell_at_law ms i = ap (λ (c : Cell). get_or (cells_of ms) i c) (sym no_cell_law) ∙ get_or-map cell_of ms i no_memory
 
 -- a member's memory that holds the same cell
-pub cells_stay : (ms : List Memory) (j : ℕ) (m : Memory) → cell_of m ≡ cell_of (member_at ms j) → cells_of (set ms j m) ≡ cells_of ms
+pub cells_stay : (ms : List Memory) (j : ℕ) (m : Memory) → cell_of m ≡ cell_of (member_at ms j)
+    → cells_of (set ms j m) ≡ cells_of ms
 cells_stay ms j m e = map-set_same cell_of ms j m no_memory e
 
 -- an accepted renumbering
@@ -79,4 +89,5 @@ unfolding renumber_cells
 cells_renumbered ms j s ps e =
     let x = change_of (cells_of ms) j in
     map-set cell_of (map_from (correct_memory x) 0 ms) j (renumber (member_at ms j) s ps).memory
-    ∙ (λ i. set (map_from_law cell_of (correct_memory x) (correct_cell x) (correct_memory_law x) 0 ms i) j ((done_call (member_at ms j) ps s e ∙ ap renumber_cell (sym (cell_at_law ms j))) i))
+    ∙ (λ i. set (map_from_law cell_of (correct_memory x) (correct_cell x) (correct_memory_law x) 0 ms i) j
+    ((done_call (member_at ms j) ps s e ∙ ap renumber_cell (sym (cell_at_law ms j))) i))

@@ -1,4 +1,5 @@
--- The claim's hypotheses hold of something: two files, each read by an accepted reading, whose cells link into each other.
+-- The claim's hypotheses hold of something: two files, each read by an accepted reading, whose cells link into each
+-- other.
 use Prim.Native.Nat.{ℕ, suc, zero, ◌<◌}
 use native.Mathlib.Omega.{arith}
 use mathlib.Core.Path.{◌≡◌, refl}
@@ -70,7 +71,14 @@ node_from area number link flags1 = node_bytes (record {
 })
 
 abbrev link_from : ℕ → ℕ → List ℕ
-link_from area number = link_bytes (record { area_id = area; node_id = number; flags0 = 0; flags1 = 0; flags2 = 0; link_length = 1 })
+link_from area number = link_bytes (record {
+  area_id = area;
+  node_id = number;
+  flags0 = 0;
+  flags1 = 0;
+  flags2 = 0;
+  link_length = 1;
+})
 
 -- a file of this area: nodes 7 (a ped node) and 3, with links to node 3 and node 7 of the other area
 unfoldable pub file_of : ℕ → ℕ → List ℕ
@@ -79,22 +87,38 @@ file_of area other = root ++ node_from area 7 0 80 ++ node_from area 3 1 0 ++ li
 unfoldable pub room : Memory
 room =
     memory
-    (record { vft = 0; vehicle_node_count = 0; ped_node_count = 0; unknowns = []; node_count = 0; link_count = 0; junction_count = 0; heightmap_count = 0; ref_count = 0 })
+    (record {
+      vft = 0;
+      vehicle_node_count = 0;
+      ped_node_count = 0;
+      unknowns = [];
+      node_count = 0;
+      link_count = 0;
+      junction_count = 0;
+      heightmap_count = 0;
+      ref_count = 0;
+    })
     ([] ∷ [] ∷ []) ([] ∷ [] ∷ []) [] [] []
 
 pub reads_5 : (read_of (file_of 5 6) [] room).answer ≡ (Ok tt)
-unfolding file_of room root_bytes node_bytes link_bytes number_bytes bits16 read_of sizes_check arrays_found located root_of unknowns_of number_at bytes_of extent read_arrays arrays_check scan node_at junction_at sum_to room_check
+unfolding file_of room root_bytes node_bytes link_bytes number_bytes bits16 read_of sizes_check arrays_found located
+    root_of unknowns_of number_at bytes_of extent read_arrays arrays_check scan node_at junction_at sum_to room_check
 reads_5 = refl
 
 pub reads_6 : (read_of (file_of 6 5) [] room).answer ≡ (Ok tt)
-unfolding file_of room root_bytes node_bytes link_bytes number_bytes bits16 read_of sizes_check arrays_found located root_of unknowns_of number_at bytes_of extent read_arrays arrays_check scan node_at junction_at sum_to room_check
+unfolding file_of room root_bytes node_bytes link_bytes number_bytes bits16 read_of sizes_check arrays_found located
+    root_of unknowns_of number_at bytes_of extent read_arrays arrays_check scan node_at junction_at sum_to room_check
 reads_6 = refl
 
 abbrev pub members : List Memory
 members = (read_of (file_of 5 6) [] room).memory ∷ (read_of (file_of 6 5) [] room).memory ∷ []
 
 pub members_sound : set_sound (cells_of members) ≡ true
-unfolding file_of room root_bytes node_bytes link_bytes number_bytes bits16 read_of sizes_check arrays_found located root_of unknowns_of number_at bytes_of extent read_arrays arrays_check scan node_at link_at junction_at sum_to up_to join_to room_check filled cell_read node_in links_in links_from link_words path_link path_node node_words set_sound sound every every_from member_for belongs first_with cell_of nodes_of junctions_of refs_of area_of number_of body_of differing
+unfolding file_of room root_bytes node_bytes link_bytes number_bytes bits16 read_of sizes_check arrays_found located
+    root_of unknowns_of number_at bytes_of extent read_arrays arrays_check scan node_at link_at junction_at sum_to
+    up_to join_to room_check filled cell_read node_in links_in links_from link_words path_link path_node node_words
+    set_sound sound every every_from member_for belongs first_with cell_of nodes_of junctions_of refs_of area_of
+    number_of body_of differing
 members_sound = refl
 
 each : (i : ℕ) → i < length members → CellAsRead (member_at members i)

@@ -49,11 +49,15 @@ abbrev six : Memory
 six = (read_of (file_of 6 5) [] room).memory
 
 first_joins : (join_cell 0 empty five two).answer ≡ (Ok tt)
-unfolding file_of room root_bytes node_bytes link_bytes number_bytes bits16 read_of sizes_check arrays_found located root_of
-    unknowns_of number_at bytes_of extent read_arrays arrays_check scan node_at link_at junction_at sum_to up_to join_to
-    room_check filled cell_read node_in links_in links_from link_words path_link path_node node_words join_cell join_causes
+unfolding file_of room root_bytes node_bytes link_bytes number_bytes bits16 read_of sizes_check arrays_found located
+    root_of
+    unknowns_of number_at bytes_of extent read_arrays arrays_check scan node_at link_at junction_at sum_to up_to
+    join_to
+    room_check filled cell_read node_in links_in links_from link_words path_link path_node node_words join_cell
+    join_causes
     lack_for part_fits first_of_area members_of map_from parts_in parts_of words_at total ynd_of over_set
-    nodes_together any_over over_limit holds_list every cell_of nodes_of junctions_of refs_of first_with area_of number_of
+    nodes_together any_over over_limit holds_list every cell_of nodes_of junctions_of refs_of first_with area_of
+    number_of
     body_of
 first_joins = refl
 
@@ -61,11 +65,15 @@ abbrev one_set : CellSet
 one_set = (join_cell 0 empty five two).lists
 
 second_joins : (join_cell 1 one_set six two).answer ≡ (Ok tt)
-unfolding file_of room root_bytes node_bytes link_bytes number_bytes bits16 read_of sizes_check arrays_found located root_of
-    unknowns_of number_at bytes_of extent read_arrays arrays_check scan node_at link_at junction_at sum_to up_to join_to
-    room_check filled cell_read node_in links_in links_from link_words path_link path_node node_words join_cell join_causes
+unfolding file_of room root_bytes node_bytes link_bytes number_bytes bits16 read_of sizes_check arrays_found located
+    root_of
+    unknowns_of number_at bytes_of extent read_arrays arrays_check scan node_at link_at junction_at sum_to up_to
+    join_to
+    room_check filled cell_read node_in links_in links_from link_words path_link path_node node_words join_cell
+    join_causes
     with_cell stored lack_for part_fits first_of_area members_of map_from parts_in parts_of words_at total ynd_of
-    over_set nodes_together any_over over_limit holds_list every cell_of nodes_of junctions_of refs_of first_with area_of
+    over_set nodes_together any_over over_limit holds_list every cell_of nodes_of junctions_of refs_of first_with
+    area_of
     number_of body_of
 second_joins = refl
 

@@ -33,7 +33,8 @@ use Rattle.sets.specs.CellSet.{CellSet, ynd_of, members_of, holds_list}
 use Rattle.sets.specs.Leave.{start_of}
 use Rattle.sets.specs.SetSoundCall.{indexed_set, sound_causes, set_sound_call}
 use Rattle.sets.specs.SetParts.{Holding, count_of, bare, areas_of}
-use Rattle.sets.specs.SetSoundParts.{all_below, link_meets, node_meets, member_meets, judged_at, word_meets, words_meet}
+use Rattle.sets.specs.SetSoundParts.{all_below, link_meets, node_meets, member_meets, judged_at, word_meets}
+use Rattle.sets.specs.SetSoundParts.{words_meet}
 use Rattle.sets.specs.SetSoundParts.{numbers_of, part_meets, SetHeld, indexed_to, entries_causes, cells_in}
 use Rattle.sets.proofs.PartLaws.{rest}
 use Rattle.sets.proofs.CellSetLaws.{members_many, areas_held}
@@ -46,7 +47,7 @@ use Rattle.sets.proofs.SetScratch.{indexed_leads, indexed_long, indexed_set_law,
 use Rattle.std.specs.Prelude.{Result, Ok, Err}
 use Rattle.sets.specs.declared.world.World.{World}
 use Rattle.sets.specs.WorldParts.{set_of}
-use Rattle.std.specs.Result.{IsErrAnd}
+use Rattle.std.specs.Result.{IsErrAnd, result_unwrap_or}
 use Rattle.std.proofs.lemmas.Result.{err_from_is_err_and}
 use Rattle.std.proofs.lemmas.List.{take-map, drop-map}
 use Rattle.numbers.specs.Refusals.{Answer}
@@ -114,7 +115,8 @@ module _ (y : CellSet) (h : SetHeld y.members y.nodes y.links y.refs) (k : ℕ) 
     -- the call, lent the parts from their starts
     member_called : {v : Ynd} {a c e : ℕ} (s : List ℕ) → v ≡ ynd_of (get_or ws k []) → a ≡ start_of 15 ws k
         → c ≡ start_of 16 ws k → e ≡ start_of 19 ws k → 65536 ≤ length s
-        → sound_call (memory v (take (length y.nodes - a) (drop a y.nodes)) (take (length y.links - c) (drop c y.links))
+        → sound_call (memory v (take (length y.nodes - a) (drop a y.nodes))
+        (take (length y.links - c) (drop c y.links))
         js hs (take (length y.refs - e) (drop e y.refs))) s
         ≡ sound_left (verdict (sound (cell_at (cells_in y) k))) (indexed (numbers_of ws y.nodes k) 0 s)
     member_called {v} {a} {c} {e} s ev ea ec ee room =
@@ -195,7 +197,8 @@ module _ (y : CellSet) (h : SetHeld y.members y.nodes y.links y.refs) where
   judged_by all e k lk t = parts_same all e k lk (length y.members) (omega arith) ∙ rw (← t)
 
   all_judged : all_below (judged_at (cells_in y) (length y.members)) (length y.members) ≡ set_sound (cells_in y)
-  all_judged = (λ i. all_below (judged_at (cells_in y) (sym cells_many i)) (sym cells_many i)) ∙ set_judged (cells_in y)
+  all_judged = (λ i. all_below (judged_at (cells_in y) (sym cells_many i)) (sym cells_many i))
+      ∙ set_judged (cells_in y)
 
   all_indexed : (s : List ℕ) → indexed_to (numbers_of y.members y.nodes) (length y.members) s
       ≡ indexed_set (cells_in y) s
@@ -215,10 +218,6 @@ next_judged f k e eg eb = e ∙ (λ i. eg i && eb i) ∙ ap (all_below f) (sym (
 
 -- ---- a set that links lead through, with refs that hold its members
 
-abbrev value : Result Bool Refusal → Bool
-value (Ok v) = v
-value (Err x) = false
-
 module _ (x : World) (refs : List (List ℕ)) (hr : Holding 14 19 x.members.now (length refs)) where
   held : SetHeld x.members.now x.nodes.now x.links.now refs
   held = record {
@@ -230,24 +229,30 @@ module _ (x : World) (refs : List (List ℕ)) (hr : Holding 14 19 x.members.now 
   }
 
   pub all_told : {n : ℕ} {b : Bool} (js : List (List ℕ)) (hs : List ℕ) → n ≡ length x.members.now
-      → b ≡ all_below (judged_at (cells_in (set_of x js hs refs)) (length x.members.now)) n → b ≡ set_sound (cells_in (set_of x js hs refs))
+      → b ≡ all_below (judged_at (cells_in (set_of x js hs refs)) (length x.members.now)) n → b
+      ≡ set_sound (cells_in (set_of x js hs refs))
   all_told js hs en e =
-      e ∙ ap (all_below (judged_at (cells_in (set_of x js hs refs)) (length x.members.now))) en ∙ all_judged (set_of x js hs refs) held
+      e ∙ ap (all_below (judged_at (cells_in (set_of x js hs refs)) (length x.members.now))) en
+      ∙ all_judged (set_of x js hs refs) held
 
   module _ (k : ℕ) (lt : k < length x.members.now) where
     -- the member k, by the cell's own call from where its parts start
-    pub member_told : {v : Ynd} {a c e : ℕ} (r : Result Bool Refusal) (s : List ℕ) {now : List ℕ}
-        → v ≡ ynd_of (get_or x.members.now k []) → a ≡ start_of 15 x.members.now k → c ≡ start_of 16 x.members.now k → e ≡ start_of 19 x.members.now k
+    pub member_told : {v : Ynd} {a c e : ℕ} (r : Result Bool Refusal) (s : List ℕ) {now : List ℕ} {b : Bool}
+        → v ≡ ynd_of (get_or x.members.now k []) → a ≡ start_of 15 x.members.now k → c ≡ start_of 16 x.members.now k
+        → e ≡ start_of 19 x.members.now k
         → 65536 ≤ length s
         → ((js : List (List ℕ)) (hs : List ℕ) → sound_left r now
         ≡ sound_call (memory v (take (length x.nodes.now - a) (drop a x.nodes.now))
         (take (length x.links.now - c) (drop c x.links.now)) js hs (take (length refs - e) (drop e refs))) s)
-        → ((js : List (List ℕ)) (hs : List ℕ) → value r ≡ sound (cell_at (cells_in (set_of x js hs refs)) k))
+        → b ≡ result_unwrap_or r false
+        → ((js : List (List ℕ)) (hs : List ℕ) → b ≡ sound (cell_at (cells_in (set_of x js hs refs)) k))
         × (now ≡ indexed (numbers_of x.members.now x.nodes.now k) 0 s)
-    member_told r s ev ea ec ee room call =
+    member_told r s ev ea ec ee room call eb =
         let told = λ (js : List (List ℕ)) (hs : List ℕ).
-        call js hs ∙ member_called (set_of x js hs refs) held k lt js hs s ev ea ec ee room in
-        (λ js hs. ap (λ (l : SoundLeft). value l.answer) (told js hs), ap (λ (l : SoundLeft). l.scratch) (told [] []))
+        call js hs ∙ member_called (set_of x js hs refs) held k lt js hs s ev ea ec ee room in (
+          λ js hs. eb ∙ ap (λ (l : SoundLeft). result_unwrap_or l.answer false) (told js hs),
+          ap (λ (l : SoundLeft). l.scratch) (told [] []),
+        )
 
     pub ready_at : (s now : List ℕ) → 65536 ≤ length s → now ≡ indexed (numbers_of x.members.now x.nodes.now k) 0 s
         → Ready (count_of 10 x.members.now k) (drop (start_of 15 x.members.now k) x.nodes.now) now
@@ -255,7 +260,8 @@ module _ (x : World) (refs : List (List ℕ)) (hr : Holding 14 19 x.members.now 
 
     -- it is not sound, or else its links decide
     pub unsound_at : {b : Bool} (js : List (List ℕ)) (hs : List ℕ) → b ≡ false
-        → b ≡ sound (cell_at (cells_in (set_of x js hs refs)) k) → b ≡ judged_at (cells_in (set_of x js hs refs)) (length x.members.now) k
+        → b ≡ sound (cell_at (cells_in (set_of x js hs refs)) k) → b
+        ≡ judged_at (cells_in (set_of x js hs refs)) (length x.members.now) k
     unfolding judged_at
     unsound_at js hs e es = rw (← es, e)
 
@@ -308,7 +314,8 @@ module _ (y : CellSet) (s : List ℕ) where
   by_start = ap (λ (a : Answer). unless a (λ cause. sound_left (Err cause) s)
       (sound_left (verdict (set_sound (cells_in y))) (indexed_set (cells_in y) s))) causes_are
 
-  pub call_refused : {x : Refusal} {a : Answer} {r : Result Bool Refusal} → a ≡ Err x → a ≡ start → IsErrAnd r (λ z. z ≡ x)
+  pub call_refused : {x : Refusal} {a : Answer} {r : Result Bool Refusal} → a ≡ Err x → a ≡ start
+      → IsErrAnd r (λ z. z ≡ x)
       → sound_left r s ≡ set_sound_call y s
   call_refused {x} {r} is e er =
       let k = err_from_is_err_and r er in
@@ -318,7 +325,8 @@ module _ (y : CellSet) (s : List ℕ) where
       (sound_left (verdict (set_sound (cells_in y))) (indexed_set (cells_in y) s))) (sym e ∙ is))
 
   pub call_judged : (Ok tt) ≡ start → {v : Bool} {now : List ℕ} → v ≡ set_sound (cells_in y)
-      → now ≡ indexed_to (numbers_of y.members y.nodes) (length y.members) s → sound_left (Ok v) now ≡ set_sound_call y s
+      → now ≡ indexed_to (numbers_of y.members y.nodes) (length y.members) s → sound_left (Ok v) now
+      ≡ set_sound_call y s
   call_judged e ev en =
       let h = held_of y.members y.nodes y.links y.refs (length s) e in
       (λ i. sound_left (Ok (ev i)) ((en ∙ all_indexed y h s) i))

@@ -1,19 +1,12 @@
 -- What the parts of the crossing walk go by. No public function's contract cites them.
-use Rattle.std.specs.Prelude.{ℕ, ◌≤◌, ◌<◌, ◌≡◌, false, not, List, [], ◌∷◌, ◌++◌, leb, length, get_or, drop}
+use Rattle.std.specs.Prelude.{ℕ, ◌≤◌, ◌<◌, ◌≡◌, false, not, List, [], ◌∷◌, leb, length, get_or}
 use Rattle.numbers.specs.Refusals.{Cause, when}
 use Rattle.cells.specs.Memory.{over_limit}
 use Rattle.cells.specs.Cell.{Cell}
-use Rattle.walks.specs.Walk.{Next, to, stop, Trail}
-use Rattle.walks.specs.Claim.{places}
-use Rattle.sets.specs.Crossing.{Location, crossing}
-use Rattle.sets.specs.CrossingCall.{visit_words}
+use Rattle.sets.specs.Crossing.{Location}
 use Rattle.sets.specs.MemberList.{cells_of, over_set}
 use Rattle.sets.specs.CellSet.{CellSet, cell_set, ynd_of, members_of, holds_list}
 use Rattle.sets.specs.SetParts.{count_of, Holding, bare, areas_of}
-use Rattle.walks.specs.declared.walk.End.{End}
-use Rattle.walks.specs.declared.walk.Walked.{Walked}
-use Rattle.sets.specs.declared.cross.Location.{Location as At}
-use Rattle.std.specs.Prelude.{Result, Ok, Err}
 use Rattle.numbers.specs.declared.refusal.Refusal.TheVariants.{TooShort, NoSuchPlace, AtLimit}
 use Rattle.numbers.specs.declared.refusal.Lent.TheVariants as lent
 
@@ -24,34 +17,12 @@ walked_set ws nodes links = cell_set ws nodes links [] [] []
 unfoldable pub cells_in : List (List ℕ) → List (List ℕ) → List (List ℕ) → List Cell
 cells_in ws nodes links = cells_of (members_of (walked_set ws nodes links))
 
-unfoldable pub trail_in : List (List ℕ) → List (List ℕ) → List (List ℕ) → List ℕ → Location → Trail Location
-trail_in ws nodes links choices s = crossing (cells_in ws nodes links) choices s
-
--- where a choice leads
-abbrev pub cross_of : Next Location → Result At End
-cross_of (to s) = Ok (record { member = s.member; place = s.place })
-cross_of (stop e) = Err e
-
 -- what the walk is lent: the members, within the limits, their nodes, and their areas
 pub record Lent (areas : List ℕ) (ws nodes : List (List ℕ)) : Type 0 where
   pub few : length ws ≤ 9
   pub within : (i : ℕ) → i < length ws → over_limit (ynd_of (get_or ws i [])) ≡ false
   pub nodes_hold : Holding 10 15 ws (length nodes)
   pub areas_are : areas ≡ areas_of ws nodes
-
--- what a walk from s is lent besides
-pub record Walking (areas : List ℕ) (ws nodes links : List (List ℕ)) (s : Location) : Type 0 where
-  pub lent : Lent areas ws nodes
-  pub links_hold : Holding 11 16 ws (length links)
-  pub member : s.member < length ws
-  pub place : s.place < count_of 10 ws s.member
-
--- what the code answers of a walk, and the visited list after it
-abbrev pub crossed_of : Trail Location → Walked
-crossed_of t = record { end = t.ending; count = length (places t) }
-
-abbrev pub visits_over : Trail Location → List (List ℕ) → List (List ℕ)
-visits_over t visited = visit_words t ++ drop (length (places t)) visited
 
 -- what a walk is refused for before its first step, by the entries and the lists' lengths
 unfoldable pub start_causes : List (List ℕ) → ℕ → ℕ → Location → List Cause

@@ -6,11 +6,11 @@ use Rattle.cells.specs.Lookup.{first_with, find}
 use Rattle.walks.specs.Walk.{Next, to, stop, next, see, link_at, body_of, World, Trail, walk_in}
 use Rattle.walks.specs.declared.walk.End.TheVariants.{Done, NoLink, Left, NoNode}
 use Rattle.sets.specs.Members.{cell_at, areas}
+use Rattle.sets.specs.declared.cross.Location as at
 
 -- a member and a place in it
-pub record Location : Type 0 where
-  pub member : ℕ
-  pub place : ℕ
+abbrev pub Location : Type 0
+Location = at.Location
 
 abbrev pub location : ℕ → ℕ → Location
 location i p = record { member = i; place = p }

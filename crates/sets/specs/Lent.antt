@@ -6,3 +6,16 @@ use Rattle.sets.specs.CellSet.{words_at, total}
 -- the list l holds the parts whose sizes are word k
 abbrev pub Lies : {A : Type 0} → ℕ → List (List ℕ) → List A → Type 0
 Lies k ws l = total (words_at k ws) ≤ length l
+
+-- five lists that hold the members' parts: whatever stands in those that a call isn't lent
+pub record Unlent (ws : List (List ℕ)) : Type 0 where
+  pub nodes : List (List ℕ)
+  pub links : List (List ℕ)
+  pub junctions : List (List ℕ)
+  pub heights : List ℕ
+  pub refs : List (List ℕ)
+  pub nodes_lie : Lies 15 ws nodes
+  pub links_lie : Lies 16 ws links
+  pub junctions_lie : Lies 17 ws junctions
+  pub heights_lie : Lies 18 ws heights
+  pub refs_lie : Lies 19 ws refs

@@ -141,7 +141,8 @@ pub record JoinThenLeave (count : ℕ) (y : CellSet) (m : Memory) (sizes : Count
   pub as_many : (leave_area (joined_set count y m sizes) (area_of (cell_of m))).count ≡ length (used count y).members
   pub set_back : members_of (left_set (joined_set count y m sizes) (area_of (cell_of m))) ≡ members_of (used count y)
   -- handed back before it leaves, it is the cell that joined; lists that have room for that cell have room for it
-  pub cell_back : (lent : Memory) → (hand_back (joined_set count y m sizes) (area_of (cell_of m)) lent).answer ≡ (Ok tt)
+  pub cell_back : (lent : Memory)
+      → (hand_back (joined_set count y m sizes) (area_of (cell_of m)) lent).answer ≡ (Ok tt)
       → cell_of (hand_back (joined_set count y m sizes) (area_of (cell_of m)) lent).memory ≡ cell_of m
   pub has_room : (lent : Memory) → lack_of_back m lent ≡ (Ok tt)
       → (hand_back (joined_set count y m sizes) (area_of (cell_of m)) lent).answer ≡ (Ok tt)

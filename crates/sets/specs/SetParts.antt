@@ -1,7 +1,7 @@
--- What the parts of the set's calls go by. No public function's contract cites them.
-use Rattle.std.specs.Prelude.{ℕ, ◌+◌, ◌-◌, ◌≤◌, ◌<◌, cond, List, [], ◌∷◌, ◌++◌, map, ltb, leb}
+-- What the parts of the set's calls go by. Of public functions, the contract of `member_of_area` alone cites some.
+use Rattle.std.specs.Prelude.{ℕ, ◌≤◌, ◌<◌, List, [], ◌∷◌, ◌++◌, map, leb}
 use Rattle.std.specs.Prelude.{length, get_or, take}
-use Rattle.std.proofs.Math.Option.{Option as Found, none, some}
+use Rattle.std.proofs.Math.Option.{Option as Found}
 use Rattle.numbers.specs.Refusals.{Cause, when}
 use Rattle.cells.specs.Memory.{Memory, memory}
 use Rattle.cells.specs.NodeWords.{first_area}
@@ -14,12 +14,11 @@ use Rattle.sets.specs.CellSet.{CellSet, word, ynd_of, words_at, total, parts_of,
 use Rattle.sets.specs.Leave.{start_of}
 use Rattle.sets.specs.Join.{lack_for}
 use Rattle.cells.specs.declared.count.Counts.{Counts}
-use Rattle.std.specs.Prelude.{Option, Some, None}
+use Rattle.std.specs.Prelude.{Option}
 use Rattle.numbers.specs.declared.refusal.Refusal.TheVariants.{TooShort, AtLimit, AreaTaken}
-use Rattle.numbers.specs.declared.refusal.Lent.{Lent}
 use Rattle.numbers.specs.declared.refusal.Lent.TheVariants as lent
-use Rattle.sets.specs.declared.parts.Kind.{Kind}
-use Rattle.sets.specs.declared.parts.Kind.TheVariants as kind
+use Rattle.numbers.specs.declared.refusal.Array.{Array}
+use Rattle.numbers.specs.declared.refusal.Array.TheVariants as array
 
 abbrev pub named_of : Found ℕ → Option ℕ
 named_of o = place_of o
@@ -35,36 +34,28 @@ starts_of ws j = record {
 }
 
 -- the word of an entry that says how many the member has in a list
-abbrev pub count_word : Kind → ℕ
-count_word kind.Nodes = 10
-count_word kind.Links = 11
-count_word kind.Junctions = 12
-count_word kind.Heights = 13
-count_word kind.Refs = 14
+abbrev pub count_word : Array → ℕ
+count_word array.Nodes = 10
+count_word array.Links = 11
+count_word array.Junctions = 12
+count_word array.Heightmap = 13
+count_word array.Refs = 14
 
 -- the word that says how many its part holds
-abbrev pub size_word : Kind → ℕ
-size_word kind.Nodes = 15
-size_word kind.Links = 16
-size_word kind.Junctions = 17
-size_word kind.Heights = 18
-size_word kind.Refs = 19
+abbrev pub size_word : Array → ℕ
+size_word array.Nodes = 15
+size_word array.Links = 16
+size_word array.Junctions = 17
+size_word array.Heightmap = 18
+size_word array.Refs = 19
 
 -- the number for a list
-abbrev pub number_in : Kind → Counts → ℕ
-number_in kind.Nodes k = k.nodes
-number_in kind.Links k = k.links
-number_in kind.Junctions k = k.junctions
-number_in kind.Heights k = k.heights
-number_in kind.Refs k = k.refs
-
--- what a refusal calls it
-abbrev pub name_of : Kind → Lent
-name_of kind.Nodes = lent.Nodes
-name_of kind.Links = lent.Links
-name_of kind.Junctions = lent.Junctions
-name_of kind.Heights = lent.Heightmap
-name_of kind.Refs = lent.Refs
+abbrev pub number_in : Array → Counts → ℕ
+number_in array.Nodes k = k.nodes
+number_in array.Links k = k.links
+number_in array.Junctions k = k.junctions
+number_in array.Heightmap k = k.heights
+number_in array.Refs k = k.refs
 
 -- word k of the member j
 abbrev pub count_of : ℕ → List (List ℕ) → ℕ → ℕ
@@ -106,7 +97,3 @@ entry_causes ws nodes lens haves y sizes area room =
 unfoldable pub list_causes : List (List ℕ) → ℕ → ℕ → ℕ → ℕ → ℕ → List Cause
 list_causes ws nodes links junctions heights refs =
     when (over_set (bare ws)) AtLimit ∷ lack_of ws nodes links junctions heights refs
-
--- where a part of `room` entries from `start` on ends in a list of `len`
-unfoldable pub part_end : ℕ → ℕ → ℕ → ℕ
-part_end start room len = cond (ltb (len - start) room) len (start + room)

@@ -4,9 +4,10 @@ ghost use Rattle.cells.specs.Lookup.{first_with};
 ghost use Rattle.sets.specs.Members.{member_for};
 ghost use Rattle.sets.specs.SetParts.{named_of, Holding, areas_of};
 
-use crate::entry::{MemberWords, word_at};
+use crate::entry::{MemberWords, count_in, size_in};
 use cells::area::{belongs_to, own_area};
 use cells::node::NodeWords;
+use numbers::refusal::Array;
 
 // Stores the members' areas, in the order of joining.
 #[tactic(auto, using(crate::proofs::AreasFilled::areas_stored))]
@@ -16,8 +17,8 @@ pub(crate) fn fill_areas(members: &[MemberWords], nodes: &[NodeWords], areas: &m
 {
     let mut start = 0;
     for (i, w) in members.iter().enumerate() {
-        areas[i] = own_area(&nodes[start..], word_at(*w, 10));
-        start += word_at(*w, 15);
+        areas[i] = own_area(&nodes[start..], count_in(*w, Array::Nodes));
+        start += size_in(*w, Array::Nodes);
     }
 }
 

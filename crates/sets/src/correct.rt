@@ -8,12 +8,13 @@ ghost use Rattle.sets.specs.SetParts.{Holding, areas_of, named_of};
 ghost use Rattle.sets.specs.CorrectParts.{Table, Tells, relabelled, change_in, part_corrected};
 ghost use Rattle.sets.specs.RenumberMember.{correct_parts};
 
-use crate::entry::{MemberWords, word_at};
-use crate::named::member_with;
+use crate::entry::{MemberWords, count_in};
+use crate::named::member_of_area;
 use crate::parts::{count_before, own_entries};
 use cells::area::{belongs_to, own_area};
 use cells::link::LinkWords;
 use cells::node::NodeWords;
+use numbers::refusal::Array;
 
 // The new numbers of an area's nodes, in a table.
 #[derive(Clone, Copy)]
@@ -53,17 +54,14 @@ fn area_of_member(members: &[MemberWords], nodes: &[NodeWords], i: usize) -> u16
     requires { (i < length members.now) × (length members.now ≤ 9) × Holding 10 15 members.now (length nodes.now) }
     ensures { result ≡ get_or (areas_of members.now nodes.now) i 0 }
 {
-    let own = own_entries(members, 10, 15, i, nodes);
+    let own = own_entries(members, Array::Nodes, i, nodes);
     own_area(own, own.len())
 }
 
 fn is_member(n: Option<usize>, j: usize) -> bool
     ensures { (r : Option ℕ) → n ≡ named_of r → result ≡ is_member j r }
 {
-    match n {
-        Some(k) => k == j,
-        None => false,
-    }
+    n == Some(j)
 }
 
 // The links of the member i that name the area of the member j, the first of its area, unless its own rule claims
@@ -90,8 +88,8 @@ fn correct_member(
     if belongs_to(area_of_member(members, nodes, i), renamed.area) {
         return;
     }
-    let start = count_before(members, 16, i);
-    let count = word_at(members[i], 11);
+    let start = count_before(members, Array::Links, i);
+    let count = count_in(members[i], Array::Links);
     renamed.relabel_all(&mut links[start..start + count]);
 }
 
@@ -111,7 +109,7 @@ pub(crate) fn correct_others(
         → links.new ≡ correct_parts (change_in members.now nodes.now j o) 0 members.now links.old }
 {
     let area = area_of_member(members, nodes, j);
-    if !is_member(member_with(members, nodes, area), j) {
+    if !is_member(member_of_area(members, nodes, area), j) {
         return;
     }
     let renamed = Renamed { area, table };

@@ -1,8 +1,8 @@
 // Edits of a member's counts and of its own words (T-09).
-ghost use Rattle.std.specs.Prelude.{◌≡◌, List, ℕ};
+ghost use Rattle.std.specs.Prelude.{◌≡◌};
 ghost use Rattle.cells.specs.Truncate.{truncate_nodes, truncate_junctions, truncate_refs};
 ghost use Rattle.sets.specs.CellSet.{cell_set};
-ghost use Rattle.sets.specs.Lent.{Lies};
+ghost use Rattle.sets.specs.Lent.{Unlent};
 ghost use Rattle.sets.specs.MemberEdit.{set_edited, edit_member, put_words};
 
 use crate::entry::MemberWords;
@@ -16,12 +16,9 @@ pub fn truncate_nodes_member(
     member: usize,
     count: usize,
 ) -> Result<(), Refusal>
-    ensures { (nodes links junctions refs : List (List ℕ)) (heights : List ℕ)
-        → Lies 15 members.old nodes → Lies 16 members.old links
-        → Lies 17 members.old junctions → Lies 18 members.old heights
-        → Lies 19 members.old refs
-        → set_edited result (cell_set members.new nodes links junctions heights refs)
-        ≡ edit_member (cell_set members.old nodes links junctions heights refs) member
+    ensures { (u : Unlent members.old)
+        → set_edited result (cell_set members.new u.nodes u.links u.junctions u.heights u.refs)
+        ≡ edit_member (cell_set members.old u.nodes u.links u.junctions u.heights u.refs) member
         (λ m. truncate_nodes m count) }
 {
     let lens = held(members);
@@ -37,12 +34,9 @@ pub fn truncate_junctions_member(
     member: usize,
     count: usize,
 ) -> Result<(), Refusal>
-    ensures { (nodes links junctions refs : List (List ℕ)) (heights : List ℕ)
-        → Lies 15 members.old nodes → Lies 16 members.old links
-        → Lies 17 members.old junctions → Lies 18 members.old heights
-        → Lies 19 members.old refs
-        → set_edited result (cell_set members.new nodes links junctions heights refs)
-        ≡ edit_member (cell_set members.old nodes links junctions heights refs) member
+    ensures { (u : Unlent members.old)
+        → set_edited result (cell_set members.new u.nodes u.links u.junctions u.heights u.refs)
+        ≡ edit_member (cell_set members.old u.nodes u.links u.junctions u.heights u.refs) member
         (λ m. truncate_junctions m count) }
 {
     let lens = held(members);
@@ -58,12 +52,9 @@ pub fn truncate_refs_member(
     member: usize,
     count: usize,
 ) -> Result<(), Refusal>
-    ensures { (nodes links junctions refs : List (List ℕ)) (heights : List ℕ)
-        → Lies 15 members.old nodes → Lies 16 members.old links
-        → Lies 17 members.old junctions → Lies 18 members.old heights
-        → Lies 19 members.old refs
-        → set_edited result (cell_set members.new nodes links junctions heights refs)
-        ≡ edit_member (cell_set members.old nodes links junctions heights refs) member
+    ensures { (u : Unlent members.old)
+        → set_edited result (cell_set members.new u.nodes u.links u.junctions u.heights u.refs)
+        ≡ edit_member (cell_set members.old u.nodes u.links u.junctions u.heights u.refs) member
         (λ m. truncate_refs m count) }
 {
     let lens = held(members);
@@ -82,12 +73,9 @@ pub fn put_words_member(
     peds: u32,
     unknowns: [u32; 7],
 ) -> Result<(), Refusal>
-    ensures { (nodes links junctions refs : List (List ℕ)) (heights : List ℕ)
-        → Lies 15 members.old nodes → Lies 16 members.old links
-        → Lies 17 members.old junctions → Lies 18 members.old heights
-        → Lies 19 members.old refs
-        → set_edited result (cell_set members.new nodes links junctions heights refs)
-        ≡ edit_member (cell_set members.old nodes links junctions heights refs) member
+    ensures { (u : Unlent members.old)
+        → set_edited result (cell_set members.new u.nodes u.links u.junctions u.heights u.refs)
+        ≡ edit_member (cell_set members.old u.nodes u.links u.junctions u.heights u.refs) member
         (λ m. put_words m vft vehicles peds unknowns) }
 {
     let lens = held(members);

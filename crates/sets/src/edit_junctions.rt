@@ -1,10 +1,10 @@
 // Edits of a member's junctions and heightmaps (T-09).
-ghost use Rattle.std.specs.Prelude.{◌≡◌, List, ℕ};
+ghost use Rattle.std.specs.Prelude.{◌≡◌};
 ghost use Rattle.cells.specs.Add.{add_junction};
 ghost use Rattle.cells.specs.Edit.{put_junction, put_height};
 ghost use Rattle.cells.specs.PutHeightmap.{put_heightmap};
 ghost use Rattle.sets.specs.CellSet.{cell_set};
-ghost use Rattle.sets.specs.Lent.{Lies};
+ghost use Rattle.sets.specs.Lent.{Unlent};
 ghost use Rattle.sets.specs.MemberEdit.{set_edited, edit_member, heights_left, junctions_left};
 
 use crate::entry::MemberWords;
@@ -24,11 +24,9 @@ pub fn add_junction_member(
     junction: PathJunction,
     values: &[u8],
 ) -> Result<(), Refusal>
-    ensures { (nodes links refs : List (List ℕ))
-        → Lies 15 members.old nodes → Lies 16 members.old links
-        → Lies 19 members.old refs
-        → set_edited result (cell_set members.new nodes links junctions.new heights.new refs)
-        ≡ edit_member (cell_set members.old nodes links junctions.old heights.old refs) member
+    ensures { (u : Unlent members.old)
+        → set_edited result (cell_set members.new u.nodes u.links junctions.new heights.new u.refs)
+        ≡ edit_member (cell_set members.old u.nodes u.links junctions.old heights.old u.refs) member
         (λ m. add_junction m junction values.now) }
 {
     let mut lens = held(members);
@@ -57,11 +55,9 @@ pub fn put_heightmap_member(
     height: u8,
     values: &[u8],
 ) -> Result<(), Refusal>
-    ensures { (nodes links refs : List (List ℕ))
-        → Lies 15 members.old nodes → Lies 16 members.old links
-        → Lies 19 members.old refs
-        → set_edited result (cell_set members.new nodes links junctions.new heights.new refs)
-        ≡ edit_member (cell_set members.old nodes links junctions.old heights.old refs) member
+    ensures { (u : Unlent members.old)
+        → set_edited result (cell_set members.new u.nodes u.links junctions.new heights.new u.refs)
+        ≡ edit_member (cell_set members.old u.nodes u.links junctions.old heights.old u.refs) member
         (λ m. put_heightmap m place width height values.now) }
 {
     let mut lens = held(members);
@@ -89,11 +85,9 @@ pub fn put_junction_member(
     place: usize,
     junction: PathJunction,
 ) -> Result<(), Refusal>
-    ensures { (nodes links refs : List (List ℕ)) (heights : List ℕ)
-        → Lies 15 members.now nodes → Lies 16 members.now links
-        → Lies 18 members.now heights → Lies 19 members.now refs
-        → set_edited result (cell_set members.now nodes links junctions.new heights refs)
-        ≡ edit_member (cell_set members.now nodes links junctions.old heights refs) member
+    ensures { (u : Unlent members.now)
+        → set_edited result (cell_set members.now u.nodes u.links junctions.new u.heights u.refs)
+        ≡ edit_member (cell_set members.now u.nodes u.links junctions.old u.heights u.refs) member
         (λ m. junctions_left m (put_junction m.ynd m.junctions place junction)) }
 {
     let mut lens = held(members);
@@ -117,11 +111,9 @@ pub fn put_height_member(
     k: usize,
     value: u8,
 ) -> Result<(), Refusal>
-    ensures { (nodes links refs : List (List ℕ))
-        → Lies 15 members.now nodes → Lies 16 members.now links
-        → Lies 19 members.now refs
-        → set_edited result (cell_set members.now nodes links junctions.now heights.new refs)
-        ≡ edit_member (cell_set members.now nodes links junctions.now heights.old refs) member
+    ensures { (u : Unlent members.now)
+        → set_edited result (cell_set members.now u.nodes u.links junctions.now heights.new u.refs)
+        ≡ edit_member (cell_set members.now u.nodes u.links junctions.now heights.old u.refs) member
         (λ m. heights_left m (put_height m.ynd m.junctions m.heights place k value)) }
 {
     let mut lens = held(members);

@@ -1,10 +1,10 @@
 // Edits of a member's links (T-09).
-ghost use Rattle.std.specs.Prelude.{◌≡◌, List, ℕ};
+ghost use Rattle.std.specs.Prelude.{◌≡◌};
 ghost use Rattle.cells.specs.AddLink.{add_link};
 ghost use Rattle.cells.specs.Edit.{put_link};
 ghost use Rattle.cells.specs.PutLinks.{put_links};
 ghost use Rattle.sets.specs.CellSet.{cell_set};
-ghost use Rattle.sets.specs.Lent.{Lies};
+ghost use Rattle.sets.specs.Lent.{Unlent};
 ghost use Rattle.sets.specs.MemberEdit.{set_edited, edit_member, links_left};
 
 use crate::entry::MemberWords;
@@ -25,11 +25,9 @@ pub fn add_link_member(
     place: usize,
     link: PathLink,
 ) -> Result<(), Refusal>
-    ensures { (junctions refs : List (List ℕ)) (heights : List ℕ)
-        → Lies 17 members.old junctions → Lies 18 members.old heights
-        → Lies 19 members.old refs
-        → set_edited result (cell_set members.new nodes.new links.new junctions heights refs)
-        ≡ edit_member (cell_set members.old nodes.old links.old junctions heights refs) member
+    ensures { (u : Unlent members.old)
+        → set_edited result (cell_set members.new nodes.new links.new u.junctions u.heights u.refs)
+        ≡ edit_member (cell_set members.old nodes.old links.old u.junctions u.heights u.refs) member
         (λ m. add_link m place link) }
 {
     let mut lens = held(members);
@@ -56,11 +54,9 @@ pub fn put_links_member(
     place: usize,
     new: &[LinkWords],
 ) -> Result<(), Refusal>
-    ensures { (junctions refs : List (List ℕ)) (heights : List ℕ)
-        → Lies 17 members.old junctions → Lies 18 members.old heights
-        → Lies 19 members.old refs
-        → set_edited result (cell_set members.new nodes.new links.new junctions heights refs)
-        ≡ edit_member (cell_set members.old nodes.old links.old junctions heights refs) member
+    ensures { (u : Unlent members.old)
+        → set_edited result (cell_set members.new nodes.new links.new u.junctions u.heights u.refs)
+        ≡ edit_member (cell_set members.old nodes.old links.old u.junctions u.heights u.refs) member
         (λ m. put_links m place new.now) }
 {
     let mut lens = held(members);
@@ -88,11 +84,9 @@ pub fn put_link_member(
     k: usize,
     link: PathLink,
 ) -> Result<(), Refusal>
-    ensures { (junctions refs : List (List ℕ)) (heights : List ℕ)
-        → Lies 17 members.now junctions → Lies 18 members.now heights
-        → Lies 19 members.now refs
-        → set_edited result (cell_set members.now nodes.now links.new junctions heights refs)
-        ≡ edit_member (cell_set members.now nodes.now links.old junctions heights refs) member
+    ensures { (u : Unlent members.now)
+        → set_edited result (cell_set members.now nodes.now links.new u.junctions u.heights u.refs)
+        ≡ edit_member (cell_set members.now nodes.now links.old u.junctions u.heights u.refs) member
         (λ m. links_left m (put_link m.ynd m.nodes m.links place k link)) }
 {
     let mut lens = held(members);

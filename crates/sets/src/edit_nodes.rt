@@ -1,13 +1,13 @@
 // Edits of a member's nodes (T-09).
-ghost use Rattle.std.specs.Prelude.{◌≡◌, List, ℕ, ◌||◌, ltb, leb, length};
+ghost use Rattle.std.specs.Prelude.{◌≡◌, ◌||◌, ltb, leb, length};
 ghost use Rattle.cells.specs.Edit.{put_node, set_position};
 ghost use Rattle.sets.specs.CellSet.{cell_set, words_at, total};
-ghost use Rattle.sets.specs.Lent.{Lies};
+ghost use Rattle.sets.specs.Lent.{Unlent};
 ghost use Rattle.sets.specs.MemberEdit.{set_edited, edit_member, add_node_member, nodes_left};
 
 use crate::entry::MemberWords;
 use crate::member::{held, open_member, store_ynd};
-use crate::parts::count_all;
+use crate::parts::nodes_together;
 use cells::add_node::add_node;
 use cells::node::{NodeWords, PathNode};
 use cells::put::{put_node, set_position};
@@ -21,7 +21,7 @@ fn set_full(members: &[MemberWords]) -> bool
     if 9 < members.len() {
         return true;
     }
-    65536 <= count_all(members, 10)
+    65536 <= nodes_together(members)
 }
 
 // A node more in the member, at the end of its nodes.
@@ -32,11 +32,9 @@ pub fn add_node_member(
     area_id: u16,
     position: Vec3,
 ) -> Result<(), Refusal>
-    ensures { (links junctions refs : List (List ℕ)) (heights : List ℕ)
-        → Lies 16 members.old links → Lies 17 members.old junctions
-        → Lies 18 members.old heights → Lies 19 members.old refs
-        → set_edited result (cell_set members.new nodes.new links junctions heights refs)
-        ≡ add_node_member (cell_set members.old nodes.old links junctions heights refs)
+    ensures { (u : Unlent members.old)
+        → set_edited result (cell_set members.new nodes.new u.links u.junctions u.heights u.refs)
+        ≡ add_node_member (cell_set members.old nodes.old u.links u.junctions u.heights u.refs)
         member area_id position }
 {
     if members.len() <= member {
@@ -61,11 +59,9 @@ pub fn put_node_member(
     place: usize,
     n: PathNode,
 ) -> Result<(), Refusal>
-    ensures { (links junctions refs : List (List ℕ)) (heights : List ℕ)
-        → Lies 16 members.now links → Lies 17 members.now junctions
-        → Lies 18 members.now heights → Lies 19 members.now refs
-        → set_edited result (cell_set members.now nodes.new links junctions heights refs)
-        ≡ edit_member (cell_set members.now nodes.old links junctions heights refs) member
+    ensures { (u : Unlent members.now)
+        → set_edited result (cell_set members.now nodes.new u.links u.junctions u.heights u.refs)
+        ≡ edit_member (cell_set members.now nodes.old u.links u.junctions u.heights u.refs) member
         (λ m. nodes_left m (put_node m.ynd m.nodes place n)) }
 {
     let mut lens = held(members);
@@ -82,11 +78,9 @@ pub fn set_position_member(
     place: usize,
     position: Vec3,
 ) -> Result<(), Refusal>
-    ensures { (links junctions refs : List (List ℕ)) (heights : List ℕ)
-        → Lies 16 members.now links → Lies 17 members.now junctions
-        → Lies 18 members.now heights → Lies 19 members.now refs
-        → set_edited result (cell_set members.now nodes.new links junctions heights refs)
-        ≡ edit_member (cell_set members.now nodes.old links junctions heights refs) member
+    ensures { (u : Unlent members.now)
+        → set_edited result (cell_set members.now nodes.new u.links u.junctions u.heights u.refs)
+        ≡ edit_member (cell_set members.now nodes.old u.links u.junctions u.heights u.refs) member
         (λ m. nodes_left m (set_position m.ynd m.nodes place position)) }
 {
     let mut lens = held(members);

@@ -1,9 +1,9 @@
 // Edits of a member's refs (T-09).
-ghost use Rattle.std.specs.Prelude.{◌≡◌, List, ℕ};
+ghost use Rattle.std.specs.Prelude.{◌≡◌};
 ghost use Rattle.cells.specs.Add.{add_ref};
 ghost use Rattle.cells.specs.Edit.{put_ref};
 ghost use Rattle.sets.specs.CellSet.{cell_set};
-ghost use Rattle.sets.specs.Lent.{Lies};
+ghost use Rattle.sets.specs.Lent.{Unlent};
 ghost use Rattle.sets.specs.MemberEdit.{set_edited, edit_member, refs_left};
 
 use crate::entry::MemberWords;
@@ -21,11 +21,9 @@ pub fn add_ref_member(
     member: usize,
     r: NodeJunctionRef,
 ) -> Result<(), Refusal>
-    ensures { (nodes links junctions : List (List ℕ)) (heights : List ℕ)
-        → Lies 15 members.old nodes → Lies 16 members.old links
-        → Lies 17 members.old junctions → Lies 18 members.old heights
-        → set_edited result (cell_set members.new nodes links junctions heights refs.new)
-        ≡ edit_member (cell_set members.old nodes links junctions heights refs.old) member
+    ensures { (u : Unlent members.old)
+        → set_edited result (cell_set members.new u.nodes u.links u.junctions u.heights refs.new)
+        ≡ edit_member (cell_set members.old u.nodes u.links u.junctions u.heights refs.old) member
         (λ m. add_ref m r) }
 {
     let mut lens = held(members);
@@ -44,11 +42,9 @@ pub fn put_ref_member(
     place: usize,
     r: NodeJunctionRef,
 ) -> Result<(), Refusal>
-    ensures { (nodes links junctions : List (List ℕ)) (heights : List ℕ)
-        → Lies 15 members.now nodes → Lies 16 members.now links
-        → Lies 17 members.now junctions → Lies 18 members.now heights
-        → set_edited result (cell_set members.now nodes links junctions heights refs.new)
-        ≡ edit_member (cell_set members.now nodes links junctions heights refs.old) member
+    ensures { (u : Unlent members.now)
+        → set_edited result (cell_set members.now u.nodes u.links u.junctions u.heights refs.new)
+        ≡ edit_member (cell_set members.now u.nodes u.links u.junctions u.heights refs.old) member
         (λ m. refs_left m (put_ref m.ynd m.refs place r)) }
 {
     let mut lens = held(members);

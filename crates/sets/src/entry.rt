@@ -3,9 +3,11 @@
 ghost use Rattle.std.specs.Prelude.{◌≡◌, ◌<◌, length};
 ghost use Rattle.sets.specs.CellSet.{word, ynd_of};
 ghost use Rattle.sets.specs.Join.{entry_of};
+ghost use Rattle.sets.specs.SetParts.{count_word, size_word};
 
 use cells::count::Counts;
 use cells::ynd::Ynd;
+use numbers::refusal::Array;
 
 pub type MemberWords = [u32; 20];
 
@@ -15,11 +17,30 @@ fn wide(x: u32) -> usize
     x as usize
 }
 
-pub(crate) fn word_at(w: MemberWords, k: usize) -> usize
-    requires { k < 20 }
-    ensures { (result ≡ word k w) × (result < 4294967296) }
+// How many entries the member has in a list.
+pub(crate) fn count_in(w: MemberWords, list: Array) -> usize
+    ensures { (result ≡ word (count_word list) w) × (result < 4294967296) }
 {
-    wide(w[k])
+    match list {
+        Array::Nodes => wide(w[10]),
+        Array::Links => wide(w[11]),
+        Array::Junctions => wide(w[12]),
+        Array::Heightmap => wide(w[13]),
+        Array::Refs => wide(w[14]),
+    }
+}
+
+// How many its part of the list holds.
+pub(crate) fn size_in(w: MemberWords, list: Array) -> usize
+    ensures { (result ≡ word (size_word list) w) × (result < 4294967296) }
+{
+    match list {
+        Array::Nodes => wide(w[15]),
+        Array::Links => wide(w[16]),
+        Array::Junctions => wide(w[17]),
+        Array::Heightmap => wide(w[18]),
+        Array::Refs => wide(w[19]),
+    }
 }
 
 #[tactic(auto, unfolding(crate::specs::CellSet::ynd_of))]

@@ -1,7 +1,7 @@
 // A member's entries, and its own words (T-09).
-ghost use Rattle.std.specs.Prelude.{◌≡◌, List, ℕ};
+ghost use Rattle.std.specs.Prelude.{◌≡◌};
 ghost use Rattle.sets.specs.CellSet.{cell_set};
-ghost use Rattle.sets.specs.Lent.{Lies};
+ghost use Rattle.sets.specs.Lent.{Unlent};
 ghost use Rattle.sets.specs.MemberLookup.{ynd_member, get_node_member, get_link_member};
 ghost use Rattle.sets.specs.MemberLookup.{get_ref_member, get_junction_member, get_height_member};
 
@@ -17,11 +17,8 @@ use numbers::refusal::Refusal;
 use records::junction_ref::NodeJunctionRef;
 
 pub fn ynd_member(members: &[MemberWords], member: usize) -> Result<Ynd, Refusal>
-    ensures { (nodes links junctions refs : List (List ℕ)) (heights : List ℕ)
-        → Lies 15 members.now nodes → Lies 16 members.now links
-        → Lies 17 members.now junctions → Lies 18 members.now heights
-        → Lies 19 members.now refs
-        → result ≡ ynd_member (cell_set members.now nodes links junctions heights refs)
+    ensures { (u : Unlent members.now)
+        → result ≡ ynd_member (cell_set members.now u.nodes u.links u.junctions u.heights u.refs)
         member }
 {
     let lens = held(members);
@@ -36,10 +33,8 @@ pub fn get_node_member(
     member: usize,
     place: usize,
 ) -> Result<PathNode, Refusal>
-    ensures { (links junctions refs : List (List ℕ)) (heights : List ℕ)
-        → Lies 16 members.now links → Lies 17 members.now junctions
-        → Lies 18 members.now heights → Lies 19 members.now refs
-        → result ≡ get_node_member (cell_set members.now nodes.now links junctions heights refs)
+    ensures { (u : Unlent members.now)
+        → result ≡ get_node_member (cell_set members.now nodes.now u.links u.junctions u.heights u.refs)
         member place }
 {
     let mut lens = held(members);
@@ -57,10 +52,8 @@ pub fn get_link_member(
     place: usize,
     k: usize,
 ) -> Result<PathLink, Refusal>
-    ensures { (junctions refs : List (List ℕ)) (heights : List ℕ)
-        → Lies 17 members.now junctions → Lies 18 members.now heights
-        → Lies 19 members.now refs
-        → result ≡ get_link_member (cell_set members.now nodes.now links.now junctions heights refs)
+    ensures { (u : Unlent members.now)
+        → result ≡ get_link_member (cell_set members.now nodes.now links.now u.junctions u.heights u.refs)
         member place k }
 {
     let mut lens = held(members);
@@ -83,10 +76,8 @@ pub fn get_ref_member(
     member: usize,
     place: usize,
 ) -> Result<NodeJunctionRef, Refusal>
-    ensures { (nodes links junctions : List (List ℕ)) (heights : List ℕ)
-        → Lies 15 members.now nodes → Lies 16 members.now links
-        → Lies 17 members.now junctions → Lies 18 members.now heights
-        → result ≡ get_ref_member (cell_set members.now nodes links junctions heights refs.now)
+    ensures { (u : Unlent members.now)
+        → result ≡ get_ref_member (cell_set members.now u.nodes u.links u.junctions u.heights refs.now)
         member place }
 {
     let mut lens = held(members);
@@ -102,10 +93,8 @@ pub fn get_junction_member(
     member: usize,
     place: usize,
 ) -> Result<PathJunction, Refusal>
-    ensures { (nodes links refs : List (List ℕ)) (heights : List ℕ)
-        → Lies 15 members.now nodes → Lies 16 members.now links
-        → Lies 18 members.now heights → Lies 19 members.now refs
-        → result ≡ get_junction_member (cell_set members.now nodes links junctions.now heights refs)
+    ensures { (u : Unlent members.now)
+        → result ≡ get_junction_member (cell_set members.now u.nodes u.links junctions.now u.heights u.refs)
         member place }
 {
     let mut lens = held(members);
@@ -123,10 +112,8 @@ pub fn get_height_member(
     place: usize,
     k: usize,
 ) -> Result<u8, Refusal>
-    ensures { (nodes links refs : List (List ℕ))
-        → Lies 15 members.now nodes → Lies 16 members.now links
-        → Lies 19 members.now refs
-        → result ≡ get_height_member (cell_set members.now nodes links junctions.now heights.now refs)
+    ensures { (u : Unlent members.now)
+        → result ≡ get_height_member (cell_set members.now u.nodes u.links junctions.now heights.now u.refs)
         member place k }
 {
     let mut lens = held(members);

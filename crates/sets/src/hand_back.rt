@@ -9,7 +9,7 @@ ghost use Rattle.sets.specs.MemberParts.{part_memory, Giving};
 use crate::entry::MemberWords;
 use crate::lists::{Given, Lists};
 use crate::member::{MemberPart, open_member};
-use crate::named::member_with;
+use crate::named::member_of_area;
 use cells::count::{Counts, lengths};
 use cells::junction::JunctionWords;
 use cells::link::LinkWords;
@@ -51,9 +51,7 @@ pub fn hand_back(
         ≡ hand_back (cell_set members.now nodes.now links.now junctions.now heights.now refs.now)
         area (memory ynd to_nodes.old to_links.old to_junctions.old to_heights.old to_refs.old) }
 {
-    let Some(j) = member_with(members, nodes, area) else {
-        return Err(Refusal::NoSuchPlace);
-    };
+    let j = member_of_area(members, nodes, area).ok_or(Refusal::NoSuchPlace)?;
     let lens = lengths(nodes, links, junctions, heights, refs);
     let p = open_member(members, lens, j)?;
     check_lent(

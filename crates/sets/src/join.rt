@@ -1,6 +1,6 @@
 // A cell joins a set (T-09).
 ghost use Rattle.std.specs.Prelude.{◌≡◌, List, [], ◌∷◌, ◌++◌, ℕ, ◌+◌, ◌≤◌, ◌<◌, not, length, take};
-ghost use Rattle.numbers.specs.Refusals.{decided, when};
+ghost use Rattle.numbers.specs.Refusals.{decided, lent_of, when};
 ghost use Rattle.cells.specs.Lookup.{first_with, is_some};
 ghost use Rattle.cells.specs.Memory.{memory};
 ghost use Rattle.cells.specs.RenumberParts.{counts_of};
@@ -9,13 +9,13 @@ ghost use Rattle.sets.specs.CellSet.{cell_set};
 ghost use Rattle.sets.specs.Leave.{left_after};
 ghost use Rattle.sets.specs.Join.{part_fits, lack_for, join_cell};
 ghost use Rattle.sets.specs.SetParts.{named_of, areas_of, bare, bare_cell, entry_causes};
-ghost use Rattle.sets.specs.SetParts.{count_word, size_word, number_in, name_of};
+ghost use Rattle.sets.specs.SetParts.{count_word, size_word, number_in};
 ghost use Rattle.numbers.specs.declared.refusal.Refusal.TheVariants.{TooShort};
 
 use crate::entry::{MemberWords, entry_words};
 use crate::lists::{Given, Lists};
-use crate::named::member_with;
-use crate::parts::{Kind, count_all, starts_of};
+use crate::named::member_of_area;
+use crate::parts::{count_all, nodes_together, number_in, starts_of};
 use crate::room::{any_over, holds_list};
 use cells::area::own_area;
 use cells::count::{Counts, lengths};
@@ -24,37 +24,7 @@ use cells::link::LinkWords;
 use cells::node::NodeWords;
 use cells::room::over_limit;
 use cells::ynd::Ynd;
-use numbers::refusal::{Lent, Refusal};
-
-// Whether a list of `len` entries holds the members' parts and has room for one more, of `room` entries, which has
-// place for the first `count` entries of a list of `have`.
-#[tactic(auto, using(crate::proofs::Rules::fit_laws))]
-fn part_fits(
-    members: &[MemberWords],
-    k: usize,
-    size: usize,
-    len: usize,
-    have: usize,
-    count: usize,
-    room: usize,
-) -> bool
-    requires { (k < 20) × (size < 20) × (length members.now ≤ 9) }
-    ensures { result ≡ part_fits k size members.now len have count room }
-{
-    if !holds_list(members, k, size, len) {
-        return false;
-    }
-    if have < count {
-        return false;
-    }
-    if room < count {
-        return false;
-    }
-    if 4294967295 < room {
-        return false;
-    }
-    room <= len - count_all(members, size)
-}
+use numbers::refusal::{Array, Lent, Refusal};
 
 // A cell that is to join, with what its own lists and the set's have, and the sizes of its parts.
 #[derive(Clone, Copy)]
@@ -65,20 +35,40 @@ struct Joining {
     sizes: Counts,
 }
 
+// Whether a list holds the members' parts and has room for the cell's, which has place for its entries.
+#[tactic(auto, using(crate::proofs::Rules::fit_laws))]
+fn part_fits(members: &[MemberWords], cell: Joining, list: Array) -> bool
+    requires { length members.now ≤ 9 }
+    ensures { result ≡ part_fits (count_word list) (size_word list) members.now (number_in list cell.lens)
+        (number_in list cell.haves) (number_in list (counts_of cell.ynd)) (number_in list cell.sizes) }
+{
+    let len = number_in(list, cell.lens);
+    let count = number_in(list, cell.ynd.counts());
+    let room = number_in(list, cell.sizes);
+    if !holds_list(members, list, len) {
+        return false;
+    }
+    if number_in(list, cell.haves) < count {
+        return false;
+    }
+    if room < count {
+        return false;
+    }
+    if 4294967295 < room {
+        return false;
+    }
+    room <= len - count_all(members, list)
+}
+
 // 7: whether a list has room for the cell.
-fn check_part(members: &[MemberWords], cell: Joining, list: Kind) -> Result<(), Refusal>
+fn check_part(members: &[MemberWords], cell: Joining, list: Array) -> Result<(), Refusal>
     requires { length members.now ≤ 9 }
     ensures { result ≡ decided (when (not (part_fits (count_word list) (size_word list) members.now
         (number_in list cell.lens) (number_in list cell.haves) (number_in list (counts_of cell.ynd))
-        (number_in list cell.sizes))) (TooShort (name_of list)) ∷ []) }
+        (number_in list cell.sizes))) (TooShort (lent_of list)) ∷ []) }
 {
-    let (k, size) = list.words();
-    let len = list.number_in(cell.lens);
-    let have = list.number_in(cell.haves);
-    let count = list.number_in(cell.ynd.counts());
-    let room = list.number_in(cell.sizes);
-    if !part_fits(members, k, size, len, have, count, room) {
-        return Err(Refusal::TooShort(list.name()));
+    if !part_fits(members, cell, list) {
+        return Err(Refusal::TooShort(list.into()));
     }
     Ok(())
 }
@@ -89,11 +79,11 @@ fn check_fit(members: &[MemberWords], cell: Joining) -> Result<(), Refusal>
     requires { length members.now ≤ 9 }
     ensures { result ≡ decided (lack_for members.now cell.lens cell.haves cell.ynd cell.sizes) }
 {
-    check_part(members, cell, Kind::Nodes)?;
-    check_part(members, cell, Kind::Links)?;
-    check_part(members, cell, Kind::Junctions)?;
-    check_part(members, cell, Kind::Heights)?;
-    check_part(members, cell, Kind::Refs)
+    check_part(members, cell, Array::Nodes)?;
+    check_part(members, cell, Array::Links)?;
+    check_part(members, cell, Array::Junctions)?;
+    check_part(members, cell, Array::Heightmap)?;
+    check_part(members, cell, Array::Refs)
 }
 
 // Whether the set with the cell is over a limit.
@@ -104,7 +94,7 @@ fn over_with(members: &[MemberWords], ynd: Ynd) -> bool
     if 9 <= members.len() {
         return true;
     }
-    let n = count_all(members, 10);
+    let n = nodes_together(members);
     if 65536 < n {
         return true;
     }
@@ -121,7 +111,7 @@ fn over_with(members: &[MemberWords], ynd: Ynd) -> bool
 fn has_area(members: &[MemberWords], nodes: &[NodeWords], area: u16) -> bool
     ensures { result ≡ is_some (first_with (areas_of members.now nodes.now) area) }
 {
-    member_with(members, nodes, area).is_some()
+    member_of_area(members, nodes, area).is_some()
 }
 
 // What joining answers, for a cell of this area. Nothing is stored.

@@ -8,7 +8,7 @@ ghost use Rattle.sets.specs.Leave.{left_after, without, leave_area};
 use crate::entry::MemberWords;
 use crate::lists::Lists;
 use crate::moves::close;
-use crate::named::member_with;
+use crate::named::member_of_area;
 use crate::parts::starts_of;
 use crate::room::check_set;
 use cells::count::lengths;
@@ -54,9 +54,7 @@ pub fn leave(
         heights.old refs.old) area }
 {
     let m = members.len();
-    let Some(j) = member_with(members, nodes, area) else {
-        return Err(Refusal::NoSuchPlace);
-    };
+    let j = member_of_area(members, nodes, area).ok_or(Refusal::NoSuchPlace)?;
     check_set(members, lengths(nodes, links, junctions, heights, refs))?;
     let mut lists = Lists {
         nodes,

@@ -4,11 +4,11 @@ ghost use Rattle.sets.specs.Join.{stored};
 ghost use Rattle.sets.specs.ListParts.{Same, lengths_given};
 ghost use Rattle.sets.specs.MemberParts.{PartsLie, between};
 
-use crate::moves::put;
 use cells::count::Counts;
 use cells::junction::JunctionWords;
 use cells::link::LinkWords;
 use cells::node::NodeWords;
+use cells::replace::put_at;
 
 // The part of a list from a up to e.
 fn part<T>(list: &[T], a: usize, e: usize) -> &[T]
@@ -60,6 +60,7 @@ impl<'a> Given<'a> {
 
 impl<'a> Lists<'a> {
     // What the counts say of these lists, stored from these places on.
+    #[tactic(auto, using(crate::proofs::PartLaws::stored_in))]
     pub(crate) fn append(&mut self, at: Counts, counts: Counts, given: Given)
         requires { ((counts.nodes ≤ length given.nodes.now)
             × (at.nodes + counts.nodes ≤ length self.old.nodes.now))
@@ -79,14 +80,14 @@ impl<'a> Lists<'a> {
             ≡ stored at.heights (take counts.heights given.entry.heights.now) self.old.heights.now)
             × (self.new.refs.now ≡ stored at.refs (take counts.refs given.entry.refs.now) self.old.refs.now) }
     {
-        put(self.nodes, at.nodes, &given.nodes[..counts.nodes]);
-        put(self.links, at.links, &given.links[..counts.links]);
-        put(
+        put_at(self.nodes, at.nodes, &given.nodes[..counts.nodes]);
+        put_at(self.links, at.links, &given.links[..counts.links]);
+        put_at(
             self.junctions,
             at.junctions,
             &given.junctions[..counts.junctions],
         );
-        put(self.heights, at.heights, &given.heights[..counts.heights]);
-        put(self.refs, at.refs, &given.refs[..counts.refs]);
+        put_at(self.heights, at.heights, &given.heights[..counts.heights]);
+        put_at(self.refs, at.refs, &given.refs[..counts.refs]);
     }
 }

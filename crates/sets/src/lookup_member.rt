@@ -1,7 +1,7 @@
 // Lookups in a member (T-09).
-ghost use Rattle.std.specs.Prelude.{◌≡◌, List, ℕ};
+ghost use Rattle.std.specs.Prelude.{◌≡◌};
 ghost use Rattle.sets.specs.CellSet.{cell_set};
-ghost use Rattle.sets.specs.Lent.{Lies};
+ghost use Rattle.sets.specs.Lent.{Unlent};
 ghost use Rattle.sets.specs.MemberLookup.{area_id_member, node_member, junction_of_member, start_in_member};
 
 use crate::entry::MemberWords;
@@ -17,10 +17,8 @@ pub fn area_id_member(
     nodes: &[NodeWords],
     member: usize,
 ) -> Result<Option<u32>, Refusal>
-    ensures { (links junctions refs : List (List ℕ)) (heights : List ℕ)
-        → Lies 16 members.now links → Lies 17 members.now junctions
-        → Lies 18 members.now heights → Lies 19 members.now refs
-        → result ≡ area_id_member (cell_set members.now nodes.now links junctions heights refs)
+    ensures { (u : Unlent members.now)
+        → result ≡ area_id_member (cell_set members.now nodes.now u.links u.junctions u.heights u.refs)
         member }
 {
     let mut lens = held(members);
@@ -36,10 +34,8 @@ pub fn node_member(
     member: usize,
     node_id: u16,
 ) -> Result<Option<usize>, Refusal>
-    ensures { (links junctions refs : List (List ℕ)) (heights : List ℕ)
-        → Lies 16 members.now links → Lies 17 members.now junctions
-        → Lies 18 members.now heights → Lies 19 members.now refs
-        → result ≡ node_member (cell_set members.now nodes.now links junctions heights refs)
+    ensures { (u : Unlent members.now)
+        → result ≡ node_member (cell_set members.now nodes.now u.links u.junctions u.heights u.refs)
         member node_id }
 {
     let mut lens = held(members);
@@ -57,10 +53,8 @@ pub fn junction_of_member(
     area_id: u16,
     node_id: u16,
 ) -> Result<Option<usize>, Refusal>
-    ensures { (links junctions : List (List ℕ)) (heights : List ℕ)
-        → Lies 16 members.now links → Lies 17 members.now junctions
-        → Lies 18 members.now heights
-        → result ≡ junction_of_member (cell_set members.now nodes.now links junctions heights refs.now)
+    ensures { (u : Unlent members.now)
+        → result ≡ junction_of_member (cell_set members.now nodes.now u.links u.junctions u.heights refs.now)
         member area_id node_id }
 {
     let mut lens = held(members);
@@ -76,27 +70,6 @@ pub fn junction_of_member(
     )
 }
 
-// `node_member`, where the links are lent too.
-fn node_in(
-    members: &[MemberWords],
-    nodes: &[NodeWords],
-    links: &[LinkWords],
-    member: usize,
-    node_id: u16,
-) -> Result<Option<usize>, Refusal>
-    ensures { (junctions refs : List (List ℕ)) (heights : List ℕ)
-        → Lies 17 members.now junctions → Lies 18 members.now heights
-        → Lies 19 members.now refs
-        → result ≡ node_member (cell_set members.now nodes.now links.now junctions heights refs)
-        member node_id }
-{
-    let mut lens = held(members);
-    lens.nodes = nodes.len();
-    lens.links = links.len();
-    let p = open_member(members, lens, member)?;
-    node(p.ynd, &nodes[p.a.nodes..p.e.nodes], node_id)
-}
-
 // Where a walk starts in the member that names its start by a number: 13 if no node has it.
 pub fn start_in_member(
     members: &[MemberWords],
@@ -105,14 +78,13 @@ pub fn start_in_member(
     member: usize,
     node_id: u16,
 ) -> Result<usize, Refusal>
-    ensures { (junctions refs : List (List ℕ)) (heights : List ℕ)
-        → Lies 17 members.now junctions → Lies 18 members.now heights
-        → Lies 19 members.now refs
-        → result ≡ start_in_member (cell_set members.now nodes.now links.now junctions heights refs)
+    ensures { (u : Unlent members.now)
+        → result ≡ start_in_member (cell_set members.now nodes.now links.now u.junctions u.heights u.refs)
         member node_id }
 {
-    match node_in(members, nodes, links, member, node_id)? {
-        Some(place) => Ok(place),
-        None => Err(Refusal::NoSuchPlace),
-    }
+    let mut lens = held(members);
+    lens.nodes = nodes.len();
+    lens.links = links.len();
+    let p = open_member(members, lens, member)?;
+    node(p.ynd, &nodes[p.a.nodes..p.e.nodes], node_id)?.ok_or(Refusal::NoSuchPlace)
 }

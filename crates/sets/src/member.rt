@@ -4,12 +4,12 @@ ghost use Rattle.numbers.specs.Refusals.{decided};
 ghost use Rattle.sets.specs.SetStored.{entry_with};
 ghost use Rattle.sets.specs.MemberParts.{entry_ask, opened, held_by};
 
-use crate::entry::{MemberWords, entry_words, word_at, ynd_of};
+use crate::entry::{MemberWords, entry_words, size_in, ynd_of};
 use crate::parts::starts_of;
 use crate::room::check_set;
 use cells::count::Counts;
 use cells::ynd::Ynd;
-use numbers::refusal::Refusal;
+use numbers::refusal::{Array, Refusal};
 
 // A member's `Ynd`, and where its parts start and end.
 #[derive(Clone, Copy)]
@@ -58,13 +58,7 @@ pub(crate) fn held(members: &[MemberWords]) -> Counts
 {
     let m = members.len();
     if 9 < m {
-        return Counts {
-            nodes: 0,
-            links: 0,
-            junctions: 0,
-            heights: 0,
-            refs: 0,
-        };
+        return Counts::default();
     }
     starts_of(members, m)
 }
@@ -74,11 +68,11 @@ fn entry_with(ynd: Ynd, w: MemberWords) -> MemberWords
     ensures { result ≡ entry_with ynd w }
 {
     let sizes = Counts {
-        nodes: word_at(w, 15),
-        links: word_at(w, 16),
-        junctions: word_at(w, 17),
-        heights: word_at(w, 18),
-        refs: word_at(w, 19),
+        nodes: size_in(w, Array::Nodes),
+        links: size_in(w, Array::Links),
+        junctions: size_in(w, Array::Junctions),
+        heights: size_in(w, Array::Heightmap),
+        refs: size_in(w, Array::Refs),
     };
     entry_words(ynd, sizes)
 }

@@ -1,47 +1,47 @@
 // Whether a set keeps to the limits, and the lent lists hold its members: what a set made by hand is refused for.
 ghost use Rattle.std.specs.Prelude.{◌≡◌, ◌≤◌, ◌<◌, ◌∷◌, [], not, length};
 ghost use Rattle.cells.specs.Lists.{every};
-ghost use Rattle.numbers.specs.Refusals.{decided, when};
+ghost use Rattle.numbers.specs.Refusals.{decided, lent_of, when};
 ghost use Rattle.sets.specs.MemberList.{any_over, over_set};
 ghost use Rattle.sets.specs.CellSet.{room_for, holds_list, lack_of};
-ghost use Rattle.sets.specs.SetParts.{bare, list_causes, count_word, size_word, number_in, name_of};
+ghost use Rattle.sets.specs.SetParts.{bare, list_causes, count_word, size_word};
 ghost use Rattle.numbers.specs.declared.refusal.Refusal.TheVariants.{TooShort};
 
-use crate::entry::{MemberWords, word_at, ynd_of};
-use crate::parts::{Kind, count_all};
+use crate::entry::{MemberWords, count_in, size_in, ynd_of};
+use crate::parts::{count_all, nodes_together};
 use cells::count::Counts;
 use cells::room::over_limit;
-use numbers::refusal::Refusal;
+use numbers::refusal::{Array, Refusal};
 
-// Whether each member's part, of as many entries as word `size` says, has as many as word k says.
-fn rooms_hold(members: &[MemberWords], k: usize, size: usize) -> bool
-    requires { (k < 20) × (size < 20) }
-    ensures { result ≡ every (room_for k size) members.now }
+// Whether each member's part of a list holds as many entries as the member has.
+fn rooms_hold(members: &[MemberWords], list: Array) -> bool
+    ensures { result ≡ every (room_for (count_word list) (size_word list)) members.now }
 {
-    members.iter().all(|w| word_at(*w, k) <= word_at(*w, size))
+    members
+        .iter()
+        .all(|w| count_in(*w, list) <= size_in(*w, list))
 }
 
 // Whether a list of `len` entries holds all members' parts, and each part its member's entries.
 #[tactic(auto, using(crate::proofs::RoomLaws::hold_laws))]
-pub(crate) fn holds_list(members: &[MemberWords], k: usize, size: usize, len: usize) -> bool
-    requires { (k < 20) × (size < 20) × (length members.now ≤ 9) }
-    ensures { result ≡ holds_list k size members.now len }
+pub(crate) fn holds_list(members: &[MemberWords], list: Array, len: usize) -> bool
+    requires { length members.now ≤ 9 }
+    ensures { result ≡ holds_list (count_word list) (size_word list) members.now len }
 {
-    if !rooms_hold(members, k, size) {
+    if !rooms_hold(members, list) {
         return false;
     }
-    count_all(members, size) <= len
+    count_all(members, list) <= len
 }
 
-// 7: whether a list, of its length among `lens`, holds the members.
-fn check_list(members: &[MemberWords], lens: Counts, list: Kind) -> Result<(), Refusal>
+// 7: whether a list of `len` entries holds the members.
+pub(crate) fn check_list(members: &[MemberWords], list: Array, len: usize) -> Result<(), Refusal>
     requires { length members.now ≤ 9 }
-    ensures { result ≡ decided (when (not (holds_list (count_word list) (size_word list) members.now
-        (number_in list lens))) (TooShort (name_of list)) ∷ []) }
+    ensures { result ≡ decided (when (not (holds_list (count_word list) (size_word list) members.now len))
+        (TooShort (lent_of list)) ∷ []) }
 {
-    let (k, size) = list.words();
-    if !holds_list(members, k, size, list.number_in(lens)) {
-        return Err(Refusal::TooShort(list.name()));
+    if !holds_list(members, list, len) {
+        return Err(Refusal::TooShort(list.into()));
     }
     Ok(())
 }
@@ -52,11 +52,11 @@ fn check_lists(members: &[MemberWords], lens: Counts) -> Result<(), Refusal>
     requires { length members.now ≤ 9 }
     ensures { result ≡ decided (lack_of members.now lens.nodes lens.links lens.junctions lens.heights lens.refs) }
 {
-    check_list(members, lens, Kind::Nodes)?;
-    check_list(members, lens, Kind::Links)?;
-    check_list(members, lens, Kind::Junctions)?;
-    check_list(members, lens, Kind::Heights)?;
-    check_list(members, lens, Kind::Refs)
+    check_list(members, Array::Nodes, lens.nodes)?;
+    check_list(members, Array::Links, lens.links)?;
+    check_list(members, Array::Junctions, lens.junctions)?;
+    check_list(members, Array::Heightmap, lens.heights)?;
+    check_list(members, Array::Refs, lens.refs)
 }
 
 // Whether a member's cell is over a limit of its own.
@@ -74,7 +74,7 @@ pub(crate) fn over_set(members: &[MemberWords]) -> bool
     if 9 < members.len() {
         return true;
     }
-    if 65536 < count_all(members, 10) {
+    if 65536 < nodes_together(members) {
         return true;
     }
     any_over(members)

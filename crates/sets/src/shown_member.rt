@@ -1,8 +1,8 @@
 // What a walk shows in a member (T-09).
-ghost use Rattle.std.specs.Prelude.{◌≡◌, List, ℕ};
+ghost use Rattle.std.specs.Prelude.{◌≡◌};
 ghost use Rattle.walks.specs.Shown.{values_left};
 ghost use Rattle.sets.specs.CellSet.{cell_set};
-ghost use Rattle.sets.specs.Lent.{Lies};
+ghost use Rattle.sets.specs.Lent.{Unlent};
 ghost use Rattle.sets.specs.MemberLookup.{shown_node_member, shown_junction_member, shown_values_member};
 ghost use Rattle.sets.specs.MemberLookup.{shown_link_member};
 
@@ -26,9 +26,8 @@ pub fn shown_node_member(
     member: usize,
     place: usize,
 ) -> Result<SeenNode, Refusal>
-    ensures { (heights : List ℕ)
-        → Lies 18 members.now heights
-        → result ≡ shown_node_member (cell_set members.now nodes.now links.now junctions.now heights refs.now)
+    ensures { (u : Unlent members.now)
+        → result ≡ shown_node_member (cell_set members.now nodes.now links.now junctions.now u.heights refs.now)
         member place }
 {
     let mut lens = held(members);
@@ -54,10 +53,8 @@ pub fn shown_junction_member(
     member: usize,
     place: usize,
 ) -> Result<SeenJunction, Refusal>
-    ensures { (nodes links refs : List (List ℕ)) (heights : List ℕ)
-        → Lies 15 members.now nodes → Lies 16 members.now links
-        → Lies 18 members.now heights → Lies 19 members.now refs
-        → result ≡ shown_junction_member (cell_set members.now nodes links junctions.now heights refs)
+    ensures { (u : Unlent members.now)
+        → result ≡ shown_junction_member (cell_set members.now u.nodes u.links junctions.now u.heights u.refs)
         member place }
 {
     let mut lens = held(members);
@@ -75,11 +72,9 @@ pub fn shown_values_member(
     place: usize,
     values: &mut [u8],
 ) -> Result<usize, Refusal>
-    ensures { (nodes links refs : List (List ℕ))
-        → Lies 15 members.now nodes → Lies 16 members.now links
-        → Lies 19 members.now refs
+    ensures { (u : Unlent members.now)
         → values_left result values.new
-        ≡ shown_values_member (cell_set members.now nodes links junctions.now heights.now refs)
+        ≡ shown_values_member (cell_set members.now u.nodes u.links junctions.now heights.now u.refs)
         member place values.old }
 {
     let mut lens = held(members);
@@ -104,10 +99,8 @@ pub fn shown_link_member(
     place: usize,
     choice: u8,
 ) -> Result<Option<SeenLink>, Refusal>
-    ensures { (junctions refs : List (List ℕ)) (heights : List ℕ)
-        → Lies 17 members.now junctions → Lies 18 members.now heights
-        → Lies 19 members.now refs
-        → result ≡ shown_link_member (cell_set members.now nodes.now links.now junctions heights refs)
+    ensures { (u : Unlent members.now)
+        → result ≡ shown_link_member (cell_set members.now nodes.now links.now u.junctions u.heights u.refs)
         member place choice }
 {
     let mut lens = held(members);

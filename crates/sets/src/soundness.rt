@@ -11,63 +11,60 @@ ghost use Rattle.sets.specs.SetParts.{Holding};
 ghost use Rattle.sets.specs.WorldParts.{set_of};
 ghost use Rattle.sets.specs.SetSoundParts.{judged_at, numbers_of, indexed_to, entries_causes, cells_in};
 
-use crate::areas::fill_areas;
-use crate::arrivals::members_meet;
 use crate::entry::{MemberWords, ynd_of};
 use crate::parts::count_before;
-use crate::room::{holds_list, over_set};
+use crate::room::{check_list, over_set};
 use crate::world::World;
 use cells::link::LinkWords;
 use cells::node::NodeWords;
-use numbers::refusal::{Lent, Refusal};
+use numbers::refusal::{Array, Lent, Refusal};
 use walks::sound::sound;
 
-// Whether the member k is sound. The scratch then leads to its nodes.
-#[tactic(auto, using(crate::proofs::PartLaws::total_below))]
-fn member_sound(set: &World, refs: &[LinkWords], k: usize, scratch: &mut [u32]) -> bool
-    requires { Holding 14 19 set.now.members.now (length refs.now) × (k < length set.now.members.now)
-        × (65536 ≤ length scratch.old) }
-    ensures { ((junctions : List (List ℕ)) (heights : List ℕ) → result
-        ≡ is_sound (cell_at (cells_in (set_of set.now junctions heights refs.now)) k))
-        × (scratch.new ≡ indexed (numbers_of set.now.members.now set.now.nodes.now k) 0 scratch.old) }
-{
-    let ynd = ynd_of(set.members[k]);
-    let a = count_before(set.members, 15, k);
-    let c = count_before(set.members, 16, k);
-    let e = count_before(set.members, 19, k);
-    match sound(ynd, &set.nodes[a..], &set.links[c..], &refs[e..], scratch) {
-        Ok(v) => v,
-        Err(_) => false,
+impl World<'_> {
+    // Whether the member k is sound. The scratch then leads to its nodes.
+    #[tactic(auto, using(crate::proofs::PartLaws::total_below))]
+    fn member_sound(&self, refs: &[LinkWords], k: usize, scratch: &mut [u32]) -> bool
+        requires { Holding 14 19 self.now.members.now (length refs.now) × (k < length self.now.members.now)
+            × (65536 ≤ length scratch.old) }
+        ensures { ((junctions : List (List ℕ)) (heights : List ℕ) → result
+            ≡ is_sound (cell_at (cells_in (set_of self.now junctions heights refs.now)) k))
+            × (scratch.new ≡ indexed (numbers_of self.now.members.now self.now.nodes.now k) 0 scratch.old) }
+    {
+        let ynd = ynd_of(self.members[k]);
+        let a = count_before(self.members, Array::Nodes, k);
+        let c = count_before(self.members, Array::Links, k);
+        let e = count_before(self.members, Array::Refs, k);
+        sound(ynd, &self.nodes[a..], &self.links[c..], &refs[e..], scratch).unwrap_or(false)
     }
-}
 
-// Whether the member k is sound, and all links that name it name nodes of it.
-fn judge_member(set: &World, refs: &[LinkWords], k: usize, scratch: &mut [u32]) -> bool
-    requires { Holding 14 19 set.now.members.now (length refs.now)
-        × (k < length set.now.members.now) × (65536 ≤ length scratch.old) }
-    ensures { ((junctions : List (List ℕ)) (heights : List ℕ) → result
-        ≡ judged_at (cells_in (set_of set.now junctions heights refs.now))
-        (length set.now.members.now) k)
-        × (scratch.new ≡ indexed (numbers_of set.now.members.now set.now.nodes.now k) 0 scratch.old) }
-{
-    member_sound(set, refs, k, scratch) && members_meet(set, scratch, k)
-}
-
-// The same of each member. One that is not sound ends nothing, so that the scratch is known whatever the answer.
-#[tactic(auto, using(crate::proofs::SetSoundLaws::loop_laws))]
-fn judge_members(set: &World, refs: &[LinkWords], scratch: &mut [u32]) -> bool
-    requires { Holding 14 19 set.now.members.now (length refs.now)
-        × (65536 ≤ length scratch.old) }
-    ensures { ((junctions : List (List ℕ)) (heights : List ℕ) → result
-        ≡ set_sound (cells_in (set_of set.now junctions heights refs.now)))
-        × (scratch.new
-        ≡ indexed_to (numbers_of set.now.members.now set.now.nodes.now) (length set.now.members.now) scratch.old) }
-{
-    let mut good = true;
-    for k in 0..set.members.len() {
-        good &= judge_member(set, refs, k, scratch);
+    // Whether the member k is sound, and all links that name it name nodes of it.
+    fn judge_member(&self, refs: &[LinkWords], k: usize, scratch: &mut [u32]) -> bool
+        requires { Holding 14 19 self.now.members.now (length refs.now)
+            × (k < length self.now.members.now) × (65536 ≤ length scratch.old) }
+        ensures { ((junctions : List (List ℕ)) (heights : List ℕ) → result
+            ≡ judged_at (cells_in (set_of self.now junctions heights refs.now))
+            (length self.now.members.now) k)
+            × (scratch.new ≡ indexed (numbers_of self.now.members.now self.now.nodes.now k) 0 scratch.old) }
+    {
+        self.member_sound(refs, k, scratch) && self.members_meet(scratch, k)
     }
-    good
+
+    // The same of each member. One that is not sound ends nothing, so that the scratch is known whatever the answer.
+    #[tactic(auto, using(crate::proofs::SetSoundLaws::loop_laws))]
+    fn judge_members(&self, refs: &[LinkWords], scratch: &mut [u32]) -> bool
+        requires { Holding 14 19 self.now.members.now (length refs.now)
+            × (65536 ≤ length scratch.old) }
+        ensures { ((junctions : List (List ℕ)) (heights : List ℕ) → result
+            ≡ set_sound (cells_in (set_of self.now junctions heights refs.now)))
+            × (scratch.new ≡ indexed_to (numbers_of self.now.members.now self.now.nodes.now)
+            (length self.now.members.now) scratch.old) }
+    {
+        let mut good = true;
+        for k in 0..self.members.len() {
+            good &= self.judge_member(refs, k, scratch);
+        }
+        good
+    }
 }
 
 // What the call is refused for, with a scratch of `room` entries.
@@ -84,15 +81,9 @@ fn sound_answer(
     if over_set(members) {
         return Err(Refusal::AtLimit);
     }
-    if !holds_list(members, 10, 15, nodes) {
-        return Err(Refusal::TooShort(Lent::Nodes));
-    }
-    if !holds_list(members, 11, 16, links) {
-        return Err(Refusal::TooShort(Lent::Links));
-    }
-    if !holds_list(members, 14, 19, refs) {
-        return Err(Refusal::TooShort(Lent::Refs));
-    }
+    check_list(members, Array::Nodes, nodes)?;
+    check_list(members, Array::Links, links)?;
+    check_list(members, Array::Refs, refs)?;
     if room < 65536 {
         return Err(Refusal::TooShort(Lent::Scratch));
     }
@@ -113,16 +104,9 @@ fn judge_set(
     ensures { (junctions : List (List ℕ)) (heights : List ℕ) → sound_left result scratch.new
         ≡ set_sound_call (cell_set members.now nodes.now links.now junctions heights refs.now) scratch.old }
 {
-    let m = members.len();
-    let mut all = [0u16; 9];
-    fill_areas(members, nodes, &mut all);
-    let set = World {
-        areas: &all[..m],
-        members,
-        nodes,
-        links,
-    };
-    Ok(judge_members(&set, refs, scratch))
+    let mut areas = [0u16; 9];
+    let set = World::new(&mut areas, members, nodes, links);
+    Ok(set.judge_members(refs, scratch))
 }
 
 // Whether a set is sound, whatever its junctions and heightmaps. The scratch then holds each member's numbers, one

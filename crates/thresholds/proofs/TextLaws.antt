@@ -1,5 +1,6 @@
 -- One line more behind the lines so far.
-use Rattle.std.proofs.Common.{◌≡◌, ℕ, ◌+◌, ◌*◌, ◌<◌, List, ◌++◌, length, take, drop, ap, sym, ◌∙◌, subst, inl, inr, arith}
+use Rattle.std.proofs.Common.{◌≡◌, ℕ, ◌+◌, ◌*◌, ◌<◌, List, ◌++◌, length, take, drop, ap, sym, ◌∙◌, subst, inl, inr}
+use Rattle.std.proofs.Common.{arith}
 use Rattle.numbers.specs.Table.{Least}
 use Rattle.numbers.proofs.TableLaws.{entry, least_entry}
 use Rattle.std.proofs.lemmas.Bool.{cases_lt}
@@ -16,7 +17,8 @@ earlier k j s line long h =
 
 last : (k j : ℕ) (s line : List ℕ) → length s ≡ 9 * k → length line ≡ 9 → k ≡ j → line_at j (s ++ line) ≡ line
 last k j s line long nine e =
-    ap (take 9) (drop-append-le (9 * j) s line (omega arith) ∙ ap (λ (x : List ℕ). x ++ line) (drop_all (9 * j) s (omega arith)))
+    ap (take 9) (drop-append-le (9 * j) s line (omega arith)
+    ∙ ap (λ (x : List ℕ). x ++ line) (drop_all (9 * j) s (omega arith)))
     ∙ take_all 9 line (omega arith)
 
 pub lines_more : (k : ℕ) (s line : List ℕ) → length s ≡ 9 * k → length line ≡ 9

@@ -1,23 +1,10 @@
 // The cell of a small file: a walk in it, and whether it is sound.
-use crate::parts::{after, agrees, answer_at, first, length_at, upto, upto_mut};
+use crate::parts::{after, agrees, answer_at, ended, first, length_at, upto, upto_mut};
 use crate::room::{Cell, SmallRoom};
 use crate::round_files::version_of;
 use numbers::refusal::Refusal;
 use records::bytes::{byte_at, u16_at};
-use walks::walk::{End, Walked};
-
-fn ended(b: &[u8], kind: u8, area: u16, number: u16) -> bool {
-    kind == byte_at(b, 11) && area == u16_at(b, 12) && number == u16_at(b, 14)
-}
-
-fn end_agrees(b: &[u8], e: End) -> bool {
-    match e {
-        End::Done => ended(b, 0, 0, 0),
-        End::NoLink => ended(b, 1, 0, 0),
-        End::Left(area, number) => ended(b, 2, area, number),
-        End::NoNode => ended(b, 3, 0, 0),
-    }
-}
+use walks::walk::Walked;
 
 // The whole list, two bytes an entry.
 pub fn same_places(visited: &[u32], expected: &[u8]) -> bool {
@@ -40,11 +27,10 @@ where
     let rest = after(file, length_at(b, 0));
     let lent = upto_mut(&mut visited, length_at(b, 6));
     let w = go(&cell, u16_at(b, 2), first(rest, length_at(b, 4)), lent);
-    agrees(
-        answer_at(b, 8),
-        w,
-        |walk| walk.count == length_at(b, 16) && end_agrees(b, walk.end),
-    ) && same_places(lent, after(rest, length_at(b, 4)))
+    agrees(answer_at(b, 8), w, |walk| {
+        let end = (byte_at(b, 11), u16_at(b, 12), u16_at(b, 14));
+        walk.count == length_at(b, 16) && ended(walk.end) == end
+    }) && same_places(lent, after(rest, length_at(b, 4)))
 }
 
 // A walk in the cell of a file.

@@ -1,5 +1,5 @@
 // T-09: walks that cross the members of a set, and members renumbered between them.
-use crate::parts::{after, agrees, first, upto, upto_mut};
+use crate::parts::{after, agrees, ended, first, upto, upto_mut};
 use cells::count::Counts;
 use cells::link::LinkWords;
 use cells::node::{NodeWords, PathNode};
@@ -10,7 +10,6 @@ use sets::crossing::{LocationWords, crossing_walk};
 use sets::entry::MemberWords;
 use sets::join::join;
 use sets::renumber::renumber_member;
-use walks::walk::End;
 
 // A set of three small cells at most, none of which has a junction.
 #[derive(Drop)]
@@ -23,28 +22,16 @@ struct Set {
 
 // The first of some nodes: its number, flags1, where its links start, and how many they are.
 fn node_at(b: &[u8], area_id: u16) -> NodeWords {
+    let at = Vec3 {
+        x: 0.0,
+        y: 0.0,
+        z: 0.0,
+    };
     NodeWords::from(PathNode {
-        area_id,
-        node_id: byte_at(b, 0) as u16,
-        street_name: 0,
-        position: Vec3 {
-            x: 0.0,
-            y: 0.0,
-            z: 0.0,
-        },
-        flags0: 0,
         flags1: byte_at(b, 1),
-        flags2: 0,
-        flags3: 0,
-        flags4: 0,
-        flags5: 0,
         link_id: byte_at(b, 2) as u32,
         link_count: byte_at(b, 3),
-        unused0: 0,
-        unused1: 0,
-        unused2: 0,
-        unused3: 0,
-        unused4: 0,
+        ..PathNode::new(area_id, byte_at(b, 0) as u16, at)
     })
 }
 
@@ -118,19 +105,6 @@ fn cell_length(b: &[u8]) -> usize {
     4 + 4 * byte_at(b, 2) as usize + 3 * byte_at(b, 3) as usize
 }
 
-fn ended(b: &[u8], kind: u8, area: u16, number: u16) -> bool {
-    kind == byte_at(b, 7) && area == u16_at(b, 8) && number == byte_at(b, 10) as u16
-}
-
-fn end_agrees(b: &[u8], e: End) -> bool {
-    match e {
-        End::Done => ended(b, 0, 0, 0),
-        End::NoLink => ended(b, 1, 0, 0),
-        End::Left(area, number) => ended(b, 2, area, number),
-        End::NoNode => ended(b, 3, 0, 0),
-    }
-}
-
 // The whole list, a byte each for the member and its place.
 fn same_locations(visited: &[LocationWords], expected: &[u8]) -> bool {
     visited.iter().enumerate().all(|(i, at)| {
@@ -156,11 +130,10 @@ fn walked(set: &Set, b: &[u8]) -> bool {
         first(after(b, 12), n),
         lent,
     );
-    agrees(
-        (byte_at(b, 5) as u32, byte_at(b, 6) as usize),
-        w,
-        |walk| walk.count == byte_at(b, 11) as usize && end_agrees(b, walk.end),
-    ) && same_locations(lent, after(b, 12 + n))
+    agrees((byte_at(b, 5) as u32, byte_at(b, 6) as usize), w, |walk| {
+        let end = (byte_at(b, 7), u16_at(b, 8), byte_at(b, 10) as u16);
+        walk.count == byte_at(b, 11) as usize && ended(walk.end) == end
+    }) && same_locations(lent, after(b, 12 + n))
 }
 
 // A member renumbered.

@@ -26,13 +26,14 @@ fn set_all(section: &mut [u8], patches: &[u8]) {
     }
 }
 
-// By fields: `Counts` derives no `PartialEq`.
-fn same_counts(b: &[u8], k: Counts) -> bool {
-    k.nodes == number_at(b, 17)
-        && k.links == number_at(b, 21)
-        && k.junctions == number_at(b, 25)
-        && k.heights == number_at(b, 29)
-        && k.refs == number_at(b, 33)
+fn counts_told(b: &[u8]) -> Counts {
+    Counts {
+        nodes: number_at(b, 17),
+        links: number_at(b, 21),
+        junctions: number_at(b, 25),
+        heights: number_at(b, 29),
+        refs: number_at(b, 33),
+    }
 }
 
 fn bare_ref() -> NodeJunctionRef {
@@ -63,7 +64,7 @@ fn written(b: &[u8], cell: &mut Cell<'_>, section: &mut [u8]) -> bool {
 fn replayed(b: &[u8], cell: &mut Cell<'_>, section: &mut [u8]) -> bool {
     let system = upto(section, number_at(b, 0));
     let counted = cells::count::count(system, &[]);
-    if !agrees(answer_at(b, 8), counted, |k| same_counts(b, k)) {
+    if !agrees(answer_at(b, 8), counted, |k| k == counts_told(b)) {
         return false;
     }
     let read = cell.read(system, &[]);

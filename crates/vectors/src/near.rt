@@ -20,15 +20,9 @@ fn place_nodes(nodes: &mut [NodeWords], b: &[u8]) {
 // A struct made by hand, with these counts.
 fn cell_of(node_count: u32, junction_count: u32) -> Ynd {
     Ynd {
-        vft: 0,
-        vehicle_node_count: 0,
-        ped_node_count: 0,
-        unknowns: [0; 7],
         node_count,
-        link_count: 0,
         junction_count,
-        heightmap_count: 0,
-        ref_count: 0,
+        ..Ynd::new()
     }
 }
 

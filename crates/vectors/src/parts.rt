@@ -4,6 +4,7 @@ ghost use Rattle.std.specs.Result.{ForOk};
 
 use numbers::refusal::Refusal;
 use records::bytes::{byte_at, u16_at, u32_at};
+use walks::walk::End;
 
 pub fn length_at(b: &[u8], at: u32) -> usize
     ensures { result < 65536 }
@@ -65,5 +66,15 @@ pub fn agrees<T: Copy, F: FnOnce(T) -> bool>(
     match answer {
         Ok(value) => told == (0, 0) && same(value),
         Err(refusal) => told == (refusal.number(), refusal.place()),
+    }
+}
+
+// How a walk ended, as records have it: a kind, and the area and the number of *left*.
+pub fn ended(end: End) -> (u8, u16, u16) {
+    match end {
+        End::Done => (0, 0, 0),
+        End::NoLink => (1, 0, 0),
+        End::Left(area, number) => (2, area, number),
+        End::NoNode => (3, 0, 0),
     }
 }

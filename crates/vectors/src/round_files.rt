@@ -1,40 +1,54 @@
 // T-03, T-11: round files that are read and written back, and rounds of very many choices that are written.
 use crate::parts::{after, agrees, answer_at, first, length_at, number_at, upto, upto_mut};
+use numbers::refusal::Refusal;
 use records::bytes::u16_at;
-use rounds::file::{
-    Round, Version, VersionRound, read_round, read_version, write_round, write_version,
-};
+use rounds::file::{Version, read_round, read_version, write_round, write_version};
 
-// The round is written into memory of the file's length, and gives the file.
-fn written_back(file: &[u8], start: u16, choices: &[u8], to: &mut [u8]) -> bool {
-    let lent = upto_mut(to, file.len());
-    write_round(start, choices, lent).is_ok() && *lent == *file
-}
-
-fn round_is(b: &[u8], file: &[u8], round: Round, choices: &[u8], to: &mut [u8]) -> bool {
-    round.start == u16_at(b, 7)
-        && round.count == length_at(b, 9)
-        && written_back(file, round.start, first(choices, round.count), to)
-}
-
-fn read_into(b: &[u8], choices: &mut [u8], to: &mut [u8]) -> bool {
-    let rest = after(b, 11);
-    let file = first(rest, length_at(b, 0));
-    let a = read_round(file, choices);
-    agrees(
-        answer_at(b, 4),
-        a,
-        |round| round_is(b, file, round, choices, to),
-    ) && *choices == *after(rest, length_at(b, 0))
-}
-
-// A round file; an accepted one is written back.
-//   0 its length, 2 entries lent for the choices; 4 number and place; 7 the start number, 9 how many choices; 11 the
-//   file, and the list for the choices as reading leaves it, which first held 165 everywhere.
-pub fn file(b: &[u8]) -> bool {
-    let mut choices = [165u8; 1024];
+// What `write` writes into memory of the file's length is the file.
+fn written_back<F>(file: &[u8], write: F) -> bool
+where
+    F: FnOnce(&mut [u8]) -> Result<usize, Refusal>,
+    requires { F.IsAlwaysCallable write }
+{
     let mut to = [0u8; 2048];
-    read_into(b, upto_mut(&mut choices, length_at(b, 2)), &mut to)
+    let lent = upto_mut(&mut to, file.len());
+    write(lent).is_ok() && *lent == *file
+}
+
+fn told(b: &[u8], start: u16, count: usize) -> bool {
+    start == u16_at(b, 7) && count == length_at(b, 9)
+}
+
+// The file that stands at a place of the record is read by `read`; `same` sees it, what is read, and the choices.
+//   0 its length, 2 entries lent for the choices; 4 number and place; 7 the start number, 9 how many choices; behind
+//   the file the list for the choices as reading leaves it, which first held 165 everywhere.
+fn read_agrees<T: Copy, R, S>(b: &[u8], at: usize, read: R, same: S) -> bool
+where
+    R: FnOnce(&[u8], &mut [u8]) -> Result<T, Refusal>,
+    S: FnOnce(&[u8], T, &[u8]) -> bool,
+    requires { R.IsAlwaysCallable read × S.IsAlwaysCallable same }
+{
+    let mut list = [165u8; 1024];
+    let choices = upto_mut(&mut list, length_at(b, 2));
+    let rest = after(b, at);
+    let file = first(rest, length_at(b, 0));
+    let a = read(file, choices);
+    agrees(answer_at(b, 4), a, |round| same(file, round, choices))
+        && *choices == *after(rest, length_at(b, 0))
+}
+
+// A round file; an accepted one is written back. The file stands at 11.
+pub fn file(b: &[u8]) -> bool {
+    read_agrees(
+        b,
+        11,
+        |file, choices| read_round(file, choices),
+        |file, round, choices| {
+            let choices = first(choices, round.count);
+            told(b, round.start, round.count)
+                && written_back(file, |lent| write_round(round.start, choices, lent))
+        },
+    )
 }
 
 // The version that a record says: 1, or 2 and an area.
@@ -52,43 +66,22 @@ fn same_version(b: &[u8], version: Version) -> bool {
     }
 }
 
-// The round is written in its version into memory of the file's length, and gives the file.
-fn version_back(file: &[u8], round: VersionRound, choices: &[u8], to: &mut [u8]) -> bool {
-    let lent = upto_mut(to, file.len());
-    let w = write_version(
-        round.version,
-        round.start,
-        first(choices, round.count),
-        lent,
-    );
-    w.is_ok() && *lent == *file
-}
-
-fn version_is(b: &[u8], file: &[u8], round: VersionRound, choices: &[u8], to: &mut [u8]) -> bool {
-    round.start == u16_at(b, 7)
-        && round.count == length_at(b, 9)
-        && same_version(b, round.version)
-        && version_back(file, round, choices, to)
-}
-
-fn version_into(b: &[u8], choices: &mut [u8], to: &mut [u8]) -> bool {
-    let rest = after(b, 15);
-    let file = first(rest, length_at(b, 0));
-    let a = read_version(file, choices);
-    agrees(
-        answer_at(b, 4),
-        a,
-        |round| version_is(b, file, round, choices, to),
-    ) && *choices == *after(rest, length_at(b, 0))
-}
-
 // A round file of either version; an accepted one is written back in its version.
-//   0 its length, 2 entries lent for the choices; 4 number and place; 7 the start number, 9 how many choices; 11 the
-//   version, 13 its area, 0 in version 1; 15 the file, and the list for the choices as for a file of version 1.
+//   11 the version, 13 its area, 0 in version 1; 15 the file.
 pub fn version_file(b: &[u8]) -> bool {
-    let mut choices = [165u8; 1024];
-    let mut to = [0u8; 2048];
-    version_into(b, upto_mut(&mut choices, length_at(b, 2)), &mut to)
+    read_agrees(
+        b,
+        15,
+        |file, choices| read_version(file, choices),
+        |file, round, choices| {
+            let choices = first(choices, round.count);
+            told(b, round.start, round.count)
+                && same_version(b, round.version)
+                && written_back(file, |lent| {
+                    write_version(round.version, round.start, choices, lent)
+                })
+        },
+    )
 }
 
 fn written_with(b: &[u8], choices: &[u8], to: &mut [u8]) -> bool {

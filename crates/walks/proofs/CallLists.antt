@@ -57,7 +57,8 @@ pub alike_trans : {c d e : Cell} {f g : ℕ → ℕ} → Alike c d f → Alike d
 alike_trans {c} {d} {e} {f} {g} a b = record {
   same_count = b.same_count ∙ a.same_count;
   inside = λ p lt. rw (← a.same_count) (b.inside (f p) (rw a.same_count (a.inside p lt)));
-  same_walks = λ bs p lt. b.same_walks bs (f p) (rw a.same_count (a.inside p lt)) ∙ (ap (move g) (a.same_walks bs p lt) ∙ move_move f g (walk c bs p));
+  same_walks = λ bs p lt. b.same_walks bs (f p) (rw a.same_count (a.inside p lt))
+      ∙ (ap (move g) (a.same_walks bs p lt) ∙ move_move f g (walk c bs p));
 }
 
 pub alike_renumber : (c : Cell) → sound c ≡ true → Alike c (renumber_cell c) (new_place (ped_flags c.nodes))
@@ -85,9 +86,16 @@ pub record Step (c d : Cell) (f : ℕ → ℕ) (renumbered : Bool) : Type 0 wher
   pub new_numbers : renumbered ≡ true → Numbered d
 
 stays : (c d : Cell) → Fit c → d ≡ c → Step c d (λ p. p) false
-stays c d h e = rw e (record { fit = h; alike = alike_refl c; kept_numbers = λ n. n; new_numbers = λ f. true_false (sym f) })
+stays c d h e = rw e (record {
+  fit = h;
+  alike = alike_refl c;
+  kept_numbers = λ n. n;
+  new_numbers = λ f. true_false
+      (sym f);
+})
 
-renumbered : (c : Cell) → length c.nodes ≤ 65536 → Fit c → Step c (renumber_cell c) (new_place (ped_flags c.nodes)) true
+renumbered : (c : Cell) → length c.nodes ≤ 65536 → Fit c
+    → Step c (renumber_cell c) (new_place (ped_flags c.nodes)) true
 renumbered c few h = record {
   fit = record { is_sound = sound_new c h.is_sound; is_kept = kept_again c few h.is_kept };
   alike = alike_renumber c h.is_sound;
@@ -104,7 +112,8 @@ step m (write_read b) h = stays (cell_of m) _ h (write_read_same m b h.is_kept)
 step m (renumbering s ps) h = go (renumber m (length s) ps).answer refl
   where
     go : (a : Answer) → (renumber m (length s) ps).answer ≡ a
-        → Step (cell_of m) (cell_of (renumber m (length s) ps).memory) (λ p. cond (is_done a) (new_place (ped_flags (cell_of m).nodes) p) p) (is_done a)
+        → Step (cell_of m) (cell_of (renumber m (length s) ps).memory)
+        (λ p. cond (is_done a) (new_place (ped_flags (cell_of m).nodes) p) p) (is_done a)
     go (Ok tt) e = rw (done_call m ps (length s) e) (renumbered (cell_of m) (done_few m ps (length s) e) h)
     go (Err x) e = stays (cell_of m) _ h (ap cell_of (refused_call m ps (length s) x e))
 
@@ -125,7 +134,8 @@ unfolding run
 run_numbered m [] h n = n
 run_numbered m (k ∷ ks) h n = let s = step m k h in run_numbered (after m k) ks s.fit (s.kept_numbers n)
 
-pub run_numbers : (m : Memory) (ks : List Call) → Fit (cell_of m) → any_renumbers m ks ≡ true → Numbered (cell_of (run m ks))
+pub run_numbers : (m : Memory) (ks : List Call) → Fit (cell_of m) → any_renumbers m ks ≡ true
+    → Numbered (cell_of (run m ks))
 unfolding run any_renumbers
 run_numbers m [] h t = true_false (sym t)
 run_numbers m (k ∷ ks) h t =

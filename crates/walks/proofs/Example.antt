@@ -1,4 +1,5 @@
--- Demand 3 speaks of something: bytes that read as a sound cell of three nodes, one of them a ped node with a junction,
+-- Demand 3 speaks of something: bytes that read as a sound cell of three nodes, one of them a ped node with a
+-- junction,
 -- and a list of calls on it: an accepted renumbering, a refused one, and an accepted write-then-read. All of it is
 -- computed. What the claim's own words give here is in ClaimFacts.
 use Prim.Native.Nat.{ℕ, ◌+◌}
@@ -11,22 +12,28 @@ use Rattle.numbers.specs.Steps.{step_of, unstep}
 use Rattle.records.specs.Bytes.{number_at, number_bytes, signed16, bits16}
 use Rattle.records.specs.Sections.{located, extent, bytes_of, array_at}
 use Rattle.records.specs.Root.{unknowns_of, root_of, root_bytes}
-use Rattle.records.specs.Records.{node_at, node_bytes, link_at, link_bytes, junction_at, junction_bytes, ref_at, ref_bytes}
+use Rattle.records.specs.Records.{node_at, node_bytes, link_at, link_bytes, junction_at, junction_bytes, ref_at}
+use Rattle.records.specs.Records.{ref_bytes}
 use Rattle.records.specs.Put.{joined}
-use Rattle.records.specs.Layout.{pages, header_bytes, gap_for, padded, start_of, lay, offset, total, address, places_of, section_bytes}
+use Rattle.records.specs.Layout.{pages, header_bytes, gap_for, padded, start_of, lay, offset, total, address}
+use Rattle.records.specs.Layout.{places_of, section_bytes}
 use Rattle.cells.specs.Lists.{up_to, join_to, sum_to, every}
-use Rattle.cells.specs.Words.{path_node, path_link, path_junction, node_words, link_words, junction_words, ref_words, to_node, to_link, to_junction, to_ref}
+use Rattle.cells.specs.Words.{path_node, path_link, path_junction, node_words, link_words, junction_words}
+use Rattle.cells.specs.Words.{ref_words, to_node, to_link, to_junction, to_ref}
 use Rattle.cells.specs.Checks.{sizes_check, arrays_found, scan, arrays_check}
 use Rattle.cells.specs.Memory.{Memory, memory, over_limit, short_of}
-use Rattle.cells.specs.Read.{links_from, node_in, links_in, values_from, junction_in, values_in, ref_in, room_check, cell_read, filled, read_arrays, read_of}
+use Rattle.cells.specs.Read.{links_from, node_in, links_in, values_from, junction_in, values_in, ref_in, room_check}
+use Rattle.cells.specs.Read.{cell_read, filled, read_arrays, read_of}
 use Rattle.cells.specs.Area.{belongs}
 use Rattle.cells.specs.Order.{keep, rank, parted, new_place, listed, new_places, last_with, new_number, renamed}
-use Rattle.cells.specs.NodeWords.{area_of, number_of, is_ped, numbered, number_from, reordered, first_area, old_of, relinked}
+use Rattle.cells.specs.NodeWords.{area_of, number_of, is_ped, numbered, number_from, reordered, first_area, old_of}
+use Rattle.cells.specs.NodeWords.{relinked}
 use Rattle.cells.specs.CellOf.{body_of, nodes_of, cell_of}
 use Rattle.cells.specs.Unused.{unused_of}
 use Rattle.cells.specs.FileCell.{file_nodes, file_junctions, file_refs, cell_from, cell_by, file_cell}
 use Rattle.cells.specs.Lookup.{first_with}
-use Rattle.cells.specs.Renumber.{vehicles, peds, renumber_lists, recounted, answer_of, new_lists, renumber_memory, renumber}
+use Rattle.cells.specs.Renumber.{vehicles, peds, renumber_lists, recounted, answer_of, new_lists, renumber_memory}
+use Rattle.cells.specs.Renumber.{renumber}
 use Rattle.cells.specs.Entries.{file_node, file_link, file_junction}
 use Rattle.cells.specs.Entries as entries
 use Rattle.cells.specs.WriteChecks.{values_within, maps_cut, check_nodes, check_junctions}
@@ -81,7 +88,14 @@ node_from area number link steps flags1 = node_bytes (record {
 })
 
 abbrev link_from : ℕ → ℕ → List ℕ
-link_from area number = link_bytes (record { area_id = area; node_id = number; flags0 = 7; flags1 = 8; flags2 = 9; link_length = 10 })
+link_from area number = link_bytes (record {
+  area_id = area;
+  node_id = number;
+  flags0 = 7;
+  flags1 = 8;
+  flags2 = 9;
+  link_length = 10;
+})
 
 -- a junction of one value, and the ref that gives it to the node 3
 abbrev junction : List ℕ
@@ -110,15 +124,29 @@ bytes = yard 5 5
 unfoldable pub room : Memory
 room =
     memory
-    (record { vft = 0; vehicle_node_count = 0; ped_node_count = 0; unknowns = []; node_count = 0; link_count = 0; junction_count = 0; heightmap_count = 0; ref_count = 0 })
+    (record {
+      vft = 0;
+      vehicle_node_count = 0;
+      ped_node_count = 0;
+      unknowns = [];
+      node_count = 0;
+      link_count = 0;
+      junction_count = 0;
+      heightmap_count = 0;
+      ref_count = 0;
+    })
     ([] ∷ [] ∷ [] ∷ []) ([] ∷ [] ∷ [] ∷ []) ([] ∷ []) (0 ∷ []) ([] ∷ [])
 
 pub reads : (read_of bytes [] room).answer ≡ (Ok tt)
-unfolding bytes room root_bytes node_bytes link_bytes junction_bytes ref_bytes number_bytes bits16 read_of sizes_check arrays_found located root_of unknowns_of number_at bytes_of extent read_arrays arrays_check scan node_at junction_at sum_to room_check
+unfolding bytes room root_bytes node_bytes link_bytes junction_bytes ref_bytes number_bytes bits16 read_of
+    sizes_check arrays_found located root_of unknowns_of number_at bytes_of extent read_arrays arrays_check scan
+    node_at junction_at sum_to room_check
 reads = refl
 
 pub is_sound : sound (file_cell bytes []) ≡ true
-unfolding bytes root_bytes node_bytes link_bytes junction_bytes ref_bytes number_bytes bits16 located root_of unknowns_of number_at bytes_of extent array_at node_at link_at junction_at ref_at up_to file_nodes file_junctions file_refs cell_from cell_by file_cell every first_with differing sound belongs
+unfolding bytes root_bytes node_bytes link_bytes junction_bytes ref_bytes number_bytes bits16 located root_of
+    unknowns_of number_at bytes_of extent array_at node_at link_at junction_at ref_at up_to file_nodes
+    file_junctions file_refs cell_from cell_by file_cell every first_with differing sound belongs
 is_sound = refl
 
 -- what reading leaves
@@ -136,11 +164,21 @@ abbrev pub stored_read : Call
 stored_read = write_read (replicate 1400 9)
 
 pub renumbered : renumbers first accepted ≡ true
-unfolding bytes room root_bytes node_bytes link_bytes junction_bytes ref_bytes number_bytes bits16 read_of sizes_check arrays_found located root_of unknowns_of number_at bytes_of extent read_arrays arrays_check scan node_at link_at junction_at sum_to up_to join_to room_check filled cell_read node_in links_in links_from link_words path_link path_node node_words junction_in values_in values_from path_junction junction_words ref_in ref_words ref_at renumbers renumber over_limit answer_of short_of
+unfolding bytes room root_bytes node_bytes link_bytes junction_bytes ref_bytes number_bytes bits16 read_of
+    sizes_check arrays_found located root_of unknowns_of number_at bytes_of extent read_arrays arrays_check scan
+    node_at link_at junction_at sum_to up_to join_to room_check filled cell_read node_in links_in links_from
+    link_words path_link path_node node_words junction_in values_in values_from path_junction junction_words ref_in
+    ref_words ref_at renumbers renumber over_limit answer_of short_of
 renumbered = refl
 
 pub not_renumbered_law : renumbers (after first accepted) refused ≡ false
-unfolding bytes room root_bytes node_bytes link_bytes junction_bytes ref_bytes number_bytes bits16 read_of sizes_check arrays_found located root_of unknowns_of number_at bytes_of extent read_arrays arrays_check scan node_at link_at junction_at sum_to up_to join_to room_check filled cell_read node_in links_in links_from link_words path_link path_node node_words junction_in values_in values_from path_junction junction_words ref_in ref_words ref_at renumbers renumber over_limit answer_of short_of after run renumber_memory new_lists renumber_lists recounted vehicles peds reordered number_from numbered parted keep is_ped area_of number_of old_of first_area relinked renamed new_number new_place new_places listed rank last_with belongs
+unfolding bytes room root_bytes node_bytes link_bytes junction_bytes ref_bytes number_bytes bits16 read_of
+    sizes_check arrays_found located root_of unknowns_of number_at bytes_of extent read_arrays arrays_check scan
+    node_at link_at junction_at sum_to up_to join_to room_check filled cell_read node_in links_in links_from
+    link_words path_link path_node node_words junction_in values_in values_from path_junction junction_words ref_in
+    ref_words ref_at renumbers renumber over_limit answer_of short_of after run renumber_memory new_lists
+    renumber_lists recounted vehicles peds reordered number_from numbered parted keep is_ped area_of number_of
+    old_of first_area relinked renamed new_number new_place new_places listed rank last_with belongs
 not_renumbered_law = refl
 
 abbrev pub is_wrote : Result ℕ Refusal → Bool
@@ -148,12 +186,31 @@ is_wrote (Ok n) = true
 is_wrote (Err cause) = false
 
 pub written_read : is_wrote (write_read_of (run first (accepted ∷ refused ∷ [])) (replicate 1400 9)).answer ≡ true
-unfolding bytes room root_bytes node_bytes link_bytes junction_bytes ref_bytes number_bytes bits16 read_of sizes_check arrays_found located root_of unknowns_of number_at bytes_of extent read_arrays arrays_check scan node_at link_at junction_at sum_to up_to join_to room_check filled cell_read node_in links_in links_from link_words path_link path_node node_words junction_in values_in values_from path_junction junction_words ref_in ref_words ref_at renumber over_limit answer_of short_of after run renumber_memory new_lists renumber_lists recounted vehicles peds reordered number_from numbered parted keep is_ped area_of number_of old_of first_area relinked renamed new_number new_place new_places listed rank last_with belongs write_read_of write_call write_held maps_cut values_within held check_nodes check_junctions stored written arrays laid joined file_node to_node file_link to_link file_junction to_junction to_ref entries.values_in root_for pages header_bytes section_bytes lay padded gap_for start_of offset total address places_of entries.links_in step_of unstep signed16
+unfolding bytes room root_bytes node_bytes link_bytes junction_bytes ref_bytes number_bytes bits16 read_of
+    sizes_check arrays_found located root_of unknowns_of number_at bytes_of extent read_arrays arrays_check scan
+    node_at link_at junction_at sum_to up_to join_to room_check filled cell_read node_in links_in links_from
+    link_words path_link path_node node_words junction_in values_in values_from path_junction junction_words ref_in
+    ref_words ref_at renumber over_limit answer_of short_of after run renumber_memory new_lists renumber_lists
+    recounted vehicles peds reordered number_from numbered parted keep is_ped area_of number_of old_of first_area
+    relinked renamed new_number new_place new_places listed rank last_with belongs write_read_of write_call
+    write_held maps_cut values_within held check_nodes check_junctions stored written arrays laid joined file_node
+    to_node file_link to_link file_junction to_junction to_ref entries.values_in root_for pages header_bytes
+    section_bytes lay padded gap_for start_of offset total address places_of entries.links_in step_of unstep signed16
 written_read = refl
 
 -- where the three nodes stand after all three calls
 pub moves : map (moved first (accepted ∷ refused ∷ stored_read ∷ [])) (0 ∷ 1 ∷ 2 ∷ []) ≡ 0 ∷ 2 ∷ 1 ∷ []
-unfolding bytes room root_bytes node_bytes link_bytes junction_bytes ref_bytes number_bytes bits16 read_of sizes_check arrays_found located root_of unknowns_of number_at bytes_of extent read_arrays arrays_check scan node_at link_at junction_at sum_to up_to join_to room_check filled cell_read node_in links_in links_from link_words path_link path_node node_words junction_in values_in values_from path_junction junction_words ref_in ref_words ref_at renumbers renumber over_limit answer_of short_of after run renumber_memory new_lists renumber_lists recounted vehicles peds reordered number_from numbered parted keep is_ped area_of number_of old_of first_area relinked renamed new_number new_place new_places listed rank last_with belongs write_read_of write_call write_held maps_cut values_within held check_nodes check_junctions stored written arrays laid joined file_node to_node file_link to_link file_junction to_junction to_ref entries.values_in root_for pages header_bytes section_bytes lay padded gap_for start_of offset total address places_of entries.links_in step_of unstep signed16 moved cell_of nodes_of body_of
+unfolding bytes room root_bytes node_bytes link_bytes junction_bytes ref_bytes number_bytes bits16 read_of
+    sizes_check arrays_found located root_of unknowns_of number_at bytes_of extent read_arrays arrays_check scan
+    node_at link_at junction_at sum_to up_to join_to room_check filled cell_read node_in links_in links_from
+    link_words path_link path_node node_words junction_in values_in values_from path_junction junction_words ref_in
+    ref_words ref_at renumbers renumber over_limit answer_of short_of after run renumber_memory new_lists
+    renumber_lists recounted vehicles peds reordered number_from numbered parted keep is_ped area_of number_of
+    old_of first_area relinked renamed new_number new_place new_places listed rank last_with belongs write_read_of
+    write_call write_held maps_cut values_within held check_nodes check_junctions stored written arrays laid joined
+    file_node to_node file_link to_link file_junction to_junction to_ref entries.values_in root_for pages
+    header_bytes section_bytes lay padded gap_for start_of offset total address places_of entries.links_in step_of
+    unstep signed16 moved cell_of nodes_of body_of
 moves = refl
 
 -- T-10: after all three calls the five tags stand with their nodes, of the numbers 7, 9 and 3
@@ -162,5 +219,15 @@ pub tags : map unused_of (cell_of (run first (accepted ∷ refused ∷ stored_re
     ∷ (100009 ∷ 200009 ∷ 300009 ∷ 4000000009 ∷ 60009 ∷ [])
     ∷ (100003 ∷ 200003 ∷ 300003 ∷ 4000000003 ∷ 60003 ∷ [])
     ∷ []
-unfolding bytes room root_bytes node_bytes link_bytes junction_bytes ref_bytes number_bytes bits16 read_of sizes_check arrays_found located root_of unknowns_of number_at bytes_of extent read_arrays arrays_check scan node_at link_at junction_at sum_to up_to join_to room_check filled cell_read node_in links_in links_from link_words path_link path_node node_words junction_in values_in values_from path_junction junction_words ref_in ref_words ref_at renumbers renumber over_limit answer_of short_of after run renumber_memory new_lists renumber_lists recounted vehicles peds reordered number_from numbered parted keep is_ped area_of number_of old_of first_area relinked renamed new_number new_place new_places listed rank last_with belongs write_read_of write_call write_held maps_cut values_within held check_nodes check_junctions stored written arrays laid joined file_node to_node file_link to_link file_junction to_junction to_ref entries.values_in root_for pages header_bytes section_bytes lay padded gap_for start_of offset total address places_of entries.links_in step_of unstep signed16 moved cell_of nodes_of body_of
+unfolding bytes room root_bytes node_bytes link_bytes junction_bytes ref_bytes number_bytes bits16 read_of
+    sizes_check arrays_found located root_of unknowns_of number_at bytes_of extent read_arrays arrays_check scan
+    node_at link_at junction_at sum_to up_to join_to room_check filled cell_read node_in links_in links_from
+    link_words path_link path_node node_words junction_in values_in values_from path_junction junction_words ref_in
+    ref_words ref_at renumbers renumber over_limit answer_of short_of after run renumber_memory new_lists
+    renumber_lists recounted vehicles peds reordered number_from numbered parted keep is_ped area_of number_of
+    old_of first_area relinked renamed new_number new_place new_places listed rank last_with belongs write_read_of
+    write_call write_held maps_cut values_within held check_nodes check_junctions stored written arrays laid joined
+    file_node to_node file_link to_link file_junction to_junction to_ref entries.values_in root_for pages
+    header_bytes section_bytes lay padded gap_for start_of offset total address places_of entries.links_in step_of
+    unstep signed16 moved cell_of nodes_of body_of
 tags = refl

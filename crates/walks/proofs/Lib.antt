@@ -4,9 +4,9 @@ pub mod ScratchLaws
 pub mod SoundWords
 pub mod SoundCases
 pub mod StepLaws
-pub mod VisitedLaws
 pub mod Reaches
 pub mod Storing
+pub mod PlaceCases
 pub mod WalkCases
 pub mod ShownLaws
 pub mod NewSound

@@ -8,7 +8,9 @@ use mathlib.Core.Option.{none}
 use lib.Dec.{eqb}
 use lib.ListN.{length, length-map}
 use borrow.Author.Tests.{eqb-true, eq-eqb, ne_eqb}
-use Rattle.cells.specs.Cell.{Node, Cell, node_at, no_node, is_ped_node, numbers, ped_flags, first_of, is_vehicle_node, ordered, relink, reref, renode, number_nodes, renumber_cell, old_nodes}
+use Rattle.cells.specs.Cell.{Node, Cell, node_at, no_node, is_ped_node, numbers, ped_flags, first_of}
+use Rattle.cells.specs.Cell.{is_vehicle_node, ordered, relink, reref, renode, number_nodes, renumber_cell}
+use Rattle.cells.specs.Cell.{old_nodes}
 use Rattle.cells.specs.Area.{belongs}
 use Rattle.cells.specs.Order.{keep, new_place, new_number, Old, parted, renamed}
 use Rattle.cells.specs.Lookup.{first_with}
@@ -16,7 +18,8 @@ use Rattle.walks.specs.Sound.{differing, named, link_named, ref_named, node_soun
 use Rattle.cells.specs.Lists.{every}
 use Rattle.cells.proofs.Sequences.Tests.{and_left, and_right, by_test, every_at, every_keep, every_append, every_map}
 use Rattle.walks.proofs.Numbers.{Has, new_is, named_has, first_is}
-use Rattle.cells.proofs.Renumbering.NewCell.{ordered_length, number_is, new_at, new_length, new_number_law, every_number}
+use Rattle.cells.proofs.Renumbering.NewCell.{ordered_length, number_is, new_at, new_length, new_number_law}
+use Rattle.cells.proofs.Renumbering.NewCell.{every_number}
 
 -- ---- soundness
 
@@ -47,7 +50,8 @@ sound_parts c lt s = parts (go c.nodes _ lt s)
     }
 
 -- a link or ref of the cell's own area, which some node's number has
-own_named : (ns : List Node) (a k : ℕ) → named ns a k ≡ true → belongs (first_of ns) a ≡ true → (p : ℕ) × Has (numbers ns) k p
+own_named : (ns : List Node) (a k : ℕ) → named ns a k ≡ true → belongs (first_of ns) a ≡ true → (p : ℕ)
+    × Has (numbers ns) k p
 own_named ns a k t b = named_has (numbers ns) k (cc)
 
 module _ (c : Cell) (s : Sound c) where
@@ -56,18 +60,24 @@ module _ (c : Cell) (s : Sound c) where
 
   ordered_sound : every (node_sound c.nodes) (ordered c.nodes) ≡ true
   unfolding parted
-  ordered_sound = every_append _ (keep is_vehicle_node c.nodes) (keep is_ped_node c.nodes) (every_keep _ is_vehicle_node c.nodes s.nodes_sound) (every_keep _ is_ped_node c.nodes s.nodes_sound)
+  ordered_sound = every_append _ (keep is_vehicle_node c.nodes) (keep is_ped_node c.nodes)
+      (every_keep _ is_vehicle_node c.nodes s.nodes_sound) (every_keep _ is_ped_node c.nodes s.nodes_sound)
 
   pub new_area : first_of (renumber_cell c).nodes ≡ first_of c.nodes
   unfolding renumber_cell number_nodes every
   new_area = go (ordered c.nodes) (omega (arith, ordered_length c.nodes, s.some_node)) ordered_sound
     where
-      go : (ns : List Node) → 0 < length ns → every (node_sound c.nodes) ns ≡ true → first_of (number_nodes (old_nodes c.nodes) 0 ns) ≡ first_of c.nodes
+      go : (ns : List Node) → 0 < length ns → every (node_sound c.nodes) ns ≡ true
+          → first_of (number_nodes (old_nodes c.nodes) 0 ns) ≡ first_of c.nodes
       go [] lt h = absurd (omega arith)
       go (n ∷ ns) lt h = eqb-true _ _ (and_left _ _ (and_left _ _ h))
 
   new_has : (q : ℕ) → q < length c.nodes → Has (numbers (renumber_cell c).nodes) q q
-  new_has q lt = record { inside = rw length-map (omega (arith, new_length c)); number = number_is (renumber_cell c).nodes q ∙ new_number_law c q lt }
+  new_has q lt = record {
+    inside = rw length-map (omega (arith, new_length c));
+    number = number_is
+        (renumber_cell c).nodes q ∙ new_number_law c q lt;
+  }
 
   -- what the cell's own link or ref named, and what it names now
   pub new_own : (a k : ℕ) → named c.nodes a k ≡ true → belongs (first_of c.nodes) a ≡ true
@@ -93,7 +103,8 @@ new_differ c = number_differ _ _ _
 
 module _ (c : Cell) (s : Sound c) where
   new_named : (a k : ℕ) → named c.nodes a k ≡ true
-      → named (renumber_cell c).nodes a (cond (belongs (first_of c.nodes) a) (new_number (old_nodes c.nodes) k) k) ≡ true
+      → named (renumber_cell c).nodes a (cond (belongs (first_of c.nodes) a) (new_number (old_nodes c.nodes) k) k)
+      ≡ true
   new_named a k t = rw (new_area c s) (by_test (belongs (first_of c.nodes) a)
       (λ b.
       let o = new_own c s a k t b in
@@ -102,12 +113,14 @@ module _ (c : Cell) (s : Sound c) where
       rw (b, o.2) (simp (first_is (numbers (renumber_cell c).nodes) q q (new_differ c) (new_has c s q lt))))
       (λ f. rw f refl))
 
-  new_node_sound : (k : ℕ) (n : Node) → node_sound c.nodes n ≡ true → node_sound (renumber_cell c).nodes (renode (old_nodes c.nodes) k n) ≡ true
+  new_node_sound : (k : ℕ) (n : Node) → node_sound c.nodes n ≡ true
+      → node_sound (renumber_cell c).nodes (renode (old_nodes c.nodes) k n) ≡ true
   unfolding renamed
   new_node_sound k n h =
       cc (
         eq-eqb n.area (first_of (renumber_cell c).nodes) (eqb-true _ _ (and_left _ _ h) ∙ sym (new_area c s)),
-        every_map (link_named (renumber_cell c).nodes) (relink (old_nodes c.nodes)) (link_named c.nodes) (λ l t. new_named l.area l.number t) n.links
+        every_map (link_named (renumber_cell c).nodes) (relink (old_nodes c.nodes)) (link_named c.nodes)
+            (λ l t. new_named l.area l.number t) n.links
             (and_right (eqb n.area (first_of c.nodes)) _ h),
       )
 
@@ -116,9 +129,11 @@ module _ (c : Cell) (s : Sound c) where
   unfolding renumber_cell renamed
   new_sound = record {
     some_node = omega (arith, new_length c, s.some_node);
-    nodes_sound = every_number (old_nodes c.nodes) _ (node_sound c.nodes) new_node_sound 0 (ordered c.nodes) (ordered_sound c s);
+    nodes_sound = every_number (old_nodes c.nodes) _ (node_sound c.nodes) new_node_sound 0 (ordered c.nodes)
+        (ordered_sound c s);
     differ = new_differ c;
-    refs_named = every_map (ref_named (renumber_cell c).nodes) (reref (old_nodes c.nodes)) (ref_named c.nodes) (λ r t. new_named r.area r.number t) c.refs s.refs_named;
+    refs_named = every_map (ref_named (renumber_cell c).nodes) (reref (old_nodes c.nodes)) (ref_named c.nodes)
+        (λ r t. new_named r.area r.number t) c.refs s.refs_named;
   }
 
 -- ---- the test
@@ -127,7 +142,8 @@ pub parts_sound : (c : Cell) → Sound c → sound c ≡ true
 unfolding sound
 parts_sound c s = go (is_empty c.nodes)
   where
-    go : (b : Bool) → b || (every (node_sound c.nodes) c.nodes && differing (numbers c.nodes) && every (ref_named c.nodes) c.refs) ≡ true
+    go : (b : Bool) → b || (every (node_sound c.nodes) c.nodes && differing (numbers c.nodes)
+        && every (ref_named c.nodes) c.refs) ≡ true
     go true = refl
     go false = cc (s.nodes_sound, s.differ, s.refs_named)
 

@@ -7,14 +7,16 @@ use mathlib.Core.Option.{Option, none, some}
 use lib.Dec.{eqb}
 use lib.ListN.{length, length-map}
 use borrow.Author.Tests.{eqb-true, eqb-false, eq-eqb, ne_eqb}
-use Rattle.cells.specs.Cell.{Link, Node, Ref, Cell, node_at, no_node, numbers, ped_flags, first_of, relink, reref, renumber_cell, old_nodes}
+use Rattle.cells.specs.Cell.{Link, Node, Ref, Cell, node_at, no_node, numbers, ped_flags, first_of, relink, reref}
+use Rattle.cells.specs.Cell.{renumber_cell, old_nodes}
 use Rattle.cells.specs.Area.{belongs}
 use Rattle.cells.proofs.Lookups.AreaLaws.{ref_own}
 use Rattle.cells.specs.Order.{new_place, Old, renamed}
 use Rattle.cells.specs.Lookup.{ref_of, junction_of}
 use Rattle.cells.specs.Lists.{every}
 use Rattle.walks.specs.Sound.{link_named, ref_named, node_sound}
-use Rattle.walks.specs.Walk.{Visit, Trail, Next, to, stop, link_at, take_link, next, World, walk_in, see, walk, body_of, go_on}
+use Rattle.walks.specs.Walk.{Visit, Trail, Next, to, stop, link_at, take_link, next, World, walk_in, see, walk}
+use Rattle.walks.specs.Walk.{body_of, go_on}
 use Rattle.cells.proofs.Sequences.Tests.{and_left, and_right, by_test, every_at, every_any, if_any, map_at, map_option}
 use Rattle.walks.proofs.Numbers.{Has, find_is, same_place}
 use Rattle.cells.proofs.Renumbering.NewCell.{new_at, new_node_law, new_find, new_refs, new_junctions, number_is}
@@ -77,10 +79,15 @@ module _ (c : Cell) (s : Sound c) where
       (record { inside = rw length-map lq; number = number_is ns q })
 
   -- what named the node at place p names it still, and nothing else does
-  new_eqb : (k p q : ℕ) → Has (numbers ns) k q → p < length ns → eqb (new_place peds q) (new_place peds p) ≡ eqb k (node_at ns p).number
+  new_eqb : (k p q : ℕ) → Has (numbers ns) k q → p < length ns → eqb (new_place peds q) (new_place peds p)
+      ≡ eqb k (node_at ns p).number
   new_eqb k p q h lp = by_test (eqb k (node_at ns p).number)
-      (λ t. eq-eqb _ _ (ap (new_place peds) (same_place (numbers ns) k q p s.differ h (record { inside = rw length-map lp; number = number_is ns p ∙ sym (eqb-true _ _ t) }))) ∙ sym t)
-      (λ f. ne_eqb _ _ (λ e. eqb-false _ _ f (sym h.number ∙ (number_is ns q ∙ ap (λ (i : ℕ). (node_at ns i).number) (new_injective q p (rw length-map at h.inside) lp e)))) ∙ sym f)
+      (λ t. eq-eqb _ _ (ap (new_place peds)
+      (same_place (numbers ns) k q p s.differ h
+      (record { inside = rw length-map lp; number = number_is ns p ∙ sym (eqb-true _ _ t) }))) ∙ sym t)
+      (λ f. ne_eqb _ _ (λ e. eqb-false _ _ f
+      (sym h.number ∙ (number_is ns q ∙ ap (λ (i : ℕ). (node_at ns i).number)
+      (new_injective q p (rw length-map at h.inside) lp e)))) ∙ sym f)
 
   ref_new : (p : ℕ) → p < length ns → (rs : List Ref) → every (ref_named ns) rs ≡ true
       → ref_of own (map (reref old) rs) own (new_place peds p) ≡ ref_of own rs own (node_at ns p).number
@@ -96,14 +103,25 @@ module _ (c : Cell) (s : Sound c) where
 
   pub see_new : (p : ℕ) → p < length ns → see (renumber_cell c) (new_place peds p) ≡ see c p
   unfolding see junction_of
-  see_new p lp = rw (new_node_law c p lp, length-map, node_area c s p lp, new_area c s, new_refs c, new_junctions c, ref_new p lp c.refs s.refs_named)
+  see_new p lp = rw (
+    new_node_law c p lp,
+    length-map,
+    node_area c s p lp,
+    new_area c s,
+    new_refs c,
+    new_junctions c,
+    ref_new p lp c.refs s.refs_named,
+  )
 
   -- the link chosen is the one chosen before, renumbered
-  pub link_new : (p b : ℕ) → p < length ns → link_at (renumber_cell c).nodes (new_place peds p) b ≡ map_option (relink old) (link_at ns p b)
+  pub link_new : (p b : ℕ) → p < length ns → link_at (renumber_cell c).nodes (new_place peds p) b
+      ≡ map_option (relink old) (link_at ns p b)
   link_new p b lp = rw (new_node_law c p lp, map_at)
 
   -- and leads to the same node
-  leads_new : (l : Option Link) → if_any (link_named ns) l → (take_link (renumber_cell c).nodes (map_option (relink old) l) ≡ move_next (new_place peds) (take_link ns l)) × AllNext (λ q. q < length ns) (take_link ns l)
+  leads_new : (l : Option Link) → if_any (link_named ns) l
+      → (take_link (renumber_cell c).nodes (map_option (relink old) l)
+      ≡ move_next (new_place peds) (take_link ns l)) × AllNext (λ q. q < length ns) (take_link ns l)
   unfolding renamed
   leads_new none h = (refl, tt)
   leads_new (some l) h =
@@ -111,20 +129,30 @@ module _ (c : Cell) (s : Sound c) where
       (λ b.
       let o = new_own c s l.area l.number h b in
       let lq : o.0 < length ns = rw length-map at o.1.inside in
-      rw (b, o.2, new_find c (new_place peds o.0) (new_at ns o.0 lq).0, find_is (numbers ns) l.number o.0 s.differ o.1) (refl, lq))
+      rw (
+        b,
+        o.2,
+        new_find c (new_place peds o.0) (new_at ns o.0 lq).0,
+        find_is (numbers ns) l.number o.0 s.differ
+            o.1,
+      ) (refl, lq))
       (λ f. rw f (refl, tt)))
 
-  pub next_new : (p b : ℕ) → p < length ns → (next (renumber_cell c).nodes (new_place peds p) b ≡ move_next (new_place peds) (next ns p b)) × AllNext (λ q. q < length ns) (next ns p b)
+  pub next_new : (p b : ℕ) → p < length ns
+      → (next (renumber_cell c).nodes (new_place peds p) b ≡ move_next (new_place peds) (next ns p b))
+      × AllNext (λ q. q < length ns) (next ns p b)
   unfolding next
   next_new p b lp =
-      let h = leads_new (link_at ns p b) (every_any (link_named ns) (node_at ns p).links b (and_right (eqb (node_at ns p).area own) _ (every_at (node_sound ns) ns p no_node s.nodes_sound lp))) in
+      let h = leads_new (link_at ns p b) (every_any (link_named ns) (node_at ns p).links b
+      (and_right (eqb (node_at ns p).area own) _ (every_at (node_sound ns) ns p no_node s.nodes_sound lp))) in
       (rw (link_new p b lp) h.0, h.1)
 
   body_same : (l : Option Link) → body_of (map_option (relink old) l) ≡ body_of l
   body_same (some l) = refl
   body_same none = refl
 
-  pub walk_new : (bs : List ℕ) (p : ℕ) → p < length ns → walk (renumber_cell c) bs (new_place peds p) ≡ move (new_place peds) (walk c bs p)
+  pub walk_new : (bs : List ℕ) (p : ℕ) → p < length ns → walk (renumber_cell c) bs (new_place peds p)
+      ≡ move (new_place peds) (walk c bs p)
   unfolding walk
   walk_new = walk_alike (record {
     next_same = λ p b lp. (next_new p b lp).0;

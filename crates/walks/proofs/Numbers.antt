@@ -28,7 +28,8 @@ unfolding first_with
 named_has [] k h = true_false (sym h)
 named_has (n ∷ ns) k h = by_test (eqb n k)
     (λ t. (0, record { inside = omega arith; number = eqb-true _ _ t }))
-    (λ f. let r = named_has ns k (rw (f, next_some) at h) in (suc r.0, record { inside = omega (arith, r.1.inside); number = r.1.number }))
+    (λ f. let r = named_has ns k (rw (f, next_some) at h) in
+    (suc r.0, record { inside = omega (arith, r.1.inside); number = r.1.number }))
 
 -- no node before a place with the number k has it
 pub first_is : (ns : List ℕ) (k p : ℕ) → differing ns ≡ true → Has ns k p → first_with ns k ≡ some p
@@ -36,7 +37,8 @@ unfolding first_with differing
 first_is [] k p d h = absurd (omega arith)
 first_is (n ∷ ns) k zero d h = simp (eq-eqb _ _ h.number)
 first_is (n ∷ ns) k (suc p) d h =
-    let ih : first_with ns k ≡ some p = first_is ns k p (and_right (not (is_some (first_with ns n))) _ d) (record { inside = omega arith; number = h.number }) in
+    let ih : first_with ns k ≡ some p = first_is ns k p (and_right (not (is_some (first_with ns n))) _ d)
+    (record { inside = omega arith; number = h.number }) in
     by_test (eqb n k)
     (λ t. true_false (cc (ih, eqb-true n k t, and_left (not (is_some (first_with ns n))) _ d)))
     (λ f. cc)
@@ -62,16 +64,22 @@ pub last_is : (ns : List ℕ) (k p : ℕ) → differing ns ≡ true → Has ns k
 unfolding last_with differing
 last_is [] k p d h = absurd (omega arith)
 last_is (n ∷ ns) k zero d h =
-    let e : last_with ns k ≡ none = none_is (last_with ns k) (rw (first_last ns k, ← h.number) (and_left (not (is_some (first_with ns n))) _ d)) in
+    let e : last_with ns k ≡ none = none_is (last_with ns k) (rw (first_last ns k, ← h.number)
+    (and_left (not (is_some (first_with ns n))) _ d)) in
     cc (eq-eqb _ _ h.number)
 last_is (n ∷ ns) k (suc p) d h =
-    simp (last_is ns k p (and_right (not (is_some (first_with ns n))) _ d) (record { inside = omega arith; number = h.number }))
+    simp (last_is ns k p (and_right (not (is_some (first_with ns n))) _ d)
+    (record { inside = omega arith; number = h.number }))
 
 pub find_is : (ns : List ℕ) (k p : ℕ) → differing ns ≡ true → Has ns k p → find ns k ≡ some p
 unfolding find
 find_is ns k p d h = by_test (ltb k (length ns) && eqb (get_or ns k 0) k)
     (λ t.
-    let h' : Has ns k k = record { inside = ltb-true _ _ (and_left _ _ t); number = eqb-true _ _ (and_right (ltb k (length ns)) _ t) } in
+    let h' : Has ns k k = record {
+      inside = ltb-true _ _ (and_left _ _ t);
+      number = eqb-true _ _
+          (and_right (ltb k (length ns)) _ t);
+    } in
     cc (first_is ns k p d h, first_is ns k k d h'))
     (λ f. cc (first_is ns k p d h))
 

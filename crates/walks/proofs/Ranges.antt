@@ -17,22 +17,30 @@ all_is_every f [] = refl
 all_is_every f (x ∷ xs) = ap (λ (b : Bool). f x && b) (all_is_every f xs)
 
 module _ {A B : Type 0} where
-  pub every_mapped : (f : B → Bool) (g : A → B) (h : A → Bool) → ((x : A) → f (g x) ≡ h x) → (l : List A) → every f (map g l) ≡ every h l
+  pub every_mapped : (f : B → Bool) (g : A → B) (h : A → Bool) → ((x : A) → f (g x) ≡ h x) → (l : List A)
+      → every f (map g l) ≡ every h l
   unfolding every
   every_mapped f g h e [] = refl
   every_mapped f g h e (x ∷ xs) = λ i. e x i && every_mapped f g h e xs i
 
 -- ---- a range of the first l entries
 
-cut_is : {A : Type 0} (l start : ℕ) (xs : List A) → start ≤ l → drop start (take l xs) ≡ take (l - start) (drop start xs)
-cut_is l start xs h = let whole : l ≡ start + (l - start) = omega arith in ap (λ (k : ℕ). drop start (take k xs)) whole ∙ drop-take start (l - start) xs
+cut_is : {A : Type 0} (l start : ℕ) (xs : List A) → start ≤ l → drop start (take l xs)
+    ≡ take (l - start) (drop start xs)
+cut_is l start xs h = let whole : l ≡ start
+    + (l - start) = omega arith in ap (λ (k : ℕ). drop start (take k xs)) whole ∙ drop-take start (l - start) xs
 
-pub cut_all : {A : Type 0} (l start count : ℕ) (xs : List A) → start + count ≤ l → take count (drop start (take l xs)) ≡ take count (drop start xs)
-cut_all l start count xs h = ap (take count) (cut_is l start xs (omega arith)) ∙ take-take count (l - start) (drop start xs) (omega arith)
+pub cut_all : {A : Type 0} (l start count : ℕ) (xs : List A) → start + count ≤ l
+    → take count (drop start (take l xs)) ≡ take count (drop start xs)
+cut_all l start count xs h = ap (take count) (cut_is l start xs (omega arith))
+    ∙ take-take count (l - start) (drop start xs) (omega arith)
 
 pub cut_none : {A : Type 0} (l start count : ℕ) (xs : List A) → l ≤ start → take count (drop start (take l xs)) ≡ []
-cut_none l start count xs h = ap (take count) (drop_all start (take l xs) (omega (arith, length-take l xs))) ∙ take-nil count
+cut_none l start count xs h = ap (take count) (drop_all start (take l xs) (omega (arith, length-take l xs)))
+    ∙ take-nil count
 
-pub cut_part : {A : Type 0} (l start count : ℕ) (xs : List A) → l ≤ length xs → start ≤ l → l - start ≤ count → take count (drop start (take l xs)) ≡ take (l - start) (drop start xs)
+pub cut_part : {A : Type 0} (l start count : ℕ) (xs : List A) → l ≤ length xs → start ≤ l → l - start ≤ count
+    → take count (drop start (take l xs)) ≡ take (l - start) (drop start xs)
 cut_part l start count xs hl hs h =
-    take_all count (drop start (take l xs)) (omega (arith, length-drop start (take l xs), length-take l xs)) ∙ cut_is l start xs hs
+    take_all count (drop start (take l xs)) (omega (arith, length-drop start (take l xs), length-take l xs))
+    ∙ cut_is l start xs hs

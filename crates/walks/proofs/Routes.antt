@@ -20,13 +20,15 @@ trail_route c [] p = refl
 trail_route c (b ∷ bs) p = go (next c.nodes p b) (trail_route c bs)
   where
     go : (x : Next ℕ) → ((q : ℕ) → route_of (walk c bs q) ≡ route c.nodes bs q)
-        → route_of (go_on (record { place = p; seen = see c p; link = body_of (link_at c.nodes p b) }) (walk c bs) x) ≡ step_on p (route c.nodes bs) x
+        → route_of (go_on (record { place = p; seen = see c p; link = body_of (link_at c.nodes p b) }) (walk c bs)
+        x) ≡ step_on p (route c.nodes bs) x
     go (to q) ih = ap (λ (r : Route). step_on p (λ z. r) (to q)) (ih q)
     go (stop e) ih = refl
 
 -- ---- a trail with each place moved
 
-moved_places : {L : Type 0} (f : L → L) (l : List (Visit L)) → map (λ v. v.place) (map (move_visit f) l) ≡ map f (map (λ v. v.place) l)
+moved_places : {L : Type 0} (f : L → L) (l : List (Visit L)) → map (λ v. v.place) (map (move_visit f) l)
+    ≡ map f (map (λ v. v.place) l)
 moved_places f [] = refl
 moved_places {L} f (v ∷ vs) = ap {B = List L} (λ r. f v.place ∷ r) (moved_places f vs)
 
@@ -49,6 +51,9 @@ same_walk {L} f t u e =
 abbrev pub move_route : (ℕ → ℕ) → Route → Route
 move_route f r = record { ending = r.ending; places = map f r.places }
 
-pub alike_route : {c d : Cell} {f : ℕ → ℕ} → Alike c d f → (bs : List ℕ) (p : ℕ) → p < length c.nodes → route d.nodes bs (f p) ≡ move_route f (route c.nodes bs p)
+pub alike_route : {c d : Cell} {f : ℕ → ℕ} → Alike c d f → (bs : List ℕ) (p : ℕ) → p < length c.nodes
+    → route d.nodes bs (f p) ≡ move_route f (route c.nodes bs p)
 alike_route {c} {d} {f} a bs p lt =
-    rw (← trail_route d bs (f p), ← trail_route c bs p) (let s = same_walk f (walk c bs p) (walk d bs (f p)) (a.same_walks bs p lt) in λ i. record { ending = s.same_end i; places = s.same_places i })
+    rw (← trail_route d bs (f p), ← trail_route c bs p)
+    (let s = same_walk f (walk c bs p) (walk d bs (f p)) (a.same_walks bs p lt) in λ i. record
+    { ending = s.same_end i; places = s.same_places i })

@@ -31,12 +31,14 @@ pub index_starts : (nodes : List (List ℕ)) (s : List ℕ) → Indexed (numbers
 unfolding numbers_in
 index_starts nodes s = cells.index_starts s
 
-pub index_turn : (nodes : List (List ℕ)) (i k : ℕ) (s : List ℕ) → i < length nodes → k ≡ number_of (get_or nodes i []) → k < length s
+pub index_turn : (nodes : List (List ℕ)) (i k : ℕ) (s : List ℕ) → i < length nodes → k
+    ≡ number_of (get_or nodes i []) → k < length s
     → Indexed (numbers_in i nodes) s → Indexed (numbers_in (i + 1) nodes) (set s k i)
 unfolding numbers_in
 index_turn nodes i k s lt e hk ix = cells.index_turn nodes i k s lt e hk ix
 
-indexed_snoc : (ks : List ℕ) (x i : ℕ) (s : List ℕ) → indexed (ks ++ (x ∷ [])) i s ≡ set (indexed ks i s) x (i + length ks)
+indexed_snoc : (ks : List ℕ) (x i : ℕ) (s : List ℕ) → indexed (ks ++ (x ∷ [])) i s
+    ≡ set (indexed ks i s) x (i + length ks)
 unfolding indexed
 indexed_snoc [] x i s = rw add-zero
 indexed_snoc (k ∷ ks) x i s = indexed_snoc ks x (suc i) (set s k i) ∙ rw (suc-add, add-suc)
@@ -45,16 +47,19 @@ pub indexed_start : (nodes : List (List ℕ)) (s : List ℕ) → s ≡ indexed (
 unfolding indexed numbers_in
 indexed_start nodes s = refl
 
-pub indexed_turn : (nodes : List (List ℕ)) (i k : ℕ) (s now : List ℕ) → i < length nodes → k ≡ number_of (get_or nodes i []) → now ≡ indexed (numbers_in i nodes) 0 s
+pub indexed_turn : (nodes : List (List ℕ)) (i k : ℕ) (s now : List ℕ) → i < length nodes → k
+    ≡ number_of (get_or nodes i []) → now ≡ indexed (numbers_in i nodes) 0 s
     → set now k i ≡ indexed (numbers_in (i + 1) nodes) 0 s
 unfolding numbers_in
 indexed_turn nodes i k s now lt e h =
-    let long : length (map number_of (take i nodes)) ≡ i = length-map (take i nodes) number_of ∙ length-take-le i nodes (omega arith) in
+    let long : length (map number_of (take i nodes)) ≡ i = length-map (take i nodes) number_of
+    ∙ length-take-le i nodes (omega arith) in
     rw (add-one, take-suc nodes i [] lt, map_push, ← e, indexed_snoc, long, zero-add, h)
 
 -- ---- the numbers
 
-number_in : (n : ℕ) (nodes : List (List ℕ)) (t : ℕ) → t < n → get_or (numbers_in n nodes) t 0 ≡ number_of (get_or nodes t [])
+number_in : (n : ℕ) (nodes : List (List ℕ)) (t : ℕ) → t < n → get_or (numbers_in n nodes) t 0
+    ≡ number_of (get_or nodes t [])
 unfolding number_of numbers_in
 number_in n nodes t lt = get_or-map number_of (take n nodes) t [] ∙ ap number_of (get_or-take n nodes t [] lt)
 
@@ -68,11 +73,13 @@ unfolding numbers_in
 all_front n nodes = ap (map number_of) (take_all (length (take n nodes)) (take n nodes) (omega arith))
 
 -- the numbers differ if no two places have the same
-differ_yes : (ns : List ℕ) → ((i j : ℕ) → i < length ns → j < length ns → get_or ns i 0 ≡ get_or ns j 0 → i ≡ j) → differing ns ≡ true
+differ_yes : (ns : List ℕ) → ((i j : ℕ) → i < length ns → j < length ns → get_or ns i 0 ≡ get_or ns j 0 → i ≡ j)
+    → differing ns ≡ true
 unfolding differing
 differ_yes [] h = refl
 differ_yes (n ∷ ns) h =
-    rw (differ_yes ns (λ i j a b e. let z : suc i ≡ suc j = h (suc i) (suc j) (omega arith) (omega arith) e in omega arith))
+    rw (differ_yes ns (λ i j a b e. let z : suc i
+    ≡ suc j = h (suc i) (suc j) (omega arith) (omega arith) e in omega arith))
     (by_test (is_some (first_with ns n))
     (λ t.
     let r = named_has ns n t in
@@ -86,7 +93,8 @@ each_place : {A : Type 0} (f : ℕ × A → Bool) (d : A) (l : List A) (i : ℕ)
     → (j : ℕ) → j < length l → f (i + j, get_or l j d) ≡ true
 each_place f d l i h j lt =
     ap f (sym (get_or-enumerate_from i l j (0, d) lt))
-    ∙ and_at (list_all f) f refl (λ _ _. refl) (enumerate_from i l) j (0, d) (omega (arith, length-enumerate_from i l)) h
+    ∙ and_at (list_all f) f refl (λ _ _. refl) (enumerate_from i l) j (0, d)
+    (omega (arith, length-enumerate_from i l)) h
 
 some_place : {A : Type 0} (f : ℕ × A → Bool) (d : A) (l : List A) (i : ℕ) → list_all f (enumerate_from i l) ≡ false
     → (j : ℕ) × (j < length l) × (f (i + j, get_or l j d) ≡ false)
@@ -107,28 +115,40 @@ module _ (n : ℕ) (nodes : List (List ℕ)) (s : List ℕ) (r : Ready n nodes s
   long : length (numbers_in n nodes) ≡ n
   long = numbers_long n nodes r.nodes_fit
 
-  pub differ_all : ((j : ℕ) → j < n → get_or s (number_of (get_or nodes j [])) 0 ≡ j) → true ≡ differing (numbers_in n nodes)
+  pub differ_all : ((j : ℕ) → j < n → get_or s (number_of (get_or nodes j [])) 0 ≡ j) → true
+      ≡ differing (numbers_in n nodes)
   differ_all h = sym (differ_yes (numbers_in n nodes) (λ i j a b e.
       let a' : i < n = omega (arith, long) in
       let b' : j < n = omega (arith, long) in
-      sym (h i a') ∙ ap (λ (k : ℕ). get_or s k 0) (sym (number_in n nodes i a') ∙ e ∙ number_in n nodes j b') ∙ h j b'))
+      sym (h i a') ∙ ap (λ (k : ℕ). get_or s k 0) (sym (number_in n nodes i a') ∙ e ∙ number_in n nodes j b')
+      ∙ h j b'))
 
-  pub differ_not : (i : ℕ) → i < n → (get_or s (number_of (get_or nodes i [])) 0 ≡ i → ⊥) → false ≡ differing (numbers_in n nodes)
+  pub differ_not : (i : ℕ) → i < n → (get_or s (number_of (get_or nodes i [])) 0 ≡ i → ⊥) → false
+      ≡ differing (numbers_in n nodes)
   differ_not i lt ne = by_test (differing (numbers_in n nodes))
-      (λ t. absurd (ne (r.leads.at _ i (last_is (numbers_in n nodes) (number_of (get_or nodes i [])) i t (record { inside = omega (arith, long); number = number_in n nodes i lt })))))
+      (λ t. absurd (ne (r.leads.at _ i (last_is (numbers_in n nodes) (number_of (get_or nodes i [])) i t
+      (record { inside = omega (arith, long); number = number_in n nodes i lt })))))
       (λ f. sym f)
 
   -- what a test of each node with its place says
-  pub differ_told : n ≡ length nodes → list_all (leads_back s) (enumerate_from 0 nodes) ≡ differing (numbers_in n nodes)
+  pub differ_told : n ≡ length nodes → list_all (leads_back s) (enumerate_from 0 nodes)
+      ≡ differing (numbers_in n nodes)
   differ_told e = by_test (list_all (leads_back s) (enumerate_from 0 nodes))
-      (λ t. t ∙ differ_all (λ j lt. eqb-true _ _ (each_place (leads_back s) [] nodes 0 t j (omega arith)) ∙ zero-add j))
-      (λ f. let x = some_place (leads_back s) [] nodes 0 f in f ∙ differ_not x.0 (omega (arith, x.1)) (λ q. eqb-false _ _ x.2 (q ∙ sym (zero-add x.0))))
+      (λ t. t ∙ differ_all (λ j lt. eqb-true _ _ (each_place (leads_back s) [] nodes 0 t j (omega arith))
+      ∙ zero-add j))
+      (λ f. let x = some_place (leads_back s) [] nodes 0 f in f
+      ∙ differ_not x.0 (omega (arith, x.1)) (λ q. eqb-false _ _ x.2 (q ∙ sym (zero-add x.0))))
 
   module _ (k t : ℕ) (is-t : get_or s k 0 ≡ t) where
     pub number_there : t < n → number_of (get_or nodes t []) ≡ k → true ≡ is_some (first_with (numbers_in n nodes) k)
-    number_there lt e = rw (← first_last (numbers_in n nodes) k, cells.named (numbers_in n nodes) s r.leads k t is-t (omega (arith, long)) (number_in n nodes t lt ∙ e))
+    number_there lt e = rw (
+      ← first_last (numbers_in n nodes) k,
+      cells.named (numbers_in n nodes) s r.leads k t is-t
+          (omega (arith, long)) (number_in n nodes t lt ∙ e),
+    )
 
-    pub number_not : (t < n → number_of (get_or nodes t []) ≡ k → ⊥) → false ≡ is_some (first_with (numbers_in n nodes) k)
+    pub number_not : (t < n → number_of (get_or nodes t []) ≡ k → ⊥) → false
+        ≡ is_some (first_with (numbers_in n nodes) k)
     number_not nowhere = rw (
       ← first_last (numbers_in n nodes) k,
       cells.unnamed (numbers_in n nodes) s r.leads k t is-t

@@ -3,7 +3,7 @@ use Prim.Native.Nat.{ℕ, ◌-◌, ◌<◌, ◌≤◌, min}
 use native.Mathlib.Omega.{arith}
 use native.Mathlib.Nat.{zero-add, min-eq_left, min-eq_right, min-le_right, le-min}
 use mathlib.Core.Path.{◌≡◌, refl, ap, sym, ◌∙◌}
-use mathlib.Core.Bool.{true, false}
+use mathlib.Core.Bool.{true, false, cond}
 use mathlib.Core.List.{List, [], ◌++◌, map}
 use mathlib.Core.Option.{Option, none, some}
 use lib.Dec.{ltb}
@@ -22,7 +22,9 @@ use Rattle.cells.specs.LookupCall.{place_of, ref_in, below, junction_of_call}
 use Rattle.cells.proofs.Sequences.Tests.{by_test}
 use Rattle.cells.proofs.Lookups.LookupLaws.{area_held}
 use Rattle.walks.specs.Walk.{see, link_at, body_of}
-use Rattle.walks.specs.Shown.{seen_by, inside, junction_place, seen_node, shown_node, seen_junction, shown_junction, values_at, values_left, shown_values, seen_link, or_no_link, shown_link}
+use Rattle.walks.specs.Shown.{seen_by, inside, junction_place, seen_node, shown_node, seen_junction}
+use Rattle.walks.specs.Shown.{shown_junction, values_at, values_left}
+use Rattle.walks.specs.Shown.{shown_values, seen_link, or_no_link, shown_link}
 use Rattle.walks.specs.Parts.{chosen}
 use Rattle.walks.specs.ShownParts.{seen_of}
 use Rattle.walks.specs.declared.shown.SeenNode.{SeenNode}
@@ -31,7 +33,11 @@ use Rattle.walks.specs.declared.shown.SeenLink.{SeenLink}
 use Rattle.walks.proofs.Ranges.{cut_all, cut_part}
 use Rattle.std.proofs.lemmas.List.{get_or-map, take_min}
 use Rattle.walks.proofs.StepLaws.{elem_at, elem_past, node_in, linked, link_found}
-use Rattle.std.specs.Prelude.{Ok, Err}
+use Rattle.std.specs.Prelude.{Result, Ok, Err}
+use Rattle.std.specs.Result.{IsErrAnd}
+use Rattle.numbers.specs.Refusals.{Cause, done, decided}
+use Rattle.walks.specs.PlaceCauses.{place_causes}
+use Rattle.walks.proofs.PlaceCases.{place_asked, place_refused}
 use Rattle.numbers.specs.declared.refusal.Refusal.TheVariants.{TooShort, NoSuchPlace, AtLimit}
 use Rattle.numbers.specs.declared.refusal.Lent.TheVariants as lent
 use Rattle.numbers.specs.declared.refusal.Refusal.{Refusal}
@@ -56,6 +62,41 @@ module _ {A : Type 0} (xs : List A) (l start count : ℕ) where
         front : take count (drop start (take end xs)) ≡ take count (drop start (take l xs))
         front = ap (λ (t : List A). take count (drop start t)) (take_min l xs)
 
+-- ---- what is asked first of a node and of a link
+
+module _ (m : Memory) (p : ℕ) where
+  abbrev causes : List Cause
+  causes = place_causes m.ynd (length m.nodes) (length m.links) p
+
+  -- what is asked of a node after that, and the answer
+  abbrev node_then : Result SeenNode Refusal
+  node_then =
+      cond (ltb (length m.junctions) m.ynd.junction_count) (Err (TooShort lent.Junctions))
+      (cond (ltb (length m.refs) m.ynd.ref_count) (Err (TooShort lent.Refs))
+      (Ok (seen_node (cell_of m) p)))
+
+  pub node_asked : done ≡ decided causes → node_then ≡ shown_node m p
+  unfolding shown_node
+  node_asked = place_asked m.ynd (length m.nodes) (length m.links) p (λ r. r) node_then
+
+  pub node_refused : {cause : Refusal} → Err cause ≡ decided causes
+      → (r : Result SeenNode Refusal) → IsErrAnd r (λ x. x ≡ cause) → r ≡ shown_node m p
+  unfolding shown_node
+  node_refused = place_refused m.ynd (length m.nodes) (length m.links) p (λ r. r) node_then
+
+  module _ (b : ℕ) where
+    abbrev link_then : Result (std.Option SeenLink) Refusal
+    link_then = or_no_link (body_of (link_at (cell_of m).nodes p b))
+
+    pub link_asked : done ≡ decided causes → link_then ≡ shown_link m p b
+    unfolding shown_link
+    link_asked = place_asked m.ynd (length m.nodes) (length m.links) p (λ r. r) link_then
+
+    pub link_refused : {cause : Refusal} → Err cause ≡ decided causes
+        → (r : Result (std.Option SeenLink) Refusal) → IsErrAnd r (λ x. x ≡ cause) → r ≡ shown_link m p b
+    unfolding shown_link
+    link_refused = place_refused m.ynd (length m.nodes) (length m.links) p (λ r. r) link_then
+
 -- ---- a node
 
 -- the place of the junction that a node is shown with is that of its junction
@@ -65,9 +106,11 @@ junction_found c a k = go (ref_of (first_of c.nodes) c.refs a k)
   where
     go : (o : Option ℕ) → junction_at c.junctions (inside (length c.junctions) o) ≡ junction_at c.junctions o
     go none = refl
-    go (some j) = by_test (ltb j (length c.junctions)) (λ t. rw t) (λ f. rw f (sym (elem_past c.junctions j (ltb-false _ _ f))))
+    go (some j) = by_test (ltb j (length c.junctions)) (λ t. rw t)
+        (λ f. rw f (sym (elem_past c.junctions j (ltb-false _ _ f))))
 
-pub junction_shown : (c : Cell) (p : ℕ) → junction_at c.junctions (junction_place c (see c p).area (node_at c.nodes p).number) ≡ (see c p).junction
+pub junction_shown : (c : Cell) (p : ℕ)
+    → junction_at c.junctions (junction_place c (see c p).area (node_at c.nodes p).number) ≡ (see c p).junction
 unfolding see
 junction_shown c p = junction_found c (node_at c.nodes p).area (node_at c.nodes p).number
 
@@ -83,12 +126,16 @@ module _ (m : Memory) where
 
   junctions_long : m.ynd.junction_count ≤ length m.junctions → length (junctions_of m) ≡ m.ynd.junction_count
   unfolding junctions_of
-  junctions_long h = length-map (take m.ynd.junction_count m.junctions) (junction_with (take m.ynd.heightmap_count m.heights)) ∙ length-take-le _ m.junctions h
+  junctions_long h = length-map (take m.ynd.junction_count m.junctions)
+      (junction_with (take m.ynd.heightmap_count m.heights)) ∙ length-take-le _ m.junctions h
 
-  module _ (within : over_limit m.ynd ≡ false) (nodes : n ≤ length m.nodes) (links : l ≤ length m.links) (junctions : m.ynd.junction_count ≤ length m.junctions) (refs : m.ynd.ref_count ≤ length m.refs) where
-    junction_place_law : (a k : ℕ) → junction_of_call m.ynd m.nodes m.refs a k ≡ Ok (place_of (junction_place (cell_of m) a k))
+  module _ (within : over_limit m.ynd ≡ false) (nodes : n ≤ length m.nodes) (links : l ≤ length m.links)
+      (junctions : m.ynd.junction_count ≤ length m.junctions) (refs : m.ynd.ref_count ≤ length m.refs) where
+    junction_place_law : (a k : ℕ) → junction_of_call m.ynd m.nodes m.refs a k
+        ≡ Ok (place_of (junction_place (cell_of m) a k))
     unfolding junction_of_call junction_place cell_of ref_in refs_of
-    junction_place_law a k = rw (within, le-ltb _ _ nodes, le-ltb _ _ refs, area_held m, junctions_long junctions) (ap Ok (go (ref_of _ _ a k)))
+    junction_place_law a k = rw (within, le-ltb _ _ nodes, le-ltb _ _ refs, area_held m, junctions_long junctions)
+        (ap Ok (go (ref_of _ _ a k)))
       where
         go : (o : Option ℕ) → below m.ynd.junction_count (place_of o) ≡ place_of (inside m.ynd.junction_count o)
         go none = refl
@@ -113,48 +160,34 @@ module _ (m : Memory) where
       unfolding seen_node see cell_of
       seen_fields = refl
 
-      seen_words : (count : ℕ) (j : std.Option ℕ) → count ≡ min (link_count w) (l - link_start w) → Ok j ≡ junction_of_call m.ynd m.nodes m.refs (area_of w) (number_of w)
+      seen_words : (count : ℕ) (j : std.Option ℕ) → count ≡ min (link_count w) (l - link_start w)
+          → Ok j ≡ junction_of_call m.ynd m.nodes m.refs (area_of w) (number_of w)
           → seen_of w count j ≡ seen_node (cell_of m) p
       unfolding seen_of
       seen_words count j ec ej =
           let ec' : count ≡ length (take (link_count w) (drop (link_start w) pool)) = ec ∙ held_long in
-          let ej'' : Ok j ≡ Ok (place_of (junction_place (cell_of m) (area_of w) (number_of w))) = ej ∙ junction_place_law (area_of w) (number_of w) in
+          let ej'' : Ok j ≡ Ok (place_of (junction_place (cell_of m) (area_of w) (number_of w))) = ej
+          ∙ junction_place_law (area_of w) (number_of w) in
           let ej' : j ≡ place_of (junction_place (cell_of m) (area_of w) (number_of w)) = cc in
           (λ i. seen_of w (ec' i) (ej' i)) ∙ ap seen_as (sym (node_in m nodes p lt)) ∙ sym seen_fields
 
-      pub node_answered : (r : SeenNode) (count : ℕ) (j : std.Option ℕ) → r ≡ seen_of w count j → count ≡ min (link_count w) (l - link_start w)
+      pub node_answered : done ≡ decided (place_causes m.ynd (length m.nodes) (length m.links) p)
+          → (r : SeenNode) (count : ℕ) (j : std.Option ℕ) → r ≡ seen_of w count j → count
+          ≡ min (link_count w) (l - link_start w)
           → Ok j ≡ junction_of_call m.ynd m.nodes m.refs (area_of w) (number_of w) → Ok r ≡ shown_node m p
-      unfolding shown_node
-      node_answered r count j er ec ej =
-          rw (lt-leb _ _ lt, within, le-ltb _ _ nodes, le-ltb _ _ links, le-ltb _ _ junctions, le-ltb _ _ refs) (ap Ok (er ∙ seen_words count j ec ej))
+      node_answered asked r count j er ec ej =
+          ap Ok (er ∙ seen_words count j ec ej)
+          ∙ (rw (le-ltb _ _ junctions, le-ltb _ _ refs) at (node_asked m p asked))
 
   module _ (p : ℕ) where
-    pub node_no_place : n ≤ p → Err NoSuchPlace ≡ shown_node m p
-    unfolding shown_node
-    node_no_place h = rw (le-leb _ _ h)
+    pub node_junctions_short : done ≡ decided (place_causes m.ynd (length m.nodes) (length m.links) p)
+        → length m.junctions < m.ynd.junction_count → Err (TooShort lent.Junctions) ≡ shown_node m p
+    node_junctions_short asked h = rw (lt-ltb _ _ h) at (node_asked m p asked)
 
-    pub node_over : p < n → over_limit m.ynd ≡ true → Err AtLimit ≡ shown_node m p
-    unfolding shown_node
-    node_over lt o = rw (lt-leb _ _ lt, o)
-
-    module _ (lt : p < n) (within : over_limit m.ynd ≡ false) where
-      pub node_nodes_short : length m.nodes < n → Err (TooShort lent.Nodes) ≡ shown_node m p
-      unfolding shown_node
-      node_nodes_short h = rw (lt-leb _ _ lt, within, lt-ltb _ _ h)
-
-      pub node_links_short : n ≤ length m.nodes → length m.links < l → Err (TooShort lent.Links) ≡ shown_node m p
-      unfolding shown_node
-      node_links_short a h = rw (lt-leb _ _ lt, within, le-ltb _ _ a, lt-ltb _ _ h)
-
-      pub node_junctions_short : n ≤ length m.nodes → l ≤ length m.links → length m.junctions < m.ynd.junction_count
-          → Err (TooShort lent.Junctions) ≡ shown_node m p
-      unfolding shown_node
-      node_junctions_short a b h = rw (lt-leb _ _ lt, within, le-ltb _ _ a, le-ltb _ _ b, lt-ltb _ _ h)
-
-      pub node_refs_short : n ≤ length m.nodes → l ≤ length m.links → m.ynd.junction_count ≤ length m.junctions
-          → length m.refs < m.ynd.ref_count → Err (TooShort lent.Refs) ≡ shown_node m p
-      unfolding shown_node
-      node_refs_short a b c h = rw (lt-leb _ _ lt, within, le-ltb _ _ a, le-ltb _ _ b, le-ltb _ _ c, lt-ltb _ _ h)
+    pub node_refs_short : done ≡ decided (place_causes m.ynd (length m.nodes) (length m.links) p)
+        → m.ynd.junction_count ≤ length m.junctions → length m.refs < m.ynd.ref_count
+        → Err (TooShort lent.Refs) ≡ shown_node m p
+    node_refs_short asked le h = rw (le-ltb _ _ le, lt-ltb _ _ h) at (node_asked m p asked)
 
     -- ---- a junction
 
@@ -164,12 +197,14 @@ module _ (m : Memory) where
     abbrev many : ℕ
     many = m.ynd.junction_count
 
-    junction_at_law : p < many → p < length m.junctions → get_elem? (cell_of m).junctions p ≡ some (junction_with values (get_or m.junctions p []))
+    junction_at_law : p < many → p < length m.junctions → get_elem? (cell_of m).junctions p
+        ≡ some (junction_with values (get_or m.junctions p []))
     unfolding cell_of junctions_of
     junction_at_law lt h =
         let long : p < length (take many m.junctions) = rw length-take (le-min lt h) in
         elem_at (map (junction_with values) (take many m.junctions)) p (junction_with values []) (rw length-map long)
-        ∙ ap some (get_or-map (junction_with values) (take many m.junctions) p [] (junction_with values []) long ∙ ap (junction_with values) (get_or-take many m.junctions p [] lt))
+        ∙ ap some (get_or-map (junction_with values) (take many m.junctions) p [] (junction_with values []) long
+        ∙ ap (junction_with values) (get_or-take many m.junctions p [] lt))
 
     pub junction_no_place : many ≤ p → Err NoSuchPlace ≡ shown_junction m p
     unfolding shown_junction
@@ -185,13 +220,16 @@ module _ (m : Memory) where
       junction_list_short h = rw (lt-leb _ _ lt, within, lt-ltb _ _ h)
 
       pub junction_answered : many ≤ length m.junctions → (r : SeenJunction)
-          → ((hs : List ℕ) → r ≡ seen_junction (junction_with hs (get_or m.junctions p []))) → Ok r ≡ shown_junction m p
+          → ((hs : List ℕ) → r ≡ seen_junction (junction_with hs (get_or m.junctions p []))) → Ok r
+          ≡ shown_junction m p
       unfolding shown_junction
-      junction_answered h r e = rw (lt-leb _ _ lt, within, le-ltb _ _ h, junction_at_law lt (omega arith)) (ap Ok (e values))
+      junction_answered h r e = rw (lt-leb _ _ lt, within, le-ltb _ _ h, junction_at_law lt (omega arith))
+          (ap Ok (e values))
 
     -- ---- its values
 
-    pub values_answered : p < many → p < length m.junctions → (start count : ℕ) → start ≡ value_start (get_or m.junctions p [])
+    pub values_answered : p < many → p < length m.junctions → (start count : ℕ) → start
+        ≡ value_start (get_or m.junctions p [])
         → count ≡ value_count (get_or m.junctions p []) → take count (drop start values) ≡ values_at m p
     unfolding values_at
     values_answered lt h start count es ec = rw (junction_at_law lt h) (λ i. take (ec i) (drop (es i) values))
@@ -206,47 +244,52 @@ module _ (m : Memory) where
       values_over lt o = rw (lt-leb _ _ lt, o)
 
       module _ (lt : p < many) (within : over_limit m.ynd ≡ false) where
-        pub junctions_short : length m.junctions < many → values_left (Err (TooShort lent.Junctions)) old ≡ shown_values m p old
+        pub junctions_short : length m.junctions < many → values_left (Err (TooShort lent.Junctions)) old
+            ≡ shown_values m p old
         unfolding shown_values
         junctions_short h = rw (lt-leb _ _ lt, within, lt-ltb _ _ h)
 
         module _ (junctions : many ≤ length m.junctions) where
-          pub heights_short : length m.heights < m.ynd.heightmap_count → values_left (Err (TooShort lent.Heightmap)) old ≡ shown_values m p old
+          pub heights_short : length m.heights < m.ynd.heightmap_count
+              → values_left (Err (TooShort lent.Heightmap)) old ≡ shown_values m p old
           unfolding shown_values
           heights_short h = rw (lt-leb _ _ lt, within, le-ltb _ _ junctions, lt-ltb _ _ h)
 
           module _ (heights : m.ynd.heightmap_count ≤ length m.heights) (v : List ℕ) (are : v ≡ values_at m p) where
-            pub values_short : length old < length v → values_left (Err (TooShort lent.Heightmap)) old ≡ shown_values m p old
+            pub values_short : length old < length v → values_left (Err (TooShort lent.Heightmap)) old
+                ≡ shown_values m p old
             unfolding shown_values
-            values_short h = rw (lt-leb _ _ lt, within, le-ltb _ _ junctions, le-ltb _ _ heights, sym are, lt-ltb _ _ h)
+            values_short h = rw (
+              lt-leb _ _ lt,
+              within,
+              le-ltb _ _ junctions,
+              le-ltb _ _ heights,
+              sym are,
+              lt-ltb _
+                  _ h,
+            )
 
-            pub values_copied : length v ≤ length old → values_left (Ok (length v)) (v ++ drop (length v) old) ≡ shown_values m p old
+            pub values_copied : length v ≤ length old → values_left (Ok (length v)) (v ++ drop (length v) old)
+                ≡ shown_values m p old
             unfolding shown_values put
-            values_copied h = rw (lt-leb _ _ lt, within, le-ltb _ _ junctions, le-ltb _ _ heights, sym are, le-ltb _ _ h, zero-add)
+            values_copied h = rw (
+              lt-leb _ _ lt,
+              within,
+              le-ltb _ _ junctions,
+              le-ltb _ _ heights,
+              sym are,
+              le-ltb _
+                  _ h,
+              zero-add,
+            )
 
     -- ---- the link chosen
 
-    pub link_no_place : (b : ℕ) → n ≤ p → Err NoSuchPlace ≡ shown_link m p b
-    unfolding shown_link
-    link_no_place b h = rw (le-leb _ _ h)
-
-    pub link_over : (b : ℕ) → p < n → over_limit m.ynd ≡ true → Err AtLimit ≡ shown_link m p b
-    unfolding shown_link
-    link_over b lt o = rw (lt-leb _ _ lt, o)
-
-    pub link_nodes_short : (b : ℕ) → p < n → over_limit m.ynd ≡ false → length m.nodes < n → Err (TooShort lent.Nodes) ≡ shown_link m p b
-    unfolding shown_link
-    link_nodes_short b lt within h = rw (lt-leb _ _ lt, within, lt-ltb _ _ h)
-
-    module _ (b : ℕ) (lt : p < n) (within : over_limit m.ynd ≡ false) (nodes : n ≤ length m.nodes) where
-      pub link_links_short : length m.links < l → Err (TooShort lent.Links) ≡ shown_link m p b
-      unfolding shown_link
-      link_links_short h = rw (lt-leb _ _ lt, within, le-ltb _ _ nodes, lt-ltb _ _ h)
-
-      module _ (links : l ≤ length m.links) where
+    module _ (b : ℕ) (lt : p < n) (asked : done ≡ decided (place_causes m.ynd (length m.nodes) (length m.links) p))
+      where
         by_link : (o : Option Link) → link_at (nodes_of m) p b ≡ o → or_no_link (body_of o) ≡ shown_link m p b
-        unfolding shown_link cell_of
-        by_link o e = rw (lt-leb _ _ lt, within, le-ltb _ _ nodes, le-ltb _ _ links, e)
+        unfolding cell_of
+        by_link o e = ap (λ (x : Option Link). or_no_link (body_of x)) (sym e) ∙ link_asked m p b asked
 
         abbrev found : std.Option (List ℕ)
         found = chosen (take l m.links) (get_or m.nodes p []) b
@@ -260,22 +303,29 @@ module _ (m : Memory) where
         for_linked None = refl
 
         pub link_answered : (o : std.Option SeenLink) → o ≡ shown_for found → Ok o ≡ shown_link m p b
-        link_answered o e = ap Ok e ∙ for_linked found ∙ by_link (linked found) (link_found m nodes links p b lt)
+        link_answered o e =
+            let at : link_at (nodes_of m) p b ≡ linked found =
+            link_found m p b ∙ ap (λ (w : List ℕ). linked (chosen (take l m.links) w b))
+            (get_or-take n m.nodes p [] lt) in
+            ap Ok e ∙ for_linked found ∙ by_link (linked found) at
 
-        pub link_said : (o : std.Option SeenLink) → MatchOption found (o ≡ None) (λ w. IsSomeAnd o (λ r. r ≡ seen_link (link_of w).body)) → o ≡ shown_for found
+        pub link_said : (o : std.Option SeenLink)
+            → MatchOption found (o ≡ None) (λ w. IsSomeAnd o (λ r. r ≡ seen_link (link_of w).body)) → o
+            ≡ shown_for found
         link_said o h = go found o h
           where
-            go : (f : std.Option (List ℕ)) (o : std.Option SeenLink) → MatchOption f (o ≡ None) (λ w. IsSomeAnd o (λ r. r ≡ seen_link (link_of w).body)) → o ≡ shown_for f
+            go : (f : std.Option (List ℕ)) (o : std.Option SeenLink)
+                → MatchOption f (o ≡ None) (λ w. IsSomeAnd o (λ r. r ≡ seen_link (link_of w).body)) → o ≡ shown_for f
             go None o h = h
             go (Some w) (Some r) h = ap Some h
             go (Some w) None h = absurd h
 
 -- ---- the laws of each call, for its function
 
-pub ruleset node_cases = (node_no_place, node_over, node_nodes_short, node_links_short, node_junctions_short, node_refs_short)
+pub ruleset node_cases = (node_junctions_short, node_refs_short)
 
 pub ruleset junction_cases = (junction_no_place, junction_over, junction_list_short)
 
 pub ruleset values_cases = (values_no_place, values_over, junctions_short, heights_short, values_short, values_copied)
 
-pub ruleset link_cases = (link_no_place, link_over, link_nodes_short, link_links_short, link_answered, link_said)
+pub ruleset link_cases = (link_answered, link_said)

@@ -27,42 +27,54 @@ module _ (m : Memory) (scratch : List ℕ) where
   limit_passed o = rw o
 
 module _ (m : Memory) (scratch : List ℕ) (within : over_limit m.ynd ≡ false) where
-  pub nodes_short : length m.nodes < m.ynd.node_count → sound_left (Err (TooShort lent.Nodes)) scratch ≡ sound_call m scratch
+  pub nodes_short : length m.nodes < m.ynd.node_count → sound_left (Err (TooShort lent.Nodes)) scratch
+      ≡ sound_call m scratch
   unfolding sound_call
   nodes_short h = rw (within, lt-ltb _ _ h)
 
   module _ (nodes : m.ynd.node_count ≤ length m.nodes) where
-    pub links_short : length m.links < m.ynd.link_count → sound_left (Err (TooShort lent.Links)) scratch ≡ sound_call m scratch
+    pub links_short : length m.links < m.ynd.link_count → sound_left (Err (TooShort lent.Links)) scratch
+        ≡ sound_call m scratch
     unfolding sound_call
     links_short h = rw (within, le-ltb _ _ nodes, lt-ltb _ _ h)
 
     module _ (links : m.ynd.link_count ≤ length m.links) where
-      pub refs_short : length m.refs < m.ynd.ref_count → sound_left (Err (TooShort lent.Refs)) scratch ≡ sound_call m scratch
+      pub refs_short : length m.refs < m.ynd.ref_count → sound_left (Err (TooShort lent.Refs)) scratch
+          ≡ sound_call m scratch
       unfolding sound_call
       refs_short h = rw (within, le-ltb _ _ nodes, le-ltb _ _ links, lt-ltb _ _ h)
 
       module _ (refs : m.ynd.ref_count ≤ length m.refs) where
-        pub scratch_short : length scratch < 65536 → sound_left (Err (TooShort lent.Scratch)) scratch ≡ sound_call m scratch
+        pub scratch_short : length scratch < 65536 → sound_left (Err (TooShort lent.Scratch)) scratch
+            ≡ sound_call m scratch
         unfolding sound_call
         scratch_short h = rw (within, le-ltb _ _ nodes, le-ltb _ _ links, le-ltb _ _ refs, lt-ltb _ _ h)
 
         -- the answer is the cell's soundness
-        pub says : 65536 ≤ length scratch → sound_call m scratch ≡ sound_left (verdict (sound (cell_of m))) (indexed (numbers (cell_of m).nodes) 0 scratch)
+        pub says : 65536 ≤ length scratch → sound_call m scratch
+            ≡ sound_left (verdict (sound (cell_of m))) (indexed (numbers (cell_of m).nodes) 0 scratch)
         unfolding sound_call
         says h = rw (within, le-ltb _ _ nodes, le-ltb _ _ links, le-ltb _ _ refs, le-ltb _ _ h)
 
         pub judged_call : 65536 ≤ length scratch → (a : Result Bool Refusal) (v : Bool) (s : List ℕ) → a ≡ verdict v
             → v ≡ none_or (take m.ynd.node_count m.nodes) (judged m)
-            → s ≡ indexed (all_numbers (take m.ynd.node_count m.nodes)) 0 scratch → sound_left a s ≡ sound_call m scratch
+            → s ≡ indexed (all_numbers (take m.ynd.node_count m.nodes)) 0 scratch → sound_left a s
+            ≡ sound_call m scratch
         judged_call h a v s ea ev es =
             let answer : a ≡ verdict (sound (cell_of m)) = ea ∙ ap verdict (ev ∙ sound_words m nodes) in
-            let after : s ≡ indexed (numbers (cell_of m).nodes) 0 scratch = es ∙ ap (λ (ks : List ℕ). indexed ks 0 scratch) (all_front m.ynd.node_count m.nodes ∙ sym (numbers_same m)) in
+            let after : s ≡ indexed (numbers (cell_of m).nodes) 0 scratch = es
+            ∙ ap (λ (ks : List ℕ). indexed ks 0 scratch)
+            (all_front m.ynd.node_count m.nodes ∙ sym (numbers_same m)) in
             (λ i. sound_left (answer i) (after i)) ∙ sym (says h)
 
 module _ (m : Memory) (scratch : List ℕ) where
   -- a refusal says neither yes nor no
-  by_cases : (P : SoundLeft → Type 0) → P (sound_left (Err AtLimit) scratch) → P (sound_left (Err (TooShort lent.Nodes)) scratch) → P (sound_left (Err (TooShort lent.Links)) scratch) → P (sound_left (Err (TooShort lent.Refs)) scratch)
-      → P (sound_left (Err (TooShort lent.Scratch)) scratch) → P (sound_left (verdict (sound (cell_of m))) (indexed (numbers (cell_of m).nodes) 0 scratch)) → P (sound_call m scratch)
+  by_cases : (P : SoundLeft → Type 0) → P (sound_left (Err AtLimit) scratch)
+      → P (sound_left (Err (TooShort lent.Nodes)) scratch) → P (sound_left (Err (TooShort lent.Links)) scratch)
+      → P (sound_left (Err (TooShort lent.Refs)) scratch)
+      → P (sound_left (Err (TooShort lent.Scratch)) scratch)
+      → P (sound_left (verdict (sound (cell_of m))) (indexed (numbers (cell_of m).nodes) 0 scratch))
+      → P (sound_call m scratch)
   unfolding sound_call
   by_cases P o a b c d e =
       by_test (over_limit m.ynd) (λ t. rw t o) (λ f₀.
@@ -73,7 +85,8 @@ module _ (m : Memory) (scratch : List ℕ) where
 
   -- a yes means that the cell is sound, and a no that it is not
   pub says_yes : (sound_call m scratch).answer ≡ (Ok true) → sound (cell_of m) ≡ true
-  says_yes = by_cases (λ x. x.answer ≡ (Ok true) → sound (cell_of m) ≡ true) never never never never never (yes (sound (cell_of m)))
+  says_yes = by_cases (λ x. x.answer ≡ (Ok true) → sound (cell_of m) ≡ true) never never never never never
+      (yes (sound (cell_of m)))
     where
       never : {P : Type 0} {r : Refusal} → ◌≡◌ {A = Result Bool Refusal} (Err r) (Ok true) → P
       never e = let z : ◌≡◌ {A = ℕ} 0 1 = cc in absurd (omega arith)
@@ -83,7 +96,8 @@ module _ (m : Memory) (scratch : List ℕ) where
       yes false e = let z : ◌≡◌ {A = ℕ} 0 1 = cc in absurd (omega arith)
 
   pub says_no : (sound_call m scratch).answer ≡ (Ok false) → sound (cell_of m) ≡ false
-  says_no = by_cases (λ x. x.answer ≡ (Ok false) → sound (cell_of m) ≡ false) never never never never never (none (sound (cell_of m)))
+  says_no = by_cases (λ x. x.answer ≡ (Ok false) → sound (cell_of m) ≡ false) never never never never never
+      (none (sound (cell_of m)))
     where
       never : {P : Type 0} {r : Refusal} → ◌≡◌ {A = Result Bool Refusal} (Err r) (Ok false) → P
       never e = let z : ◌≡◌ {A = ℕ} 0 1 = cc in absurd (omega arith)

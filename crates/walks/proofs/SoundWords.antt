@@ -69,9 +69,11 @@ module _ (m : Memory) where
     unfolding word_named
     ref_same w = rw (same_numbers, own_is)
 
-    links_same : (count start : ℕ) → every (link_named N) (take count (drop start pool)) ≡ every (word_named ks own) (take count (drop start (take l m.links)))
+    links_same : (count start : ℕ) → every (link_named N) (take count (drop start pool))
+        ≡ every (word_named ks own) (take count (drop start (take l m.links)))
     links_same count start =
-        ap (every (link_named N)) (ap (take count) (drop-map link_of start (take l m.links)) ∙ take-map link_of count (drop start (take l m.links)))
+        ap (every (link_named N)) (ap (take count) (drop-map link_of start (take l m.links))
+        ∙ take-map link_of count (drop start (take l m.links)))
         ∙ every_mapped (link_named N) link_of (word_named ks own) link_same (take count (drop start (take l m.links)))
 
     node_same : (w : List ℕ) → node_sound N (node_with pool w) ≡ word_sound ks own (take l m.links) w
@@ -80,7 +82,8 @@ module _ (m : Memory) where
 
     nodes_same : every (node_sound N) N ≡ every (word_sound ks own (take l m.links)) (take n m.nodes)
     unfolding nodes_of
-    nodes_same = every_mapped (node_sound N) (node_with pool) (word_sound ks own (take l m.links)) node_same (take n m.nodes)
+    nodes_same = every_mapped (node_sound N) (node_with pool) (word_sound ks own (take l m.links)) node_same
+        (take n m.nodes)
 
     refs_same : every (ref_named N) (refs_of m) ≡ every (word_named ks own) (take r m.refs)
     unfolding refs_of
@@ -90,7 +93,8 @@ module _ (m : Memory) where
     unfolding nodes_of
     inhabited = rw (length-map, length-take-le n m.nodes fits) some
 
-    full : (ns : List Node) → 0 < length ns → (rs : List Ref) (b : Bool) → b ≡ (every (node_sound ns) ns && differing (numbers ns) && every (ref_named ns) rs)
+    full : (ns : List Node) → 0 < length ns → (rs : List Ref) (b : Bool) → b
+        ≡ (every (node_sound ns) ns && differing (numbers ns) && every (ref_named ns) rs)
         → b ≡ sound (record { nodes = ns; junctions = []; refs = rs; vehicles = 0; peds = 0; vft = 0; words = [] })
     unfolding sound
     full [] h rs b e = absurd (omega arith)
@@ -98,7 +102,8 @@ module _ (m : Memory) where
 
     sound_full : words_sound (take n m.nodes) own (take l m.links) (take r m.refs) ≡ sound (cell_of m)
     unfolding sound cell_of words_sound
-    sound_full = full N inhabited (refs_of m) (words_sound (take n m.nodes) own (take l m.links) (take r m.refs)) (λ i. sym nodes_same i && differing (sym same_numbers i) && sym refs_same i)
+    sound_full = full N inhabited (refs_of m) (words_sound (take n m.nodes) own (take l m.links) (take r m.refs))
+        (λ i. sym nodes_same i && differing (sym same_numbers i) && sym refs_same i)
 
   -- what is judged
   abbrev pub judged : Bool

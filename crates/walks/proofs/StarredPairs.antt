@@ -1,4 +1,5 @@
--- Document 01's starred pairs, as one proved list over the definitions that the contracts cite. A decimal is the f32 nearest to it.
+-- Document 01's starred pairs, as one proved list over the definitions that the contracts cite. A decimal is the
+-- f32 nearest to it.
 use Prim.Native.Nat.{ℕ, ◌+◌, ◌-◌, ◌*◌, ◌≤◌}
 use mathlib.Core.Path.{◌≡◌, ap}
 use mathlib.Core.Bool.{true, false}

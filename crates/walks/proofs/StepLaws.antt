@@ -2,33 +2,38 @@
 use Prim.Native.Nat.{ℕ, zero, suc, ◌+◌, ◌<◌, ◌≤◌}
 use native.Mathlib.Omega.{arith}
 use native.Mathlib.Nat.{suc-add}
-use mathlib.Core.Path.{◌≡◌, refl, ap, ◌∙◌}
-use mathlib.Core.Bool.{true, false}
+use mathlib.Core.Path.{◌≡◌, refl, ap, sym, ◌∙◌}
+use mathlib.Core.Logic.{⊎_elim}
+use mathlib.Core.Bool.{Bool, true, false, cond, ◌&&◌}
 use mathlib.Core.List.{List, [], ◌∷◌, map}
 use mathlib.Core.Option.{Option, none, some}
 use lib.ListN.{length, get_or, get_elem?, take, drop, length-map}
 use lib.Seq.{length-take-le, get_or-take}
-use lib.Dec.{ltb}
+use lib.Dec.{eqb, ltb}
 use borrow.Author.Tests.{le-ltb, ltb-true, ltb-false}
-use Rattle.std.specs.Prelude.{Some, None}
+use Rattle.std.specs.Prelude.{Result, Ok, Err, Some, None, slice_get}
 use Rattle.std.specs.declared.option.Option as std
 use Rattle.std.proofs.lemmas.List.{get_or-map}
-use Rattle.std.proofs.lemmas.Option.{slice_get-get_or, slice_get_past}
-use Rattle.cells.proofs.Sequences.Tests.{by_test}
+use Rattle.std.proofs.lemmas.Bool.{cases_lt}
+use Rattle.std.proofs.lemmas.List.{get_or_past}
+use Rattle.cells.proofs.Sequences.Tests.{and_left, by_test}
+use Rattle.cells.proofs.Forms.Limits.{within as limits}
 use Rattle.cells.specs.Memory.{Memory, over_limit}
 use Rattle.cells.specs.NodeWords.{first_area, link_start, link_count}
 use Rattle.cells.proofs.Lookups.LookupLaws.{area_held}
 use Rattle.cells.specs.Area.{belongs}
 use Rattle.cells.specs.Cell.{Link, Node, no_node, node_at, numbers}
 use Rattle.cells.specs.CellOf.{link_of, node_with, nodes_of, cell_of}
-use Rattle.cells.specs.Lookup.{find}
-use Rattle.cells.specs.LookupCall.{numbers_in, place_of, find_in, node_call}
-use Rattle.walks.specs.Parts.{chosen}
-use Rattle.walks.specs.Walk.{next, link_at, arrive}
-use Rattle.walks.specs.WalkParts.{step_of, step_in, step_to}
-use Rattle.walks.specs.declared.walk.End.TheVariants.{NoLink, Left}
+use Rattle.cells.specs.Lookup.{find, first_with, or_later}
+use Rattle.cells.specs.LookupCall.{Place, numbers_in, place_of, find_in, node_call}
+use Rattle.walks.specs.Parts.{chosen, number_led, own_number}
+use Rattle.walks.specs.Walk.{stop, next, link_at, take_link, arrive}
+use Rattle.walks.specs.WalkParts.{step_of}
+use Rattle.walks.specs.declared.walk.End.{End}
+use Rattle.walks.specs.declared.walk.End.TheVariants.{Left, NoNode}
+use Rattle.numbers.specs.declared.refusal.Refusal.{Refusal}
+use Rattle.walks.proofs.ScratchLaws.{numbers_long}
 use Rattle.walks.proofs.SoundWords.{numbers_same}
-use Rattle.std.specs.Prelude.{Ok, Err}
 
 module _ {A : Type 0} where
   pub elem_at : (l : List A) (i : ℕ) (d : A) → i < length l → get_elem? l i ≡ some (get_or l i d)
@@ -58,13 +63,54 @@ module _ {A : Type 0} where
   elem_take_past (suc n) (x ∷ xs) zero h = absurd (omega arith)
   elem_take_past (suc n) (x ∷ xs) (suc i) h = elem_take_past n xs i (omega arith)
 
-pub get_d_map_in : {A B : Type 0} (f : A → B) (l : List A) (i : ℕ) (d : A) (e : B) → i < length l → get_or (map f l) i e ≡ f (get_or l i d)
-get_d_map_in f l i d e lt = get_or-map f l i d e lt
-
 -- the link that these words are, if there are any
 abbrev pub linked : std.Option (List ℕ) → Option Link
 linked (Some w) = some (link_of w)
 linked None = none
+
+-- ---- a number that is found is a place
+
+first_inside : (xs : List ℕ) (k q : ℕ) → first_with xs k ≡ some q → q < length xs
+unfolding first_with
+first_inside [] k q e = absurd (cc)
+first_inside (x ∷ xs) k q e = go (eqb x k) (first_with xs k) (first_inside xs k) e
+  where
+    go : (b : Bool) (r : Option ℕ) → ((j : ℕ) → r ≡ some j → j < length xs) → or_later b r ≡ some q
+        → q < suc (length xs)
+    go true r h e = let z : 0 ≡ q = cc in omega arith
+    go false (some j) h e = let z : suc j ≡ q = cc in omega (arith, h j refl)
+    go false none h e = absurd (cc)
+
+pub find_inside : (xs : List ℕ) (k q : ℕ) → find xs k ≡ some q → q < length xs
+unfolding find
+find_inside xs k q e = by_test (ltb k (length xs) && eqb (get_or xs k 0) k)
+    (λ t. let z : k ≡ q = cc in omega (arith, ltb-true k (length xs) (and_left _ _ t)))
+    (λ f. first_inside xs k q (rw f at e))
+
+-- ---- the link chosen
+
+-- a choice among a range of a pool of links, and among the words that the pool is made of
+range_at : {A : Type 0} (c s b : ℕ) (l : List A)
+    → get_elem? (take c (drop s l)) b ≡ cond (ltb b c) (get_elem? l (s + b)) none
+range_at c s b l = by_test (ltb b c)
+    (λ t. elem_take c (drop s l) b (ltb-true _ _ t) ∙ elem_drop s l b ∙ rw t)
+    (λ f. elem_take_past c (drop s l) b (ltb-false _ _ f) ∙ rw f)
+
+elem_is : (ls : List (List ℕ)) (i : ℕ) → get_elem? (map link_of ls) i ≡ linked (slice_get ls i)
+elem_is [] i = refl
+elem_is (x ∷ xs) zero = refl
+elem_is (x ∷ xs) (suc i) = elem_is xs i
+
+chosen_is : (ls : List (List ℕ)) (w : List ℕ) (b : ℕ)
+    → get_elem? (take (link_count w) (drop (link_start w) (map link_of ls))) b ≡ linked (chosen ls w b)
+unfolding chosen
+chosen_is ls w b =
+    range_at (link_count w) (link_start w) b (map link_of ls)
+    ∙ rw (elem_is ls (link_start w + b)) (go (ltb b (link_count w)) (slice_get ls (link_start w + b)))
+  where
+    go : (t : Bool) (o : std.Option (List ℕ)) → cond t (linked o) none ≡ linked (cond t o None)
+    go true o = refl
+    go false o = refl
 
 module _ (m : Memory) where
   abbrev n : ℕ
@@ -76,86 +122,113 @@ module _ (m : Memory) where
   abbrev pool : List Link
   pool = map link_of (take l m.links)
 
-  abbrev start : ℕ → ℕ
-  start p = link_start (get_or m.nodes p [])
+  -- the words of the node at a place, none beyond the count
+  abbrev pub words : ℕ → List ℕ
+  words p = get_or (take n m.nodes) p []
 
-  abbrev count : ℕ → ℕ
-  count p = link_count (get_or m.nodes p [])
+  -- the node at a place, by its words
+  pub node_in : n ≤ length m.nodes → (p : ℕ) → p < n → node_at (nodes_of m) p ≡ node_with pool (get_or m.nodes p [])
+  unfolding nodes_of
+  node_in fits p lt =
+      get_or-map (node_with pool) (take n m.nodes) p [] no_node (omega (arith, length-take-le n m.nodes fits))
+      ∙ ap (node_with pool) (get_or-take n m.nodes p [] lt)
+
+  links_in : (p : ℕ) → (node_at (nodes_of m) p).links ≡ take (link_count (words p)) (drop (link_start (words p)) pool)
+  unfolding nodes_of no_node
+  links_in p = ⊎_elim
+      (λ lt. ap (λ (x : Node). x.links) (get_or-map (node_with pool) (take n m.nodes) p [] no_node lt))
+      (λ le. rw (
+        get_or_past (map (node_with pool) (take n m.nodes)) p no_node
+            (omega (arith, length-map (take n m.nodes) (node_with pool), le)),
+        get_or_past (take n m.nodes) p [] le,
+      ) refl)
+      (cases_lt p (length (take n m.nodes)))
+
+  -- what a choice finds, whatever the lists
+  pub link_found : (p b : ℕ) → link_at (nodes_of m) p b ≡ linked (chosen (take l m.links) (words p) b)
+  link_found p b = ap (λ (ls : List Link). get_elem? ls b) (links_in p) ∙ chosen_is (take l m.links) (words p) b
+
+  module _ (p b : ℕ) where
+    -- on to the number named, or the end
+    abbrev to_number : Result ℕ End → Result ℕ End
+    to_number (Ok k) = step_of (arrive (find (numbers (nodes_of m)) k))
+    to_number (Err e) = Err e
+
+    -- where a choice leads, by the number that it names
+    told_next : to_number (own_number (take n m.nodes) (take l m.links) p b) ≡ step_of (next (cell_of m).nodes p b)
+    unfolding own_number cell_of next
+    told_next = rw (link_found p b) (go (chosen (take l m.links) (words p) b))
+      where
+        leads_on : (t : Bool) (a k : ℕ) → to_number (cond t (Ok k) (Err (Left a k)))
+            ≡ step_of (cond t (arrive (find (numbers (nodes_of m)) k)) (stop (Left a k)))
+        leads_on true a k = refl
+        leads_on false a k = refl
+
+        go : (o : std.Option (List ℕ)) → to_number (number_led (first_area (take n m.nodes)) o)
+            ≡ step_of (take_link (nodes_of m) (linked o))
+        go None = refl
+        go (Some w) = rw (area_held m)
+            (leads_on (belongs (first_area (take n m.nodes)) (get_or w 0 0)) (get_or w 0 0) (get_or w 1 0))
+
+    -- the walk ends there
+    pub next_end : {o : Result ℕ End} → o ≡ own_number (take n m.nodes) (take l m.links) p b → (e : End) → o ≡ Err e
+        → Err e ≡ step_of (next (cell_of m).nodes p b)
+    next_end h e is = ap to_number (sym is ∙ h) ∙ told_next
+
+    -- on to a number of the cell's own area
+    pub next_own : (k : ℕ) → Ok k ≡ own_number (take n m.nodes) (take l m.links) p b
+        → (r : Result ℕ End) → r ≡ step_of (arrive (find (numbers (nodes_of m)) k))
+        → r ≡ step_of (next (cell_of m).nodes p b)
+    next_own k h r a = a ∙ ap to_number h ∙ told_next
 
   same_numbers : numbers (nodes_of m) ≡ numbers_in n m.nodes
   unfolding cell_of
   same_numbers = numbers_same m
 
-  module _ (fits : n ≤ length m.nodes) where
-    -- the node at a place, by its words
-    pub node_in : (p : ℕ) → p < n → node_at (nodes_of m) p ≡ node_with pool (get_or m.nodes p [])
-    unfolding nodes_of
-    node_in p lt =
-        get_or-map (node_with pool) (take n m.nodes) p [] no_node (omega (arith, length-take-le n m.nodes fits))
-        ∙ ap (node_with pool) (get_or-take n m.nodes p [] lt)
+  -- ---- what `node` finds
 
-    links_in : (p : ℕ) → p < n → (node_at (nodes_of m) p).links ≡ take (count p) (drop (start p) pool)
-    links_in p lt = ap (λ (x : Node). x.links) (node_in p lt)
+  module _ (within : over_limit m.ynd ≡ false) (fits : n ≤ length m.nodes) (k : ℕ) {o : Place}
+      (e : o ≡ node_call m.ynd m.nodes k) where
+    abbrev ks : List ℕ
+    ks = numbers (nodes_of m)
 
-    -- a choice at or past the count
-    pub link_past : (p b : ℕ) → p < n → count p ≤ b → link_at (nodes_of m) p b ≡ none
-    link_past p b lt h = rw (links_in p lt, elem_take_past (count p) (drop (start p) pool) b h)
+    told : o ≡ Ok (place_of (find ks k))
+    unfolding node_call find_in
+    told = e ∙ rw (within, le-ltb _ _ fits, same_numbers)
 
-    module _ (held : l ≤ length m.links) where
-      long : length pool ≡ l
-      long = length-map (take l m.links) link_of ∙ length-take-le l m.links held
+    abbrev arrived : Place → Result ℕ End
+    arrived (Ok (Some q)) = Ok q
+    arrived (Ok None) = Err NoNode
+    arrived (Err x) = Err NoNode
 
-      -- a range that runs out of the links held
-      pub link_out : (p b : ℕ) → p < n → b < count p → l ≤ start p + b → link_at (nodes_of m) p b ≡ none
-      link_out p b lt h out = rw (links_in p lt, elem_take (count p) (drop (start p) pool) b h, elem_drop, elem_past pool (start p + b) (rw long out))
+    arrives : arrived o ≡ step_of (arrive (find ks k))
+    arrives = ap arrived told ∙ on (find ks k)
+      where
+        on : (f : Option ℕ) → arrived (Ok (place_of f)) ≡ step_of (arrive f)
+        on (some q) = refl
+        on none = refl
 
-      pub link_in : (p b : ℕ) → p < n → b < count p → start p + b < l → link_at (nodes_of m) p b ≡ some (link_of (get_or m.links (start p + b) []))
-      link_in p b lt h lq =
-          rw (
-            links_in p lt,
-            elem_take (count p) (drop (start p) pool) b h,
-            elem_drop,
-            elem_at pool (start p + b) (link_of []) (rw long lq),
-            get_or-map link_of (take l m.links) (start p + b) [] (link_of []) (rw (length-take-le l m.links held) lq),
-            get_or-take l m.links (start p + b) [] lq,
-          )
+    pub there : (q : ℕ) → o ≡ Ok (Some q) → Ok q ≡ step_of (arrive (find ks k))
+    there q is = ap arrived (sym is) ∙ arrives
 
-      -- what a choice finds among the words
-      abbrev pub found : ℕ → ℕ → std.Option (List ℕ)
-      found p b = chosen (take l m.links) (get_or m.nodes p []) b
+    pub not_there : o ≡ Ok None → Err NoNode ≡ step_of (arrive (find ks k))
+    not_there is = ap arrived (sym is) ∙ arrives
 
-      pub link_found : (p b : ℕ) → p < n → link_at (nodes_of m) p b ≡ linked (found p b)
-      unfolding chosen
-      link_found p b lt = by_test (ltb b (count p))
-          (λ t. let h : b < count p = ltb-true _ _ t in
-          by_test (ltb (start p + b) l)
-          (λ u. let lq : start p + b < l = ltb-true _ _ u in
-          let at : start p + b < length (take l m.links) = omega (arith, length-take-le l m.links held) in
-          link_in p b lt h lq ∙ rw (t, slice_get-get_or (take l m.links) (start p + b) [] at, get_or-take l m.links (start p + b) [] lq))
-          (λ f. let out : l ≤ start p + b = ltb-false _ _ f in
-          let past : length (take l m.links) ≤ start p + b = omega (arith, length-take-le l m.links held) in
-          link_out p b lt h out ∙ rw (t, slice_get_past (take l m.links) (start p + b) past)))
-          (λ f. link_past p b lt (ltb-false _ _ f) ∙ rw f)
+    pub not_asked : (x : Refusal) → o ≡ Err x → Err NoNode ≡ step_of (arrive (find ks k))
+    not_asked x is = ap arrived (sym is) ∙ arrives
 
-      pub next_none : (p b : ℕ) → p < n → found p b ≡ None → Err NoLink ≡ step_in m p b
-      unfolding step_in next
-      next_none p b lt e = rw (link_found p b lt, e)
+    -- a place is a small number
+    pub small : (q : ℕ) → o ≡ Ok (Some q) → q < 65536
+    small q is = go (find ks k) (find_inside ks k) (sym is ∙ told)
+      where
+        go : (f : Option ℕ) → ((j : ℕ) → f ≡ some j → j < length ks) → ◌≡◌ {A = Place} (Ok (Some q)) (Ok (place_of f))
+            → q < 65536
+        go (some j) h f =
+            let z : q ≡ j = cc in
+            omega (arith, z, h j refl, ap length same_numbers, numbers_long n m.nodes fits, (limits m.ynd within).0)
+        go none h f = absurd (cc)
 
-      -- a link of another area
-      pub next_left : (p b : ℕ) (w : List ℕ) → p < n → found p b ≡ Some w → belongs (first_area (take n m.nodes)) (get_or w 0 0) ≡ false
-          → Err (Left (get_or w 0 0) (get_or w 1 0)) ≡ step_in m p b
-      unfolding step_in next
-      next_left p b w lt e ne = rw (link_found p b lt, e, area_held m, ne)
+-- for the functions that follow a choice
+pub ruleset next_laws = (next_end, next_own)
 
-      -- a link of the cell's own area leads to what `node` finds
-      pub next_own : over_limit m.ynd ≡ false → (p b : ℕ) (w : List ℕ) → p < n → found p b ≡ Some w
-          → belongs (first_area (take n m.nodes)) (get_or w 0 0) ≡ true → step_to (node_call m.ynd m.nodes (get_or w 1 0)) ≡ step_in m p b
-      unfolding step_in next node_call find_in
-      next_own o p b w lt e own = rw (o, link_found p b lt, e, area_held m, own, same_numbers, le-ltb _ _ fits) (go (find _ _))
-        where
-          go : (o : Option ℕ) → step_to (Ok (place_of o)) ≡ step_of (arrive o)
-          go (some q) = refl
-          go none = refl
-
--- for the function that follows a choice
-pub ruleset next_laws = (next_none, next_left, next_own)
+pub ruleset arrive_laws = (there, not_there, not_asked)

@@ -1,54 +1,69 @@
 -- What the call `walk` answers, in the order of its tests.
-use Prim.Native.Nat.{ℕ, ◌<◌, ◌≤◌}
-use mathlib.Core.Path.{◌≡◌}
-use mathlib.Core.Bool.{true, false}
-use mathlib.Core.List.{List}
-use lib.ListN.{length}
-use borrow.Author.Tests.{le-leb, lt-leb, lt-ltb, le-ltb}
-use Rattle.cells.specs.Memory.{Memory, over_limit}
-use Rattle.cells.specs.CellOf.{nodes_of}
-use Rattle.walks.specs.WalkCall.{walk_left, walk_call}
-use Rattle.walks.specs.WalkParts.{lent, route_in, traced, over}
+use Prim.Native.Nat.{ℕ}
+use mathlib.Core.Path.{◌≡◌, refl, ap, ◌∙◌}
+use mathlib.Core.Bool.{Bool, true, false, cond}
+use mathlib.Core.List.{List, ◌++◌, map-id}
+use lib.Dec.{ltb}
+use lib.ListN.{length, drop}
+use Rattle.cells.specs.Memory.{Memory}
+use Rattle.cells.specs.CellOf.{nodes_of, cell_of}
+use Rattle.walks.specs.Walk.{Trail, walk_in, walk}
+use Rattle.walks.specs.Claim.{places}
+use Rattle.walks.specs.PlaceCauses.{place_causes}
+use Rattle.walks.specs.WalkCall.{Route, route, WalkLeft, walk_left, walk_call}
+use Rattle.walks.proofs.PlaceCases.{place_refused, place_asked}
+use Rattle.numbers.specs.Refusals.{Cause, done, decided}
+use Rattle.walks.specs.WalkParts.{lent, lent_world, traced, over, TrailLeft, trail_left, stored_in}
+use Rattle.walks.proofs.Routes.{route_of, trail_route}
 use Rattle.walks.specs.declared.walk.Walked.{Walked}
-use Rattle.std.specs.Prelude.{Ok, Err}
-use Rattle.numbers.specs.declared.refusal.Refusal.TheVariants.{TooShort, NoSuchPlace, AtLimit}
+use Rattle.std.specs.Prelude.{Result, Ok, Err}
+use Rattle.std.specs.Result.{IsErrAnd}
+use Rattle.numbers.specs.declared.refusal.Refusal.{Refusal}
+use Rattle.numbers.specs.declared.refusal.Refusal.TheVariants.{TooShort}
 use Rattle.numbers.specs.declared.refusal.Lent.TheVariants as lent
 
+-- ---- what is left of a walk whose places go into a list, by its route
+
+abbrev left_of : TrailLeft ℕ → WalkLeft
+left_of x = walk_left x.answer x.visited
+
+abbrev route_left : Route → List ℕ → WalkLeft
+route_left r visited =
+    cond (ltb (length visited) (length r.places)) (walk_left (Err (TooShort lent.List)) visited)
+    (walk_left (Ok (record { end = r.ending; count = length r.places })) (r.places ++ drop (length r.places) visited))
+
+left_is : (t : Trail ℕ) (visited : List ℕ) → left_of (stored_in (λ q. q) t visited) ≡ route_left (route_of t) visited
+unfolding stored_in
+left_is t visited = rw map-id (go (ltb (length visited) (length (places t))))
+  where
+    go : (b : Bool)
+        → left_of (cond b (trail_left (Err (TooShort lent.List)) visited)
+        (trail_left (Ok (traced t)) (over (places t) visited)))
+        ≡ cond b (walk_left (Err (TooShort lent.List)) visited) (walk_left (Ok (traced t)) (over (places t) visited))
+    go true = refl
+    go false = refl
+
 module _ (m : Memory) (bs : List ℕ) (s : ℕ) (visited : List ℕ) where
-  pub no_place : m.ynd.node_count ≤ s → walk_left (Err NoSuchPlace) visited ≡ walk_call m bs s visited
+  abbrev causes : List Cause
+  causes = place_causes m.ynd (length m.nodes) (length m.links) s
+
+  abbrev left : Result Walked Refusal → WalkLeft
+  left a = walk_left a visited
+
+  abbrev walked : WalkLeft
+  walked = route_left (route (nodes_of m) bs s) visited
+
+  pub walk_refused : {cause : Refusal} → Err cause ≡ decided causes
+      → (r : Result Walked Refusal) → IsErrAnd r (λ x. x ≡ cause) → walk_left r visited ≡ walk_call m bs s visited
   unfolding walk_call
-  no_place h = rw (le-leb _ _ h)
+  walk_refused = place_refused m.ynd (length m.nodes) (length m.links) s left walked
 
-  module _ (inside : s < m.ynd.node_count) where
-    pub limit_passed : over_limit m.ynd ≡ true → walk_left (Err AtLimit) visited ≡ walk_call m bs s visited
-    unfolding walk_call
-    limit_passed o = rw (lt-leb _ _ inside, o)
-
-  module _ (inside : s < m.ynd.node_count) (within : over_limit m.ynd ≡ false) where
-    pub nodes_short : length m.nodes < m.ynd.node_count → walk_left (Err (TooShort lent.Nodes)) visited ≡ walk_call m bs s visited
-    unfolding walk_call
-    nodes_short h = rw (lt-leb _ _ inside, within, lt-ltb _ _ h)
-
-    module _ (nodes : m.ynd.node_count ≤ length m.nodes) where
-      pub links_short : length m.links < m.ynd.link_count → walk_left (Err (TooShort lent.Links)) visited ≡ walk_call m bs s visited
-      unfolding walk_call
-      links_short h = rw (lt-leb _ _ inside, within, le-ltb _ _ nodes, lt-ltb _ _ h)
-
-      module _ (links : m.ynd.link_count ≤ length m.links) where
-        -- the walk is the same with no other lists
-        pub visited_short : length visited < length (route_in (lent m.ynd m.nodes m.links) bs s).places → walk_left (Err (TooShort lent.List)) visited ≡ walk_call m bs s visited
-        unfolding walk_call route_in nodes_of
-        visited_short h = rw (lt-leb _ _ inside, within, le-ltb _ _ nodes, le-ltb _ _ links, lt-ltb _ _ h)
-
-        pub ends : (t : Walked) (v : List ℕ) → t ≡ traced (route_in (lent m.ynd m.nodes m.links) bs s) → length (route_in (lent m.ynd m.nodes m.links) bs s).places ≤ length visited
-            → v ≡ over (route_in (lent m.ynd m.nodes m.links) bs s).places visited → walk_left (Ok t) v ≡ walk_call m bs s visited
-        unfolding walk_call route_in nodes_of
-        ends t v e h o = rw (e, o) (whole h)
-          where
-            whole : length (route_in (lent m.ynd m.nodes m.links) bs s).places ≤ length visited
-                → walk_left (Ok (traced (route_in (lent m.ynd m.nodes m.links) bs s)))
-                (over (route_in (lent m.ynd m.nodes m.links) bs s).places visited) ≡ walk_call m bs s visited
-            whole h = rw (lt-leb _ _ inside, within, le-ltb _ _ nodes, le-ltb _ _ links, le-ltb _ _ h)
-
--- for the function
-pub ruleset walk_laws = (no_place, limit_passed, nodes_short, links_short, visited_short, ends)
+  -- the walk is the same with no other lists
+  pub ends : done ≡ decided causes → (a : Result Walked Refusal) (v : List ℕ)
+      → trail_left a v ≡ stored_in (λ q. q) (walk_in (lent_world m.ynd m.nodes m.links) bs s) visited
+      → walk_left a v ≡ walk_call m bs s visited
+  unfolding walk_call nodes_of cell_of walk
+  ends asked a v e =
+      ap left_of e ∙ left_is (walk_in (lent_world m.ynd m.nodes m.links) bs s) visited
+      ∙ ap (λ (r : Route). route_left r visited) (trail_route (cell_of (lent m.ynd m.nodes m.links)) bs s)
+      ∙ place_asked m.ynd (length m.nodes) (length m.links) s left walked asked

@@ -51,7 +51,11 @@ abbrev pub route_left : Route → List ℕ → WalkLeft
 route_left r visited =
     cond (ltb (length visited) (length r.places))
     (record { answer = Err (TooShort lent.List); visited = visited })
-    (record { answer = Ok (record { end = r.ending; count = length r.places }); visited = r.places ++ drop (length r.places) visited })
+    (record {
+      answer = Ok (record { end = r.ending; count = length r.places });
+      visited = r.places
+          ++ drop (length r.places) visited;
+    })
 
 cond_answer : (b : Bool) (x y : WalkLeft) → (cond b x y).answer ≡ cond b x.answer y.answer
 cond_answer true x y = refl
@@ -61,28 +65,39 @@ cond_answer false x y = refl
 abbrev answer_by : End → ℕ → ℕ → Result Walked Refusal
 answer_by e count room = cond (ltb room count) (Err (TooShort lent.List)) (Ok (record { end = e; count = count }))
 
-left_answer : (r : Route) (visited : List ℕ) → (route_left r visited).answer ≡ answer_by r.ending (length r.places) (length visited)
+left_answer : (r : Route) (visited : List ℕ) → (route_left r visited).answer
+    ≡ answer_by r.ending (length r.places) (length visited)
 left_answer r visited = cond_answer (ltb (length visited) (length r.places)) _ _
 
 -- the call, where the lists hold the cell
-pub walk_left_law : (m : Memory) → Lies m → (choices : List ℕ) (start : ℕ) (visited : List ℕ) → start < length (cell_of m).nodes
+pub walk_left_law : (m : Memory) → Lies m → (choices : List ℕ) (start : ℕ) (visited : List ℕ) → start
+    < length (cell_of m).nodes
     → walk_call m choices start visited ≡ route_left (route (nodes_of m) choices start) visited
 unfolding walk_call
 walk_left_law m h choices start visited lt =
     let inside : start < m.ynd.node_count = omega (arith, nodes_long m h) in
-    rw (lt-leb m.ynd.node_count start inside, h.within, le-ltb (length m.nodes) m.ynd.node_count h.nodes_lie, le-ltb (length m.links) m.ynd.link_count h.links_lie) refl
+    rw (
+      lt-leb m.ynd.node_count start inside,
+      h.within,
+      le-ltb (length m.nodes) m.ynd.node_count h.nodes_lie,
+      le-ltb
+          (length m.links) m.ynd.link_count h.links_lie,
+    ) refl
 
 -- cells alike, in memory that holds them
-module _ (m d : Memory) (f : ℕ → ℕ) (hm : Lies m) (hd : Lies d) (a : Alike (cell_of m) (cell_of d) f) (choices : List ℕ) (p : ℕ) (lt : p < length (cell_of m).nodes) where
+module _ (m d : Memory) (f : ℕ → ℕ) (hm : Lies m) (hd : Lies d) (a : Alike (cell_of m) (cell_of d) f)
+    (choices : List ℕ) (p : ℕ) (lt : p < length (cell_of m).nodes) where
   -- the call in the later one leaves the walk of the first, each place moved
-  pub calls_alike : (visited : List ℕ) → walk_call d choices (f p) visited ≡ route_left (move_route f (route (cell_of m).nodes choices p)) visited
+  pub calls_alike : (visited : List ℕ) → walk_call d choices (f p) visited
+      ≡ route_left (move_route f (route (cell_of m).nodes choices p)) visited
   unfolding cell_of
   calls_alike visited =
       walk_left_law d hd choices (f p) visited (omega (arith, a.inside p lt, a.same_count))
       ∙ ap (λ (r : Route). route_left r visited) (alike_route a choices p lt)
 
   -- of two visited lists of one length, both are too short or neither is
-  pub answers_alike : (visited later : List ℕ) → length later ≡ length visited → (walk_call d choices (f p) later).answer ≡ (walk_call m choices p visited).answer
+  pub answers_alike : (visited later : List ℕ) → length later ≡ length visited
+      → (walk_call d choices (f p) later).answer ≡ (walk_call m choices p visited).answer
   unfolding cell_of
   answers_alike visited later e =
       let r = route (cell_of m).nodes choices p in
@@ -100,8 +115,17 @@ read_lies s g m e = read_all Lies s g m (λ n l j h r held.
     let k = counts_of n j r in
     record {
       within = not_over _ held.few_nodes held.few_junctions;
-      nodes_lie = omega (arith, length-append (up_to (node_in n) k.nodes) (drop k.nodes m.nodes), length_up_to (node_in n) k.nodes);
-      links_lie = omega (arith, length-append (join_to (links_in n l) k.nodes) (drop k.links m.links), length_join_to (links_in n l) (links_at n) (length_links n l) k.nodes);
+      nodes_lie = omega (
+        arith,
+        length-append (up_to (node_in n) k.nodes) (drop k.nodes m.nodes),
+        length_up_to
+            (node_in n) k.nodes,
+      );
+      links_lie = omega (
+        arith,
+        length-append (join_to (links_in n l) k.nodes) (drop k.links m.links),
+        length_join_to (links_in n l) (links_at n) (length_links n l) k.nodes,
+      );
     }) e
 
 renumber_lies : (m : Memory) (ps : List ℕ) (s : ℕ) → Lies m → Lies (renumber m s ps).memory
@@ -121,8 +145,20 @@ renumber_lies m ps s h = go (answer_of (over_limit m.ynd) m.ynd.node_count (shor
     go (Err x) = h
     go (Ok tt) = record {
       within = h.within;
-      nodes_lie = omega (arith, length-append (number_from 0 (parted is_ped ns)) (drop n m.nodes), number_length 0 (parted is_ped ns), parted_length ns, length-take-le n m.nodes h.nodes_lie);
-      links_lie = omega (arith, length-append (map (relinked (old_of n m.nodes)) (take l m.links)) (drop l m.links), length-map (take l m.links) (relinked (old_of n m.nodes)), length-take-le l m.links h.links_lie);
+      nodes_lie = omega (
+        arith,
+        length-append (number_from 0 (parted is_ped ns)) (drop n m.nodes),
+        number_length 0
+            (parted is_ped ns),
+        parted_length ns,
+        length-take-le n m.nodes h.nodes_lie,
+      );
+      links_lie = omega (
+        arith,
+        length-append (map (relinked (old_of n m.nodes)) (take l m.links)) (drop l m.links),
+        length-map (take l m.links) (relinked (old_of n m.nodes)),
+        length-take-le l m.links h.links_lie,
+      );
     }
 
 write_read_lies : (m : Memory) (s : List ℕ) → Lies m → Lies (write_read_of m s).memory
@@ -132,7 +168,8 @@ write_read_lies m s h = go (write_call m s).answer
     t : List ℕ
     t = (write_call m s).section
 
-    reading : (n : ℕ) (c : Answer) → (read_of (take n t) [] m).answer ≡ c → Lies (if_read n t c (read_of (take n t) [] m).memory m s).memory
+    reading : (n : ℕ) (c : Answer) → (read_of (take n t) [] m).answer ≡ c
+        → Lies (if_read n t c (read_of (take n t) [] m).memory m s).memory
     reading n (Err x) e = h
     reading n (Ok tt) e = read_lies (take n t) [] m e
 

@@ -13,7 +13,8 @@ use Rattle.walks.specs.Writing.{WritesAlike}
 run_as_read : (m : Memory) (ks : List Call) → AsRead m → AsRead (run m ks)
 unfolding run after
 run_as_read m [] h = h
-run_as_read m (renumbering s ps ∷ ks) h = run_as_read (renumber m (length s) ps).memory ks (renumber_as_read m ps (length s) h)
+run_as_read m (renumbering s ps ∷ ks) h = run_as_read (renumber m (length s) ps).memory ks
+    (renumber_as_read m ps (length s) h)
 run_as_read m (write_read s ∷ ks) h = run_as_read (write_read_of m s).memory ks (write_read_as_read m s h)
 
 pub writes_alike : WritesAlike

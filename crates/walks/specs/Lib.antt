@@ -1,6 +1,7 @@
 pub mod Sound
 pub mod SoundCall
 pub mod Parts
+pub mod PlaceCauses
 pub mod SoundParts
 pub mod Walk
 pub mod WalkCall

@@ -1,39 +1,53 @@
--- What the parts of the call `walk` go by. No public function's contract cites them.
-use Rattle.std.specs.Prelude.{ℕ, List, [], ◌++◌, length, drop}
+-- What the parts of walks go by, over places of any kind. No public function's contract cites them but `over`, and of
+-- `walk_from`, which calls share, `step_of` and `stored_in`.
+use Rattle.std.specs.Prelude.{ℕ, cond, List, [], ◌++◌, map, ltb, length, drop}
+use Rattle.std.specs.Prelude.{Result, Ok, Err}
+use Rattle.numbers.specs.declared.refusal.Refusal.{Refusal}
+use Rattle.numbers.specs.declared.refusal.Refusal.TheVariants.{TooShort}
+use Rattle.numbers.specs.declared.refusal.Lent.TheVariants as lists
 use Rattle.cells.specs.Memory.{Memory, memory}
-use Rattle.cells.specs.CellOf.{nodes_of}
+use Rattle.cells.specs.CellOf.{cell_of}
 use Rattle.cells.specs.declared.ynd.Ynd.{Ynd}
-use Rattle.walks.specs.Walk.{Next, to, stop, next}
-use Rattle.walks.specs.WalkCall.{Route, route}
+use Rattle.walks.specs.Walk.{Next, to, stop, World, Trail, world_of}
+use Rattle.walks.specs.Claim.{places}
 use Rattle.walks.specs.declared.walk.End.{End}
-use Rattle.walks.specs.declared.walk.End.TheVariants.{NoNode}
 use Rattle.walks.specs.declared.walk.Walked.{Walked}
-use Rattle.std.specs.Prelude.{Result, Ok, Err, Some, None}
-use Rattle.cells.specs.LookupCall.{Place}
+
+-- ---- one link
+
+-- where a choice leads, as code answers it
+abbrev pub step_of : {L : Type 0} → Next L → Result L End
+step_of (to q) = Ok q
+step_of (stop e) = Err e
 
 -- what a walk is lent; it looks at no other list
 abbrev pub lent : Ynd → List (List ℕ) → List (List ℕ) → Memory
 lent y nodes links = memory y nodes links [] [] []
 
-abbrev pub step_of : Next ℕ → Result ℕ End
-step_of (to q) = Ok q
-step_of (stop e) = Err e
+-- the world of a walk in it
+abbrev pub lent_world : Ynd → List (List ℕ) → List (List ℕ) → World ℕ
+lent_world y nodes links = world_of (cell_of (lent y nodes links))
 
-unfoldable pub step_in : Memory → ℕ → ℕ → Result ℕ End
-step_in m p b = step_of (next (nodes_of m) p b)
+-- ---- the places visited, in a list
 
--- on to what `node` finds
-abbrev pub step_to : Place → Result ℕ End
-step_to (Ok (Some q)) = Ok q
-step_to (Ok None) = Err NoNode
-step_to (Err cause) = Err NoNode
-
-unfoldable pub route_in : Memory → List ℕ → ℕ → Route
-route_in m choices start = route (nodes_of m) choices start
-
-abbrev pub traced : Route → Walked
-traced r = record { end = r.ending; count = length r.places }
+-- the end of a walk, and how many places it visits
+abbrev pub traced : {L : Type 0} → Trail L → Walked
+traced t = record { end = t.ending; count = length (places t) }
 
 -- the elements over the first ones; later ones stay
-abbrev pub over : List ℕ → List ℕ → List ℕ
+abbrev pub over : {E : Type 0} → List E → List E → List E
 over new l = new ++ drop (length new) l
+
+-- what is answered of a walk, and the list after it
+pub record TrailLeft (E : Type 0) : Type 0 where
+  pub answer : Result Walked Refusal
+  pub visited : List E
+
+abbrev pub trail_left : {E : Type 0} → Result Walked Refusal → List E → TrailLeft E
+trail_left a visited = record { answer = a; visited = visited }
+
+-- Each place visited goes into a list as f makes an entry of it. 7 at 8: the list is too short, and stays as it was.
+unfoldable pub stored_in : {L E : Type 0} → (L → E) → Trail L → List E → TrailLeft E
+stored_in f t visited =
+    cond (ltb (length visited) (length (places t))) (trail_left (Err (TooShort lists.List)) visited)
+    (trail_left (Ok (traced t)) (over (map f (places t)) visited))

@@ -6,7 +6,8 @@ ghost use Rattle.walks.specs.Shown.{shown_node, seen_junction, shown_junction, v
 ghost use Rattle.walks.specs.Shown.{seen_link, shown_link};
 ghost use Rattle.walks.specs.ShownParts.{seen_of};
 
-use crate::part::chosen;
+use crate::part::link_at;
+use crate::place::check_place;
 use cells::junction::JunctionWords;
 use cells::link::{LinkWords, PathLink};
 use cells::lookup::junction_of;
@@ -107,18 +108,7 @@ pub fn shown_node(
     ensures { (heights : List ℕ) → result
         ≡ shown_node (memory ynd nodes.now links.now junctions.now heights refs.now) place }
 {
-    if ynd.node_count as usize <= place {
-        return Err(Refusal::NoSuchPlace);
-    }
-    if over_limit(ynd) {
-        return Err(Refusal::AtLimit);
-    }
-    if nodes.len() < ynd.node_count as usize {
-        return Err(Refusal::TooShort(Lent::Nodes));
-    }
-    if links.len() < ynd.link_count as usize {
-        return Err(Refusal::TooShort(Lent::Links));
-    }
+    check_place(ynd, nodes.len(), links.len(), place)?;
     if junctions.len() < ynd.junction_count as usize {
         return Err(Refusal::TooShort(Lent::Junctions));
     }
@@ -132,17 +122,19 @@ pub fn shown_node(
     Ok(seen_of(w, count, junction))
 }
 
-fn seen_junction(w: JunctionWords) -> SeenJunction
-    ensures { (heights : List ℕ) → result ≡ seen_junction (junction_with heights w) }
-{
-    let [width, height, _, _] = w[4].to_le_bytes();
-    SeenJunction {
-        x: w[0],
-        y: w[1],
-        min_z: w[2],
-        max_z: w[3],
-        width,
-        height,
+impl From<JunctionWords> for SeenJunction {
+    ghost from_gives = { λ w j. (heights : List ℕ) → j ≡ seen_junction (junction_with heights w) };
+
+    fn from(w: JunctionWords) -> SeenJunction {
+        let [width, height, _, _] = w[4].to_le_bytes();
+        SeenJunction {
+            x: w[0],
+            y: w[1],
+            min_z: w[2],
+            max_z: w[3],
+            width,
+            height,
+        }
     }
 }
 
@@ -166,7 +158,7 @@ pub fn shown_junction(
     if junctions.len() < ynd.junction_count as usize {
         return Err(Refusal::TooShort(Lent::Junctions));
     }
-    Ok(seen_junction(junctions[place]))
+    Ok(SeenJunction::from(junctions[place]))
 }
 
 // The heightmap values of the junction at a place.
@@ -215,16 +207,18 @@ pub fn shown_values(
     Ok(v.len())
 }
 
-#[tactic(auto, unfolding(cells::specs::Words::to_link))]
-fn seen_link(w: LinkWords) -> SeenLink
-    ensures { result ≡ seen_link (link_of w).body }
-{
-    let l = PathLink::from(w);
-    SeenLink {
-        flags0: l.flags0,
-        flags1: l.flags1,
-        flags2: l.flags2,
-        length: l.length,
+impl From<LinkWords> for SeenLink {
+    ghost from_gives = { λ w l. l ≡ seen_link (link_of w).body };
+
+    #[tactic(auto, unfolding(cells::specs::Words::to_link))]
+    fn from(w: LinkWords) -> SeenLink {
+        let l = PathLink::from(w);
+        SeenLink {
+            flags0: l.flags0,
+            flags1: l.flags1,
+            flags2: l.flags2,
+            length: l.length,
+        }
     }
 }
 
@@ -240,18 +234,7 @@ pub fn shown_link(
     ensures { (junctions : List (List ℕ)) (heights : List ℕ) (refs : List (List ℕ)) → result
         ≡ shown_link (memory ynd nodes.now links.now junctions heights refs) place choice }
 {
-    if ynd.node_count as usize <= place {
-        return Err(Refusal::NoSuchPlace);
-    }
-    if over_limit(ynd) {
-        return Err(Refusal::AtLimit);
-    }
-    if nodes.len() < ynd.node_count as usize {
-        return Err(Refusal::TooShort(Lent::Nodes));
-    }
-    if links.len() < ynd.link_count as usize {
-        return Err(Refusal::TooShort(Lent::Links));
-    }
+    check_place(ynd, nodes.len(), links.len(), place)?;
     let held = &links[..ynd.link_count as usize];
-    Ok(chosen(held, nodes[place], choice).map(seen_link))
+    Ok(link_at(nodes, held, place, choice).map(SeenLink::from))
 }

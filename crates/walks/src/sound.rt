@@ -30,22 +30,29 @@ fn index_numbers(nodes: &[NodeWords], scratch: &mut [u32])
     }
 }
 
-// What links and refs are looked up in: the nodes, all of the area `own` if they are sound, and a scratch that leads
-// from each number that a node has to the last node that has it.
+// Nodes, and a scratch that leads from each number that one has to the last node that has it.
 #[derive(Clone, Copy)]
-struct Named<'a> {
-    nodes: &'a [NodeWords],
-    own: u16,
-    scratch: &'a [u32],
+pub struct Numbers<'a> {
+    pub nodes: &'a [NodeWords],
+    pub scratch: &'a [u32],
     ghost ready: { Ready (length nodes.now) nodes.now scratch.now },
 }
 
-impl Named<'_> {
+impl Numbers<'_> {
     // The place to which the scratch leads from a number.
     fn last(&self, k: u16) -> usize
         ensures { result ≡ slice_index self.now.scratch.now k }
     {
         self.scratch[k as usize] as usize
+    }
+
+    // Whether a node has the number. An entry of the scratch counts only if the node that it leads to has the number.
+    #[tactic(auto, using(cells::proofs::Sequences::Tests::by_test, crate::proofs::ScratchLaws::number_laws))]
+    pub fn has(&self, k: u16) -> bool
+        ensures { result ≡ is_some (first_with (all_numbers self.now.nodes.now) k) }
+    {
+        let t = self.last(k);
+        t < self.nodes.len() && number_of(self.nodes[t]) == k
     }
 
     // Whether the numbers differ: each node is the last that has its number.
@@ -57,27 +64,27 @@ impl Named<'_> {
             .enumerate()
             .all(|(i, w)| self.last(number_of(*w)) == i)
     }
+}
 
-    // Whether a node has the number. An entry of the scratch counts only if the node that it leads to has the number.
-    #[tactic(auto, using(cells::proofs::Sequences::Tests::by_test, crate::proofs::ScratchLaws::number_laws))]
-    fn has(&self, k: u16) -> bool
-        ensures { result ≡ is_some (first_with (all_numbers self.now.nodes.now) k) }
-    {
-        let t = self.last(k);
-        t < self.nodes.len() && number_of(self.nodes[t]) == k
-    }
+// What links and refs are looked up in: nodes, all of the area `own` if they are sound.
+#[derive(Clone, Copy)]
+struct Named<'a> {
+    numbers: Numbers<'a>,
+    own: u16,
+}
 
+impl Named<'_> {
     // Whether a link or a ref names a node, if it is of the area `own`.
     #[tactic(auto, unfolding(crate::specs::SoundParts::word_named))]
     fn names(&self, w: LinkWords) -> bool
-        ensures { result ≡ word_named (all_numbers self.now.nodes.now) self.now.own w }
+        ensures { result ≡ word_named (all_numbers self.now.numbers.nodes.now) self.now.own w }
     {
-        !belongs_to(self.own, w[0]) || self.has(w[1])
+        !belongs_to(self.own, w[0]) || self.numbers.has(w[1])
     }
 
     // The same of each of a list of links or refs.
     fn names_all(&self, list: &[LinkWords]) -> bool
-        ensures { result ≡ every (word_named (all_numbers self.now.nodes.now) self.now.own) list.now }
+        ensures { result ≡ every (word_named (all_numbers self.now.numbers.nodes.now) self.now.own) list.now }
     {
         list.iter().all(|w| self.names(*w))
     }
@@ -85,7 +92,7 @@ impl Named<'_> {
     // Whether a node is of the area `own`, and its links name nodes.
     #[tactic(auto, unfolding(crate::specs::SoundParts::word_sound))]
     fn node_sound(&self, links: &[LinkWords], w: NodeWords) -> bool
-        ensures { result ≡ word_sound (all_numbers self.now.nodes.now) self.now.own links.now w }
+        ensures { result ≡ word_sound (all_numbers self.now.numbers.nodes.now) self.now.own links.now w }
     {
         area_of(w) == self.own
             && self.names_all(part(links, link_start(w) as usize, link_count(w) as usize))
@@ -93,17 +100,21 @@ impl Named<'_> {
 
     fn nodes_sound(&self, links: &[LinkWords]) -> bool
         ensures { result
-            ≡ every (word_sound (all_numbers self.now.nodes.now) self.now.own links.now) self.now.nodes.now }
+            ≡ every (word_sound (all_numbers self.now.numbers.nodes.now) self.now.own links.now)
+            self.now.numbers.nodes.now }
     {
-        self.nodes.iter().all(|w| self.node_sound(links, *w))
+        self.numbers
+            .nodes
+            .iter()
+            .all(|w| self.node_sound(links, *w))
     }
 
     // Whether the nodes with these links and refs are sound.
     #[tactic(auto, unfolding(crate::specs::SoundParts::words_sound))]
     fn sound(&self, links: &[LinkWords], refs: &[LinkWords]) -> bool
-        ensures { result ≡ words_sound self.now.nodes.now self.now.own links.now refs.now }
+        ensures { result ≡ words_sound self.now.numbers.nodes.now self.now.own links.now refs.now }
     {
-        self.nodes_sound(links) && self.differ() && self.names_all(refs)
+        self.nodes_sound(links) && self.numbers.differ() && self.names_all(refs)
     }
 }
 
@@ -114,9 +125,8 @@ fn judge(nodes: &[NodeWords], links: &[LinkWords], refs: &[LinkWords], scratch: 
 {
     let own = own_area(nodes, nodes.len());
     let named = Named {
-        nodes,
+        numbers: Numbers { nodes, scratch },
         own,
-        scratch,
     };
     nodes.is_empty() || named.sound(links, refs)
 }

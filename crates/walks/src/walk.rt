@@ -1,15 +1,21 @@
 // A walk from link to link.
-ghost use Rattle.std.specs.Prelude.{◌≡◌, false, List, ℕ, ◌≤◌, ◌<◌, leb, length};
+ghost use Rattle.std.specs.Prelude.{◌≡◌, false, List, ℕ, ◌≤◌, leb, length, map};
+ghost use Rattle.cells.specs.Cell.{numbers};
+ghost use Rattle.cells.specs.CellOf.{nodes_of};
+ghost use Rattle.cells.specs.Lookup.{find};
 ghost use Rattle.cells.specs.Memory.{memory, over_limit};
+ghost use Rattle.walks.specs.Walk.{World, arrive, walk_in};
+ghost use Rattle.walks.specs.Claim.{places};
+ghost use Rattle.walks.specs.Parts.{own_number};
 ghost use Rattle.walks.specs.WalkCall.{walk_left, walk_call};
-ghost use Rattle.walks.specs.WalkParts.{lent, step_in, step_to, route_in, traced, over};
+ghost use Rattle.walks.specs.WalkParts.{step_of, lent, lent_world, traced, over, trail_left, stored_in};
 
-use crate::part::chosen;
+use crate::part::link_at;
+use crate::place::check_place;
 use cells::area::{belongs_to, own_area};
 use cells::link::LinkWords;
 use cells::lookup::node;
 use cells::node::NodeWords;
-use cells::room::over_limit;
 use cells::ynd::Ynd;
 use numbers::refusal::{Lent, Refusal};
 
@@ -29,13 +35,105 @@ pub struct Walked {
     pub count: usize,
 }
 
-fn step_to(p: Result<Option<usize>, Refusal>) -> Result<usize, End>
-    ensures { result ≡ step_to p }
+// What leads from place to place: a cell's links, or those of a set's members.
+pub trait Steps {
+    type Place: Copy;
+
+    // How a list of places visited holds one.
+    type Entry: Copy;
+
+    ghost world: { Self → World Self.Place };
+
+    ghost entry_of: { Self.Place → Self.Entry };
+
+    // Where a choice leads from a place, or how it ends the walk.
+    fn step(&self, place: Self::Place, choice: u8) -> Result<Self::Place, End>
+        ensures { result ≡ step_of ((world self.now).next place choice) };
+
+    fn entry(&self, place: Self::Place) -> Self::Entry
+        ensures { result ≡ entry_of place };
+}
+
+// How many places a walk visits. Nothing is stored. The loop isn't shared with `store` by a closure: what that may be
+// asked at each place would be longer than the loop.
+#[tactic(auto, using(crate::proofs::Reaches::reached_laws))]
+fn places_visited<S: Steps>(steps: &S, start: S::Place, choices: &[u8]) -> usize
+    ensures { result ≡ length (places (walk_in (S.world steps.now) choices.now start)) }
 {
-    match p {
-        Ok(Some(q)) => Ok(q),
-        _ => Err(End::NoNode),
+    let mut p = start;
+    for (i, b) in choices.iter().enumerate() {
+        match steps.step(p, *b) {
+            Ok(q) => p = q,
+            Err(_) => return i + 1,
+        }
     }
+    choices.len() + 1
+}
+
+// Whether the places that a walk visits go into a list of `room` entries. They are counted only where there are as
+// many choices.
+#[tactic(auto, using(crate::proofs::Reaches::room_sure))]
+fn has_room<S: Steps>(steps: &S, start: S::Place, choices: &[u8], room: usize) -> bool
+    ensures { result ≡ leb (length (places (walk_in (S.world steps.now) choices.now start))) room }
+{
+    choices.len() < room || places_visited(steps, start, choices) <= room
+}
+
+// Stores the places that a walk visits.
+fn store<S: Steps>(steps: &S, start: S::Place, choices: &[u8], visited: &mut [S::Entry]) -> Walked
+    requires { length (places (walk_in (S.world steps.now) choices.now start)) ≤ length visited.old }
+    ensures traced { result ≡ traced (walk_in (S.world steps.now) choices.now start) }
+    ensures stored { visited.new
+        ≡ over (map S.entry_of (places (walk_in (S.world steps.now) choices.now start))) visited.old }
+{
+    let mut p = start;
+    for (i, b) in choices.iter().enumerate() {
+        visited[i] = steps.entry(p);
+        match steps.step(p, *b) {
+            Ok(q) => p = q,
+            Err(end) => return Walked { end, count: i + 1 },
+        }
+    }
+    visited[choices.len()] = steps.entry(p);
+    Walked {
+        end: End::Done,
+        count: choices.len() + 1,
+    }
+}
+
+// A walk from a place, by a byte a choice. `visited` gets the places, if it has room for them.
+#[tactic(auto, using(crate::proofs::Storing::left_laws))]
+pub fn walk_from<S: Steps>(
+    steps: &S,
+    start: S::Place,
+    choices: &[u8],
+    visited: &mut [S::Entry],
+) -> Result<Walked, Refusal>
+    ensures { trail_left result visited.new
+        ≡ stored_in S.entry_of (walk_in (S.world steps.now) choices.now start) visited.old }
+{
+    if !has_room(steps, start, choices, visited.len()) {
+        return Err(Refusal::TooShort(Lent::List));
+    }
+    Ok(store(steps, start, choices, visited))
+}
+
+// The number of the node that a choice leads to in the cell of these nodes, or how it ends the walk there.
+#[inline(always)]
+#[tactic(auto, unfolding(crate::specs::Parts::own_number))]
+pub fn own_number(
+    nodes: &[NodeWords],
+    links: &[LinkWords],
+    place: usize,
+    choice: u8,
+) -> Result<u16, End>
+    ensures { result ≡ own_number nodes.now links.now place choice }
+{
+    let w = link_at(nodes, links, place, choice).ok_or(End::NoLink)?;
+    if belongs_to(own_area(nodes, nodes.len()), w[0]) {
+        return Ok(w[1]);
+    }
+    Err(End::Left(w[0], w[1]))
 }
 
 // What a walk is lent. The lists hold what the struct counts.
@@ -50,84 +148,42 @@ struct Yard<'a> {
 }
 
 impl Yard<'_> {
-    // Where a choice leads from the node at a place, or how it ends the walk.
+    // On to the node with the number.
+    #[tactic(auto, using(crate::proofs::StepLaws::arrive_laws))]
+    fn arrive(&self, number: u16) -> Result<u32, End>
+        ensures { result ≡ step_of (arrive (find
+            (numbers (nodes_of (lent self.now.ynd self.now.nodes.now self.now.links.now))) number)) }
+    {
+        match node(self.ynd, self.nodes, number) {
+            Ok(Some(q)) => Ok(q as u32),
+            _ => Err(End::NoNode),
+        }
+    }
+}
+
+impl Steps for Yard<'_> {
+    type Place = u32;
+
+    type Entry = u32;
+
+    ghost world = { λ y. lent_world y.ynd y.nodes.now y.links.now };
+
+    ghost entry_of = { λ p. p };
+
     #[tactic(auto, using(crate::proofs::StepLaws::next_laws))]
-    fn follow(&self, place: usize, choice: u8) -> Result<usize, End>
-        requires { place < self.now.ynd.node_count }
-        ensures { result ≡ step_in (lent self.now.ynd self.now.nodes.now self.now.links.now) place choice }
-    {
+    fn step(&self, place: u32, choice: u8) -> Result<u32, End> {
+        let nodes = &self.nodes[..self.ynd.node_count as usize];
         let links = &self.links[..self.ynd.link_count as usize];
-        let Some(w) = chosen(links, self.nodes[place], choice) else {
-            return Err(End::NoLink);
-        };
-        let own = own_area(self.nodes, self.ynd.node_count as usize);
-        if belongs_to(own, w[0]) {
-            return step_to(node(self.ynd, self.nodes, w[1]));
-        }
-        Err(End::Left(w[0], w[1]))
+        self.arrive(own_number(nodes, links, place as usize, choice)?)
     }
 
-    // How many places a walk visits. Nothing is stored. The loop isn't shared with `store` by a closure: what that
-    // may be asked at each place would be longer than the loop.
-    #[tactic(auto, using(crate::proofs::Reaches::reached_laws))]
-    fn places_visited(&self, start: usize, choices: &[u8]) -> usize
-        requires { start < self.now.ynd.node_count }
-        ensures { result
-            ≡ length (route_in (lent self.now.ynd self.now.nodes.now self.now.links.now) choices.now start).places }
-    {
-        let mut p = start;
-        for (i, b) in choices.iter().enumerate() {
-            match self.follow(p, *b) {
-                Ok(q) => p = q,
-                Err(_) => return i + 1,
-            }
-        }
-        choices.len() + 1
-    }
-
-    // Whether the places that a walk visits go into a list of `room` entries. They are counted only where there are
-    // as many choices.
-    #[tactic(auto, using(crate::proofs::Reaches::room_sure))]
-    fn has_room(&self, start: usize, choices: &[u8], room: usize) -> bool
-        requires { start < self.now.ynd.node_count }
-        ensures { result
-            ≡ leb (length (route_in (lent self.now.ynd self.now.nodes.now self.now.links.now)
-            choices.now start).places) room }
-    {
-        choices.len() < room || self.places_visited(start, choices) <= room
-    }
-
-    // Stores the places that a walk visits.
-    #[tactic(auto, using(cells::proofs::Forms::Limits::within))]
-    fn store(&self, start: usize, choices: &[u8], visited: &mut [u32]) -> Walked
-        requires start_in { start < self.now.ynd.node_count }
-        requires room { length (route_in (lent self.now.ynd self.now.nodes.now self.now.links.now)
-            choices.now start).places ≤ length visited.old }
-        ensures traced { result
-            ≡ traced (route_in (lent self.now.ynd self.now.nodes.now self.now.links.now) choices.now start) }
-        ensures stored { visited.new
-            ≡ over (route_in (lent self.now.ynd self.now.nodes.now self.now.links.now) choices.now start).places
-            visited.old }
-    {
-        let mut p = start;
-        for (i, b) in choices.iter().enumerate() {
-            visited[i] = p as u32;
-            match self.follow(p, *b) {
-                Ok(q) => p = q,
-                Err(end) => return Walked { end, count: i + 1 },
-            }
-        }
-        visited[choices.len()] = p as u32;
-        Walked {
-            end: End::Done,
-            count: choices.len() + 1,
-        }
+    fn entry(&self, place: u32) -> u32 {
+        place
     }
 }
 
 // A walk from a place, by a byte a choice, whatever the lists that are not lent. `visited` gets the places; a refusal
 // changes nothing.
-#[tactic(auto, using(crate::proofs::WalkCases::walk_laws))]
 pub fn walk(
     ynd: Ynd,
     nodes: &[NodeWords],
@@ -140,21 +196,6 @@ pub fn walk(
         → walk_left result visited.new
         ≡ walk_call (memory ynd nodes.now links.now junctions heights refs) choices.now start visited.old }
 {
-    if ynd.node_count as usize <= start {
-        return Err(Refusal::NoSuchPlace);
-    }
-    if over_limit(ynd) {
-        return Err(Refusal::AtLimit);
-    }
-    if nodes.len() < ynd.node_count as usize {
-        return Err(Refusal::TooShort(Lent::Nodes));
-    }
-    if links.len() < ynd.link_count as usize {
-        return Err(Refusal::TooShort(Lent::Links));
-    }
-    let yard = Yard { ynd, nodes, links };
-    if !yard.has_room(start, choices, visited.len()) {
-        return Err(Refusal::TooShort(Lent::List));
-    }
-    Ok(yard.store(start, choices, visited))
+    check_place(ynd, nodes.len(), links.len(), start)?;
+    walk_from(&Yard { ynd, nodes, links }, start as u32, choices, visited)
 }

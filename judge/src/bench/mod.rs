@@ -1,6 +1,7 @@
 //! The Rust and the port from one driver, on the same inputs, in one run; printed as a table for docs/BENCHMARKS.md.
 mod cells;
 mod drop_in;
+mod indexed;
 mod numbers;
 mod paths;
 mod reach;
@@ -53,13 +54,13 @@ pub fn bench(only: Option<String>) {
     println!("| Call | Nodes | Rust, ns | Port, ns | Ratio | Goal |");
     println!("|---|---|---|---|---|---|");
     let rows = numbers::rows(&wanted).into_iter().chain(cells::rows(&wanted)).chain(reach::rows(&wanted))
-        .chain(rounds::rows(&wanted)).chain(paths::rows(&wanted)).chain(sets::rows(&wanted))
-        .chain(drop_in::rows(&wanted));
+        .chain(rounds::rows(&wanted)).chain(indexed::rows(&wanted)).chain(paths::rows(&wanted))
+        .chain(sets::rows(&wanted)).chain(drop_in::rows(&wanted));
     for row in rows { println!("{}", row.line()); }
     println!();
     print!("Nanoseconds a node, or a call for steps, grid and lengths; the fastest of {TURNS} turns, ");
     println!("each side in turn. Inputs are made once.\n{NOTES}");
-    println!("{}\n{}\n{}\n{}", reach::NOTE, rounds::NOTE, paths::NOTE, sets::NOTE);
+    println!("{}\n{}\n{}\n{}\n{}", reach::NOTE, rounds::NOTE, indexed::NOTE, paths::NOTE, sets::NOTE);
 }
 
 const TURNS: usize = 41;
@@ -78,9 +79,15 @@ used before.";
 /// Nanoseconds an element on each side, the fastest of some turns, so that other work on the machine counts least. The
 /// sides take turns, so that both meet the same machine; each says how long its own part took, so that making its
 /// input is not counted.
-pub fn both(count: usize, mut rust: impl FnMut() -> Duration, mut port: impl FnMut() -> Duration) -> (f64, f64) {
+pub fn both(count: usize, rust: impl FnMut() -> Duration, port: impl FnMut() -> Duration) -> (f64, f64) {
+    both_in((20_000 / count.max(1)).max(1), count, rust, port)
+}
+
+/// The same of so many calls a turn.
+pub fn both_in(
+    rounds: usize, count: usize, mut rust: impl FnMut() -> Duration, mut port: impl FnMut() -> Duration,
+) -> (f64, f64) {
     let (mut a, mut b) = (Vec::new(), Vec::new());
-    let rounds = (20_000 / count.max(1)).max(1);
     for turn in 0..TURNS + 3 {
         let x: Duration = (0..rounds).map(|_| rust()).sum();
         let y: Duration = (0..rounds).map(|_| port()).sum();

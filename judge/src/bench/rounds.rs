@@ -16,7 +16,7 @@ fn found(nodes: &[[u32; 13]], number: u16) -> Option<usize> {
 
 /// None where no node has the number, or the list for the places is too short.
 #[inline(never)]
-fn followed(m: &Memory, start: u16, choices: &[u8], visited: &mut [u32]) -> Option<(End, usize)> {
+pub(super) fn followed(m: &Memory, start: u16, choices: &[u8], visited: &mut [u32]) -> Option<(End, usize)> {
     let (nodes, links): (&[[u32; 13]], &[[u16; 4]]) = (&m.nodes[..m.ynd[10] as usize], &m.links[..m.ynd[11] as usize]);
     let own = nodes.first()?[0] as u16;
     let mut p = found(nodes, start)?;

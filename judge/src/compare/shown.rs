@@ -8,11 +8,12 @@ use crate::model::cell::Cell;
 use crate::model::walk::is_sound;
 use crate::model::{refuse_if, walk};
 use crate::port::memory::Memory;
+use crate::slips;
 
 /// A walk's end, places and the rest of its list.
 pub fn walking(memory: &Memory, start: usize, choices: &[u8], visited: usize, r: &mut Rng) -> Verdict {
     let old: Vec<u32> = (0..visited).map(|_| r.u32()).collect();
-    let mut new = old.clone();
+    let (mut new, mut by_index) = (old.clone(), old.clone());
     let port = memory.walk(start, choices, &mut new);
     let model = causes::entry(memory, start, &[NODES, LINKS])
         .and_then(|_| walk::walk_into(&memory.cell(), start, choices, visited));
@@ -26,7 +27,18 @@ pub fn walking(memory: &Memory, start: usize, choices: &[u8], visited: usize, r:
         seen::met_times(Met::Followed, w.places.len() as u64 - 1);
     }
     same("a walk", PORT, &port, MODEL, &(model.map(|w| (w.end, w.places.len())), true))?;
-    same("places visited", PORT, &new, MODEL, &expected)
+    same("places visited", PORT, &new, MODEL, &expected)?;
+    let indexed = with_scratch(65_536, |s| memory.walk_indexed(start, choices, &mut by_index, s));
+    same("a walk by an index", PORT, &(indexed, by_index), "its walk", &(port, new))?;
+    short_index(memory, start, choices, visited)
+}
+
+/// 7 at 6 comes after what is asked of the cell, and before the visited list.
+fn short_index(memory: &Memory, start: usize, choices: &[u8], visited: usize) -> Verdict {
+    if slips::any() { return Ok(()); }
+    let (port, _) = with_scratch(65_535, |s| memory.walk_indexed(start, choices, &mut vec![0; visited], s));
+    let model = causes::entry(memory, start, &[NODES, LINKS]).and_then(|_| refuse_if(true, 7, 6));
+    same("a walk by too short an index", PORT, &port.map(|_| ()), MODEL, &model)
 }
 
 /// The verdict, and the scratch, which gets each number's last place.

@@ -349,6 +349,18 @@ extern "C" {
         visited_len: usize, end: *mut ynd_walk_end, count: *mut usize, place: *mut usize,
     ) -> u32;
 
+    /// As ynd_walk, with a scratch by which the node with a number is found at once: for long walks in a cell that
+    /// isn't renumbered. The scratch may hold anything afterwards, after 7 at 8 too; other refusals leave it as it
+    /// was. Time: linear in n and in the choices, whatever the numbers. Refused, in this order: 13 no such place; 14
+    /// over a limit; 7 at 0 and 1 where a list is shorter than its count; 7 at 6 where the scratch has under
+    /// YND_SCRATCH entries; 7 at 8 where `visited` is too short (choices_len + 1 entries always do).
+    pub fn ynd_walk_indexed(
+        ynd: *const ynd_cell, nodes: *const ynd_node_entry, nodes_len: usize, links: *const ynd_link_entry,
+        links_len: usize, start: usize, choices: *const u8, choices_len: usize, visited: *mut u32,
+        visited_len: usize, scratch: *mut u32, scratch_len: usize, end: *mut ynd_walk_end, count: *mut usize,
+        place: *mut usize,
+    ) -> u32;
+
     /// Whether the cell is sound: all nodes have one area, their numbers differ, and each link and ref of the own
     /// area names a node of the cell. The scratch then holds at each number the last place that has it. Time: linear
     /// in n, the nodes' links and r. Refused, in this order: 14 over a limit; 7 at 0, 1 and 4 where a list is shorter

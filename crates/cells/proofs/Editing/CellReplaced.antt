@@ -15,14 +15,14 @@ use Rattle.cells.specs.Memory.{Memory, over_limit}
 use Rattle.cells.specs.Edit.{value_range}
 use Rattle.cells.specs.Add.{with_counts}
 use Rattle.cells.specs.AddLink.{held_at, ranged}
-use Rattle.cells.specs.EditedCell.{with_nodes, with_junctions, with_refs, Apart}
+use Rattle.cells.specs.EditedCell.{with_nodes, with_junctions, with_refs}
 use Rattle.cells.specs.OwnWords.{with_own, with_vft, with_vehicles, with_peds, with_unknowns}
 use Rattle.cells.specs.Truncate.{fewer, counted, fewer_nodes, fewer_junctions, fewer_refs, truncate_nodes}
 use Rattle.cells.specs.Truncate.{truncate_junctions, truncate_refs}
 use Rattle.cells.specs.PutLinks.{links_after, links_start, links_call, links_stored, put_links}
 use Rattle.cells.specs.PutHeightmap.{values_held, values_after, map_start, map_call, map_stored, mapped, put_heightmap}
 use Rattle.cells.specs.StoredCell.{vft_put, vehicles_put, peds_put, unknowns_put, node_linked, links_put, no_junction}
-use Rattle.cells.specs.StoredCell.{junction_at, junction_mapped, heightmap_put, Beside}
+use Rattle.cells.specs.StoredCell.{junction_at, junction_mapped, heightmap_put}
 use Rattle.std.proofs.lemmas.List.{take-map}
 use Rattle.cells.proofs.Editing.EditLaws.{held_bound}
 use Rattle.cells.proofs.Editing.AddLaws.{done_memory}
@@ -33,6 +33,7 @@ use Rattle.cells.proofs.Editing.CellStored.{held_at_law}
 use Rattle.cells.proofs.Editing.Replacing.{fewer_room, links_room, map_room, pool_grows}
 use Rattle.cells.proofs.Editing.RangePut.{pool_replaced, map_put, replaced}
 use Rattle.std.specs.Prelude.{Ok}
+use Rattle.cells.proofs.Editing.Conditions.{Beside}
 
 -- ---- the cell's own words
 
@@ -90,10 +91,6 @@ module _ (m : Memory) (k : ℕ) where
 
 -- ---- all links of a node
 
--- what adding a link asks for is enough
-pub apart_beside : (n l p : ℕ) (nodes : List (List ℕ)) → Apart n l p nodes → Beside link_start link_count n l p nodes
-apart_beside n l p nodes a = record { inside = a.inside; apart = a.apart }
-
 range_count : (s c : ℕ) (w : List ℕ) → c < 256 → link_count (ranged s c w) ≡ c
 unfolding ranged
 range_count s c w h = omega arith
@@ -108,7 +105,8 @@ node_linked_law s c w ls h = ap (node_linked ls) (node_ranged [] s c w h)
 
 pub links_put_law : (m : Memory) (p : ℕ) (new : List (List ℕ))
     → Beside link_start link_count m.ynd.node_count m.ynd.link_count p m.nodes
-    → (put_links m p new).answer ≡ (Ok tt) → cell_of (put_links m p new).memory ≡ links_put p (map link_of new) (cell_of m)
+    → (put_links m p new).answer ≡ (Ok tt) → cell_of (put_links m p new).memory
+    ≡ links_put p (map link_of new) (cell_of m)
 unfolding put_links cell_of nodes_of junctions_of refs_of with_counts
 links_put_law m p new beside e =
     let n = m.ynd.node_count in
@@ -130,7 +128,8 @@ links_put_law m p new beside e =
     let g = ap (λ (t : List Link). map (node_with t) (take n (set m.nodes p (ranged at c w)))) pool
     ∙ replaced link_start link_count with_links n l p c m.nodes ls (map link_of new) r.place r.nodes_fit
     (length-map (take l m.links) link_of ∙ length-take-le l m.links fits) (length-map new link_of) beside
-    (ranged at c w) (node_linked (map link_of new) (node_at (nodes_of m) p)) (range_start at c w) (range_count at c w few)
+    (ranged at c w) (node_linked (map link_of new) (node_at (nodes_of m) p)) (range_start at c w)
+    (range_count at c w few)
     own in
     ap cell_of d.1 ∙ (λ i. with_nodes (g i) (cell_of m))
 

@@ -19,11 +19,14 @@ use Rattle.cells.specs.NodeWords.{area_of, number_of, link_start, link_count, va
 use Rattle.cells.specs.NodeAccess.{changed, with_position}
 use Rattle.cells.specs.Words.{to_node, node_words, junction_words, ref_words}
 use Rattle.cells.specs.Cell.{Link, Node, no_node, node_at}
-use Rattle.cells.specs.CellOf.{link_of, ref_of, body_of, node_with, junction_with, nodes_of, junctions_of, refs_of, cell_of}
+use Rattle.cells.specs.CellOf.{link_of, ref_of, body_of, node_with, junction_with, nodes_of, junctions_of, refs_of}
+use Rattle.cells.specs.CellOf.{cell_of}
 use Rattle.cells.specs.CellOf.{bits_of, marks_of}
 use Rattle.cells.specs.Memory.{Memory, memory, over_limit}
-use Rattle.cells.specs.Edit.{entry_at, node_entry, ref_entry, change_at, range_kept, put_node, set_position, put_ref, value_range, start_at, sized_entry, put_junction}
-use Rattle.cells.specs.EditedCell.{node_from, node_moved, ref_from, junction_from, with_nodes, with_refs, with_junctions}
+use Rattle.cells.specs.Edit.{entry_at, node_entry, ref_entry, change_at, range_kept, put_node, set_position}
+use Rattle.cells.specs.Edit.{put_ref, value_range, start_at, sized_entry, put_junction}
+use Rattle.cells.specs.EditedCell.{node_from, node_moved, ref_from, junction_from, with_nodes, with_refs}
+use Rattle.cells.specs.EditedCell.{with_junctions}
 use Rattle.cells.proofs.Sequences.Tests.{by_test}
 use Rattle.cells.proofs.Editing.EditLaws.{lent_false}
 use Rattle.cells.proofs.Forms.Entries.{node_again, byte0, byte1, byte2, word}
@@ -34,16 +37,20 @@ use Rattle.numbers.specs.declared.refusal.Lent.TheVariants as lent
 
 -- ---- an entry stored
 
-pub set_held : {A B : Type 0} (f : A → B) (n : ℕ) (l : List A) (p : ℕ) (x : A) → p < n → map f (take n (set l p x)) ≡ set (map f (take n l)) p (f x)
+pub set_held : {A B : Type 0} (f : A → B) (n : ℕ) (l : List A) (p : ℕ) (x : A) → p < n → map f (take n (set l p x))
+    ≡ set (map f (take n l)) p (f x)
 set_held f n l p x h = ap (map f) (take-set-lt n l p x h) ∙ map-set f (take n l) p x
 
-pub held_at_law : {A B : Type 0} (f : A → B) (n : ℕ) (l : List A) (p : ℕ) (d : A) (e : B) → p < n → n ≤ length l → get_or (map f (take n l)) p e ≡ f (get_or l p d)
-held_at_law f n l p d e h fits = get_or-map f (take n l) p d e (omega (arith, length-take-le n l fits)) ∙ ap f (get_or-take n l p d h)
+pub held_at_law : {A B : Type 0} (f : A → B) (n : ℕ) (l : List A) (p : ℕ) (d : A) (e : B) → p < n → n ≤ length l
+    → get_or (map f (take n l)) p e ≡ f (get_or l p d)
+held_at_law f n l p d e h fits = get_or-map f (take n l) p d e (omega (arith, length-take-le n l fits))
+    ∙ ap f (get_or-take n l p d h)
 
 -- what an accepted call has stored
 entry_done : {A : Type 0} (over : Bool) (n : ℕ) (list : Lent) (p : ℕ) (f : A → A) (d : A) (l : List A)
     → (change_at (entry_at over n (length l) list p) f d l).answer ≡ (Ok tt)
-    → (p < n) × (n ≤ length l) × ((change_at (entry_at over n (length l) list p) f d l).list ≡ set l p (f (get_or l p d)))
+    → (p < n) × (n ≤ length l) × ((change_at (entry_at over n (length l) list p) f d l).list
+    ≡ set l p (f (get_or l p d)))
 unfolding entry_at
 entry_done over n list p f d l e =
     by_test (leb n p) (λ t. not_refused (rw t at e)) (λ f₀.
@@ -67,9 +74,11 @@ sized_done over n p values held f l e =
 
 -- ---- nodes
 
--- a node that comes back from its words, as every node whose fields fit their types does, is told by them at any position
+-- a node that comes back from its words, as every node whose fields fit their types does, is told by them at any
+-- position
 node_words_law : (ls : List Link) (n : PathNode) (at : Vec3) → to_node (node_words n) ≡ n
-    → node_with ls (node_words (with_position n at)) ≡ node_from (take n.link_count (drop n.link_id ls)) (with_position n at)
+    → node_with ls (node_words (with_position n at))
+    ≡ node_from (take n.link_count (drop n.link_id ls)) (with_position n at)
 unfolding area_of number_of body_of node_words to_node changed
 node_words_law ls n at b = λ i. record {
   area = (b i).area_id;
@@ -116,13 +125,16 @@ module _ (m : Memory) (p : ℕ) (start : link_start (get_or m.nodes p []) < 4294
   abbrev w : List ℕ
   w = get_or m.nodes p []
 
-  own_links : p < n → n ≤ length m.nodes → take (link_count w) (drop (link_start w) ls) ≡ (node_at (nodes_of m) p).links
+  own_links : p < n → n ≤ length m.nodes → take (link_count w) (drop (link_start w) ls)
+      ≡ (node_at (nodes_of m) p).links
   unfolding nodes_of
   own_links lt fits = ap (λ (x : Node). x.links) (sym (held_at_law (node_with ls) n m.nodes p [] no_node lt fits))
 
-  nodes_stored : (x : List ℕ) (new : Node) → p < n → node_with ls x ≡ new → map (node_with ls) (take n (set m.nodes p x)) ≡ set (nodes_of m) p new
+  nodes_stored : (x : List ℕ) (new : Node) → p < n → node_with ls x ≡ new
+      → map (node_with ls) (take n (set m.nodes p x)) ≡ set (nodes_of m) p new
   unfolding nodes_of
-  nodes_stored x new lt e = set_held (node_with ls) n m.nodes p x lt ∙ ap (set (map (node_with ls) (take n m.nodes)) p) e
+  nodes_stored x new lt e = set_held (node_with ls) n m.nodes p x lt
+      ∙ ap (set (map (node_with ls) (take n m.nodes)) p) e
 
   pub node_put : (x : PathNode) → to_node (node_words x) ≡ x → (put_node m.ynd m.nodes p x).answer ≡ (Ok tt)
       → cell_of (memory m.ynd (put_node m.ynd m.nodes p x).list m.links m.junctions m.heights m.refs)
@@ -130,22 +142,32 @@ module _ (m : Memory) (p : ℕ) (start : link_start (get_or m.nodes p []) < 4294
   unfolding put_node node_entry cell_of nodes_of junctions_of refs_of range_kept changed
   node_put x h e =
       let d = entry_done (over_limit m.ynd) n lent.Nodes p (λ v. node_words (range_kept x v)) [] m.nodes e in
-      let k = node_words_law ls (range_kept x w) x.position (kept_back x w h start) ∙ ap (λ (l : List Link). node_from l x) (own_links d.0 d.1) in
-      let g = ap (λ (l : List (List ℕ)). map (node_with ls) (take n l)) d.2 ∙ nodes_stored (node_words (range_kept x w)) (node_from (node_at (nodes_of m) p).links x) d.0 k in
+      let k = node_words_law ls (range_kept x w) x.position (kept_back x w h start)
+      ∙ ap (λ (l : List Link). node_from l x) (own_links d.0 d.1) in
+      let g = ap (λ (l : List (List ℕ)). map (node_with ls) (take n l)) d.2
+      ∙ nodes_stored (node_words (range_kept x w)) (node_from (node_at (nodes_of m) p).links x) d.0 k in
       λ i. with_nodes (g i) (cell_of m)
 
   pub position_set : (at : Vec3) → (set_position m.ynd m.nodes p at).answer ≡ (Ok tt)
       → cell_of (memory m.ynd (set_position m.ynd m.nodes p at).list m.links m.junctions m.heights m.refs)
-      ≡ with_nodes (set (cell_of m).nodes p (node_moved (dequantised (quantised at)) (node_at (cell_of m).nodes p))) (cell_of m)
+      ≡ with_nodes (set (cell_of m).nodes p (node_moved (dequantised (quantised at)) (node_at (cell_of m).nodes p)))
+      (cell_of m)
   unfolding set_position node_entry cell_of nodes_of junctions_of refs_of changed to_node area_of number_of body_of
   position_set at e =
       let to = dequantised (quantised at) in
-      let d = entry_done (over_limit m.ynd) n lent.Nodes p (λ v. node_words (with_position (to_node v) to)) [] m.nodes e in
+      let d = entry_done (over_limit m.ynd) n lent.Nodes p (λ v. node_words (with_position (to_node v) to)) []
+      m.nodes e in
       let s : get_or w 7 0 % 4294967296 ≡ get_or w 7 0 = omega (arith, start) in
       let k = node_words_law ls (to_node w) to (node_again w)
-      ∙ ap (λ (x : ℕ). record { area = area_of w; number = number_of w; links = take (link_count w) (drop x ls); body = (node_moved to (node_with ls w)).body }) s
+      ∙ ap (λ (x : ℕ). record {
+        area = area_of w;
+        number = number_of w;
+        links = take (link_count w) (drop x ls);
+        body = (node_moved to (node_with ls w)).body;
+      }) s
       ∙ ap (node_moved to) (sym (held_at_law (node_with ls) n m.nodes p [] no_node d.0 d.1)) in
-      let g = ap (λ (l : List (List ℕ)). map (node_with ls) (take n l)) d.2 ∙ nodes_stored (node_words (with_position (to_node w) to)) (node_moved to (node_at (nodes_of m) p)) d.0 k in
+      let g = ap (λ (l : List (List ℕ)). map (node_with ls) (take n l)) d.2
+      ∙ nodes_stored (node_words (with_position (to_node w) to)) (node_moved to (node_at (nodes_of m) p)) d.0 k in
       λ i. with_nodes (g i) (cell_of m)
 
 -- ---- refs
@@ -156,7 +178,8 @@ pub ref_put : (m : Memory) (p : ℕ) (r : NodeJunctionRef) → (put_ref m.ynd m.
 unfolding put_ref ref_entry cell_of nodes_of junctions_of refs_of ref_words
 ref_put m p r e =
     let d = entry_done (over_limit m.ynd) m.ynd.ref_count lent.Refs p (λ v. ref_words r) [] m.refs e in
-    let g = ap (λ (l : List (List ℕ)). map ref_of (take m.ynd.ref_count l)) d.2 ∙ set_held ref_of m.ynd.ref_count m.refs p (ref_words r) d.0 in
+    let g = ap (λ (l : List (List ℕ)). map ref_of (take m.ynd.ref_count l)) d.2
+    ∙ set_held ref_of m.ynd.ref_count m.refs p (ref_words r) d.0 in
     λ i. with_refs (g i) (cell_of m)
 
 -- ---- junctions
@@ -165,7 +188,8 @@ ref_put m p r e =
 abbrev values_at : Memory → ℕ → List ℕ
 values_at m p = (junction_with (take m.ynd.heightmap_count m.heights) (get_or m.junctions p [])).values
 
-pub junction_put : (m : Memory) (p : ℕ) (j : PathJunction) → j.width < 256 → j.height < 256 → (put_junction m.ynd m.junctions p j).answer ≡ (Ok tt)
+pub junction_put : (m : Memory) (p : ℕ) (j : PathJunction) → j.width < 256 → j.height < 256
+    → (put_junction m.ynd m.junctions p j).answer ≡ (Ok tt)
     → cell_of (memory m.ynd m.nodes m.links (put_junction m.ynd m.junctions p j).list m.heights m.refs)
     ≡ with_junctions (set (cell_of m).junctions p (junction_from (values_at m p) j)) (cell_of m)
 unfolding put_junction cell_of nodes_of junctions_of refs_of
@@ -174,8 +198,11 @@ junction_put m p j hw hh e =
     let hs = take m.ynd.heightmap_count m.heights in
     let w = get_or m.junctions p [] in
     let f = junction_with hs in
-    let d = sized_done (over_limit m.ynd) n p (j.width * j.height) (value_range m.junctions p).count (λ v. junction_words (start_at j (value_start v))) m.junctions e in
-    let k = junction_words_law hs j (value_start w) hw hh ∙ ap (λ (c : ℕ). junction_from (take c (drop (value_start w) hs)) j) d.1 in
-    let g = ap (λ (l : List (List ℕ)). map f (take n l)) d.3 ∙ set_held f n m.junctions p (junction_words (start_at j (value_start w))) d.0
+    let d = sized_done (over_limit m.ynd) n p (j.width * j.height) (value_range m.junctions p).count
+    (λ v. junction_words (start_at j (value_start v))) m.junctions e in
+    let k = junction_words_law hs j (value_start w) hw hh
+    ∙ ap (λ (c : ℕ). junction_from (take c (drop (value_start w) hs)) j) d.1 in
+    let g = ap (λ (l : List (List ℕ)). map f (take n l)) d.3
+    ∙ set_held f n m.junctions p (junction_words (start_at j (value_start w))) d.0
     ∙ ap (set (map f (take n m.junctions)) p) k in
     λ i. with_junctions (g i) (cell_of m)

@@ -21,7 +21,8 @@ held_bound r l = (omega arith, omega arith)
 
 -- words 6 and 7 stored; the others stay
 pub range_stored : (w : List ℕ) (x y : ℕ) → 8 ≤ length w
-    → set (set w 6 x) 7 y ≡ get_or w 0 0 ∷ get_or w 1 0 ∷ get_or w 2 0 ∷ get_or w 3 0 ∷ get_or w 4 0 ∷ get_or w 5 0 ∷ x ∷ y ∷ drop 8 w
+    → set (set w 6 x) 7 y ≡ get_or w 0 0 ∷ get_or w 1 0 ∷ get_or w 2 0 ∷ get_or w 3 0 ∷ get_or w 4 0 ∷ get_or w 5 0
+    ∷ x ∷ y ∷ drop 8 w
 range_stored [] x y l = absurd (omega arith)
 range_stored (a ∷ []) x y l = absurd (omega arith)
 range_stored (a ∷ b ∷ []) x y l = absurd (omega arith)

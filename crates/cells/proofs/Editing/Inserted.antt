@@ -42,7 +42,8 @@ insert_moved {A = A} at l x xs d inside fits =
     let m : take (l - at) (drop at xs) ≡ M = search (rules, between_is) in
     let n : at + 1 + (l - at) ≡ l + 1 = omega arith in
     ap (λ (z : List A). set z at x)
-    ((λ i. (t i ++ m i) ++ drop (n i) xs) ∙ append_assoc (take at xs ++ (y ∷ [])) M T ∙ append_assoc (take at xs) (y ∷ []) (M ++ T))
+    ((λ i. (t i ++ m i) ++ drop (n i) xs) ∙ append_assoc (take at xs ++ (y ∷ [])) M T
+    ∙ append_assoc (take at xs) (y ∷ []) (M ++ T))
     ∙ set_at (take at xs) y (M ++ T) x at (length-take-le at xs (omega arith))
     ∙ sym (append_assoc (take at xs) (x ∷ M) T)
     ∙ ap (λ (z : List A). (z ++ (x ∷ M)) ++ T) (sym (take-take at l xs inside))
@@ -51,7 +52,8 @@ insert_moved {A = A} at l x xs d inside fits =
 
 pub behind_bound : (s e l : ℕ) → e ≤ l - s → (behind s e l ≤ l) × (e ≤ behind s e l)
 unfolding behind
-behind_bound s e l h = by_test (eqb e 0) (λ t. rw t (omega arith, omega arith)) (λ f. let ne = eqb-false e 0 f in rw f (omega arith, omega arith))
+behind_bound s e l h = by_test (eqb e 0) (λ t. rw t (omega arith, omega arith))
+    (λ f. let ne = eqb-false e 0 f in rw f (omega arith, omega arith))
 
 -- an accepted call has room
 pub accepted : (over : Bool) (n l p e a b : ℕ) → room_for_link over n l p e a b ≡ (Ok tt) → LinkRoom n l p e a b
@@ -63,7 +65,14 @@ accepted over n l p e a b d =
     by_test (leb 255 e) (λ t. not_refused (rw (f₀, o, f₁, t) at d)) (λ f₂.
     by_test (ltb a n) (λ t. not_refused (rw (f₀, o, f₁, f₂, t) at d)) (λ f₃.
     by_test (leb b l) (λ t. not_refused (rw (f₀, o, f₁, f₂, f₃, t) at d)) (λ f₄.
-    record { place = leb-false _ _ f₀; few = leb-false _ _ f₁; one_more = leb-false _ _ f₂; nodes_fit = ltb-false _ _ f₃; links_fit = leb-false _ _ f₄ }))))))
+    record {
+      place = leb-false _ _ f₀;
+      few = leb-false _ _ f₁;
+      one_more = leb-false _ _ f₂;
+      nodes_fit = ltb-false _
+          _ f₃;
+      links_fit = leb-false _ _ f₄;
+    }))))))
 
 pub held_few : (nodes : List (List ℕ)) (p l : ℕ) → held_at nodes p l ≤ l - link_start (get_or nodes p [])
 held_few nodes p l = (held_bound (link_range nodes p) l).0

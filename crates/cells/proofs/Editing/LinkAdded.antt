@@ -8,7 +8,8 @@ use mathlib.Core.Logic.{◌⊎◌, inl, inr, ⊎_elim}
 use mathlib.Core.List.{List, [], ◌∷◌, ◌++◌, map}
 use lib.Dec.{eqb, ltb, leb}
 use lib.ListN.{length, get_or, take, drop, length-append, length-drop, length-map, length-set, get_or-append}
-use lib.Seq.{take_at, get_or-take, length-take-le, get_or-set_same, get_or-set_other, ext_get_or, take-append-le, take-take, get_or-drop}
+use lib.Seq.{take_at, get_or-take, length-take-le, get_or-set_same, get_or-set_other, ext_get_or, take-append-le}
+use lib.Seq.{take-take, get_or-drop}
 use borrow.Author.Tests.{ne_eqb, ltb-true, ltb-false, leb-true, leb-false, eqb-true, eqb-false}
 use Rattle.cells.specs.NodeWords.{area_of, number_of, link_start, link_count}
 use Rattle.cells.specs.Cell.{Link, Node, no_node, node_at}
@@ -17,10 +18,11 @@ use Rattle.cells.specs.CellOf.{bits_in}
 use Rattle.cells.specs.Words.{to_node}
 use Rattle.cells.specs.Edit.{held_in}
 use Rattle.cells.specs.AddLink.{held_at, behind, at_in, inserted, ranged, shifted, nodes_after}
-use Rattle.cells.specs.EditedCell.{with_link, add_to, Apart}
+use Rattle.cells.specs.EditedCell.{with_link, add_to}
 use Rattle.cells.proofs.Sequences.Tests.{by_test}
 use Rattle.cells.proofs.Editing.EditLaws.{held_bound}
 use Rattle.cells.proofs.Editing.Inserted.{front, front_long, held_few, behind_bound}
+use Rattle.cells.proofs.Editing.Conditions.{Apart}
 
 -- how many of c links from s are among l
 abbrev held : ℕ → ℕ → ℕ → ℕ
@@ -42,7 +44,8 @@ module _ {A : Type 0} where
       take-append-le c (take at P) (y ∷ drop at P) (omega (arith, n)) ∙ take-take c at P h
 
   -- a range before it
-  part_before : (s c at : ℕ) (y : A) (P : List A) → s + c ≤ at → at ≤ length P → take c (drop s (ins at y P)) ≡ take c (drop s P)
+  part_before : (s c at : ℕ) (y : A) (P : List A) → s + c ≤ at → at ≤ length P → take c (drop s (ins at y P))
+      ≡ take c (drop s P)
   part_before zero c at y P h k = part_front c at y P (omega arith) k
   part_before (suc s) c zero y P h k = absurd (omega arith)
   part_before (suc s) c (suc at) y [] h k = absurd (omega arith)
@@ -56,12 +59,14 @@ module _ {A : Type 0} where
   rest_behind (suc s) (suc at) y (x ∷ xs) h k = rest_behind s at y xs (omega arith) (omega arith)
 
   -- the e elements before it, with it
-  part_own : (b e at : ℕ) (y : A) (P : List A) → b + e ≡ at → at ≤ length P → take (suc e) (drop b (ins at y P)) ≡ take e (drop b P) ++ (y ∷ [])
+  part_own : (b e at : ℕ) (y : A) (P : List A) → b + e ≡ at → at ≤ length P → take (suc e) (drop b (ins at y P))
+      ≡ take e (drop b P) ++ (y ∷ [])
   part_own zero zero zero y P q h = refl
   part_own zero zero (suc at) y P q h = absurd (omega arith)
   part_own zero (suc e) zero y P q h = absurd (omega arith)
   part_own zero (suc e) (suc at) y [] q h = absurd (omega arith)
-  part_own zero (suc e) (suc at) y (x ∷ xs) q h = ap (λ (t : List A). x ∷ t) (part_own zero e at y xs (omega arith) (omega arith))
+  part_own zero (suc e) (suc at) y (x ∷ xs) q h = ap (λ (t : List A). x ∷ t)
+      (part_own zero e at y xs (omega arith) (omega arith))
   part_own (suc b) e zero y P q h = absurd (omega arith)
   part_own (suc b) e (suc at) y [] q h = absurd (omega arith)
   part_own (suc b) e (suc at) y (x ∷ xs) q h = part_own b e at y xs (omega arith) (omega arith)
@@ -86,10 +91,16 @@ byte_same r k c =
     ap (λ (x : ℕ). x % 256) a ∙ d ∙ sym (ap (λ (x : ℕ). x % 256) b ∙ e)
 
 byte_one : (a c : ℕ) → (a % 65536 + c * 65536) / 256 % 256 ≡ a / 256 % 256
-byte_one a c = let e : a % 65536 + a / 65536 * 65536 ≡ a = omega arith in byte_same (a % 65536) (a / 65536) c ∙ ap (λ (x : ℕ). x / 256 % 256) e
+byte_one a c = let e : a % 65536 + a / 65536 * 65536 ≡ a = omega arith in byte_same (a % 65536) (a / 65536) c
+    ∙ ap (λ (x : ℕ). x / 256 % 256) e
 
 pub node_ranged : (P : List Link) (s c : ℕ) (w : List ℕ) → c < 256
-    → node_with P (ranged s c w) ≡ record { area = area_of w; number = number_of w; links = take c (drop s P); body = body_of w }
+    → node_with P (ranged s c w) ≡ record {
+      area = area_of w;
+      number = number_of w;
+      links = take c (drop s P);
+      body = body_of w;
+    }
 unfolding ranged area_of number_of body_of to_node
 node_ranged P s c w hc =
     let k : (get_or w 6 0 % 65536 + c * 65536) / 65536 % 256 ≡ c = omega arith in
@@ -126,48 +137,67 @@ count_few w = omega arith
 
 module _ (P : List Link) (at : ℕ) (y : Link) (fits : at ≤ length P) (few : length P < 4294967295) where
   -- another node's links stay
-  other : (w : List ℕ) → (0 < link_count w → (link_start w + link_count w ≤ at) ⊎ ((at ≤ link_start w) × (link_start w < length P)))
+  other : (w : List ℕ) → (0 < link_count w → (link_start w + link_count w ≤ at)
+      ⊎ ((at ≤ link_start w) × (link_start w < length P)))
       → node_with (ins at y P) (shifted at (length P) w) ≡ node_with P w
   unfolding shifted
   other w h = by_test (ltb (link_start w) at)
-      (λ t. let lt : link_start w < at = ltb-true (link_start w) at t in rw t (ap (λ (ls : List Link). with_links w ls) (same lt (link_count w) h)))
+      (λ t. let lt : link_start w < at = ltb-true (link_start w) at t in rw t
+      (ap (λ (ls : List Link). with_links w ls) (same lt (link_count w) h)))
       (λ f. let le : at ≤ link_start w = ltb-false (link_start w) at f in
       by_test (leb (length P) (link_start w))
-      (λ t. let out : length P ≤ link_start w = leb-true (length P) (link_start w) t in rw (f, t) (ap (λ (ls : List Link). with_links w ls) (none le out (link_count w) h)))
+      (λ t. let out : length P ≤ link_start w = leb-true (length P) (link_start w) t in rw (f, t)
+      (ap (λ (ls : List Link). with_links w ls) (none le out (link_count w) h)))
       (λ g. let in' : link_start w < length P = leb-false (length P) (link_start w) g in
       rw (f, g) (node_ranged (ins at y P) (link_start w + 1) (link_count w) w (count_few w)
-      ∙ ap (λ (ls : List Link). with_links w (take (link_count w) ls)) (ap (λ (k : ℕ). drop k (ins at y P)) (add-one (link_start w)) ∙ rest_behind (link_start w) at y P le fits))))
+      ∙ ap (λ (ls : List Link). with_links w (take (link_count w) ls))
+      (ap (λ (k : ℕ). drop k (ins at y P)) (add-one (link_start w))
+      ∙ rest_behind (link_start w) at y P le fits))))
     where
-      same : link_start w < at → (c : ℕ) → (0 < c → (link_start w + c ≤ at) ⊎ ((at ≤ link_start w) × (link_start w < length P))) → take c (drop (link_start w) (ins at y P)) ≡ take c (drop (link_start w) P)
+      same : link_start w < at → (c : ℕ) → (0 < c → (link_start w + c ≤ at)
+          ⊎ ((at ≤ link_start w) × (link_start w < length P))) → take c (drop (link_start w) (ins at y P))
+          ≡ take c (drop (link_start w) P)
       same lt zero h = refl
-      same lt (suc c) h = ⊎_elim (λ k. part_before (link_start w) (suc c) at y P k fits) (λ k. absurd (omega (arith, k.0))) (h (omega arith))
+      same lt (suc c) h = ⊎_elim (λ k. part_before (link_start w) (suc c) at y P k fits)
+          (λ k. absurd (omega (arith, k.0))) (h (omega arith))
 
-      none : at ≤ link_start w → length P ≤ link_start w → (c : ℕ) → (0 < c → (link_start w + c ≤ at) ⊎ ((at ≤ link_start w) × (link_start w < length P))) → take c (drop (link_start w) (ins at y P)) ≡ take c (drop (link_start w) P)
+      none : at ≤ link_start w → length P ≤ link_start w → (c : ℕ)
+          → (0 < c → (link_start w + c ≤ at) ⊎ ((at ≤ link_start w) × (link_start w < length P)))
+          → take c (drop (link_start w) (ins at y P)) ≡ take c (drop (link_start w) P)
       none le out zero h = refl
-      none le out (suc c) h = ⊎_elim (λ k. absurd (omega (arith, k))) (λ k. absurd (omega (arith, k.1))) (h (omega arith))
+      none le out (suc c) h = ⊎_elim (λ k. absurd (omega (arith, k))) (λ k. absurd (omega (arith, k.1)))
+          (h (omega arith))
 
-own_before : (P : List Link) (s c e : ℕ) → held s c (length P) ≡ e → take e (drop (behind s e (length P) - e) P) ≡ take (held s c (length P)) (drop s P)
+own_before : (P : List Link) (s c e : ℕ) → held s c (length P) ≡ e → take e (drop (behind s e (length P) - e) P)
+    ≡ take (held s c (length P)) (drop s P)
 unfolding behind
 own_before P s c zero q = sym (take_none (held s c (length P)) (drop s P) q)
 own_before P s c (suc e) q =
     let z : s + suc e - suc e ≡ s = omega arith in
-    rw (ne_eqb (suc e) 0 (λ d. absurd (omega (arith, d)))) ((λ i. take (suc e) (drop (z i) P)) ∙ ap (λ (k : ℕ). take k (drop s P)) (sym q))
+    rw (ne_eqb (suc e) 0 (λ d. absurd (omega (arith, d))))
+    ((λ i. take (suc e) (drop (z i) P)) ∙ ap (λ (k : ℕ). take k (drop s P)) (sym q))
 
 -- the node's own links
-own_links : (P : List Link) (s c : ℕ) (y : Link) → take (held s c (length P) + 1) (drop (behind s (held s c (length P)) (length P) - held s c (length P)) (ins (behind s (held s c (length P)) (length P)) y P))
+own_links : (P : List Link) (s c : ℕ) (y : Link)
+    → take (held s c (length P) + 1) (drop (behind s (held s c (length P)) (length P) - held s c (length P))
+    (ins (behind s (held s c (length P)) (length P)) y P))
     ≡ take c (drop s P) ++ (y ∷ [])
 own_links P s c y = go (held s c (length P)) refl
   where
-    go : (e : ℕ) → held s c (length P) ≡ e → take (e + 1) (drop (behind s e (length P) - e) (ins (behind s e (length P)) y P)) ≡ take c (drop s P) ++ (y ∷ [])
+    go : (e : ℕ) → held s c (length P) ≡ e
+        → take (e + 1) (drop (behind s e (length P) - e) (ins (behind s e (length P)) y P)) ≡ take c (drop s P)
+        ++ (y ∷ [])
     go e q =
-        let b = behind_bound s e (length P) (omega (arith, q, (held_bound (record { start = s; count = c }) (length P)).0)) in
+        let b = behind_bound s e (length P)
+        (omega (arith, q, (held_bound (record { start = s; count = c }) (length P)).0)) in
         ap (λ (k : ℕ). take k (drop (behind s e (length P) - e) (ins (behind s e (length P)) y P))) (add-one e)
         ∙ part_own (behind s e (length P) - e) e (behind s e (length P)) y P (omega (arith, b.1)) b.0
         ∙ ap (λ (t : List Link). t ++ (y ∷ [])) (own_before P s c e q ∙ part_held s c P)
 
 -- ---- the whole
 
-module _ (n l p : ℕ) (nodes links : List (List ℕ)) (x : List ℕ) (place : p < n) (nodes-fit : n ≤ length nodes) (links-fit : l < length links) (few : l < 4294967295)
+module _ (n l p : ℕ) (nodes links : List (List ℕ)) (x : List ℕ) (place : p < n) (nodes-fit : n ≤ length nodes)
+    (links-fit : l < length links) (few : l < 4294967295)
     (one_more : held_at nodes p l < 255) (apart : Apart n l p nodes) where
   abbrev at : ℕ
   at = at_in nodes p l
@@ -187,18 +217,21 @@ module _ (n l p : ℕ) (nodes links : List (List ℕ)) (x : List ℕ) (place : p
   pool_new : map link_of (take (l + 1) (inserted at l x links)) ≡ ins at (link_of x) pool
   unfolding inserted
   pool_new =
-      ap (map link_of) (take_at (front at l x links [] at_few.0 links-fit) (drop (l + 1) links) (l + 1) (front_long at l x links [] at_few.0 links-fit))
+      ap (map link_of) (take_at (front at l x links [] at_few.0 links-fit) (drop (l + 1) links) (l + 1)
+      (front_long at l x links [] at_few.0 links-fit))
       ∙ map-append link_of (take at (take l links)) (x ∷ drop at (take l links))
       ∙ sym (λ i. take-map link_of at (take l links) i ++ (link_of x ∷ drop-map link_of at (take l links) i))
 
   -- where another node's range lies
   lies : (q : ℕ) → q < n → (q ≡ p → ⊥) → 0 < link_count (get_or nodes q [])
-      → (link_start (get_or nodes q []) + link_count (get_or nodes q []) ≤ at) ⊎ ((at ≤ link_start (get_or nodes q [])) × (link_start (get_or nodes q []) < l))
+      → (link_start (get_or nodes q []) + link_count (get_or nodes q []) ≤ at)
+      ⊎ ((at ≤ link_start (get_or nodes q [])) × (link_start (get_or nodes q []) < l))
   unfolding behind
   lies q lt ne some = by_test (eqb (held_at nodes p l) 0)
       (λ t. rw t (inl (apart.inside q lt ne some)))
       (λ f. let nz = eqb-false (held_at nodes p l) 0 f in
-      rw f (⊎_elim (λ h. inl (omega arith)) (λ h. inr (h, omega (arith, apart.inside q lt ne some))) (apart.apart q lt ne some (omega arith))))
+      rw f (⊎_elim (λ h. inl (omega arith)) (λ h. inr (h, omega (arith, apart.inside q lt ne some)))
+      (apart.apart q lt ne some (omega arith))))
 
   -- the words afterwards
   moved_long : length (map (shifted at l) (take n nodes)) ≡ n
@@ -206,20 +239,23 @@ module _ (n l p : ℕ) (nodes links : List (List ℕ)) (x : List ℕ) (place : p
 
   word_own : get_or (nodes_after n l p nodes) p [] ≡ ranged (at - held_at nodes p l) (held_at nodes p l + 1) own
   unfolding nodes_after
-  word_own = get_or-set_same (map (shifted at l) (take n nodes) ++ drop n nodes) p (ranged (at - held_at nodes p l) (held_at nodes p l + 1) own) []
+  word_own = get_or-set_same (map (shifted at l) (take n nodes) ++ drop n nodes) p
+      (ranged (at - held_at nodes p l) (held_at nodes p l + 1) own) []
       (omega (arith, length-append (map (shifted at l) (take n nodes)) (drop n nodes), moved_long))
 
   word_other : (q : ℕ) → q < n → (q ≡ p → ⊥) → get_or (nodes_after n l p nodes) q [] ≡ shifted at l (get_or nodes q [])
   unfolding nodes_after
   word_other q lt ne =
-      get_or-set_other (map (shifted at l) (take n nodes) ++ drop n nodes) p q (ranged (at - held_at nodes p l) (held_at nodes p l + 1) own) [] ne
+      get_or-set_other (map (shifted at l) (take n nodes) ++ drop n nodes) p q
+      (ranged (at - held_at nodes p l) (held_at nodes p l + 1) own) [] ne
       ∙ get_or-append (map (shifted at l) (take n nodes)) (drop n nodes) [] q (omega (arith, moved_long))
       ∙ get_or-map (shifted at l) (take n nodes) q [] [] (omega (arith, length-take-le n nodes nodes-fit))
       ∙ ap (shifted at l) (get_or-take n nodes q [] lt)
 
   after_long : length (nodes_after n l p nodes) ≡ length nodes
   unfolding nodes_after
-  after_long = length-set (map (shifted at l) (take n nodes) ++ drop n nodes) p (ranged (at - held_at nodes p l) (held_at nodes p l + 1) own)
+  after_long = length-set (map (shifted at l) (take n nodes) ++ drop n nodes) p
+      (ranged (at - held_at nodes p l) (held_at nodes p l + 1) own)
       ∙ length-append (map (shifted at l) (take n nodes)) (drop n nodes)
       ∙ omega (arith, moved_long, length-drop n nodes)
 
@@ -231,11 +267,14 @@ module _ (n l p : ℕ) (nodes links : List (List ℕ)) (x : List ℕ) (place : p
   after = nodes_over n (nodes_after n l p nodes) (l + 1) (inserted at l x links)
 
   before_at : (q : ℕ) → q < n → get_or before q no_node ≡ node_with pool (get_or nodes q [])
-  before_at q lt = get_or-map (node_with pool) (take n nodes) q [] no_node (omega (arith, length-take-le n nodes nodes-fit)) ∙ ap (node_with pool) (get_or-take n nodes q [] lt)
+  before_at q lt = get_or-map (node_with pool) (take n nodes) q [] no_node
+      (omega (arith, length-take-le n nodes nodes-fit)) ∙ ap (node_with pool) (get_or-take n nodes q [] lt)
 
-  after_at : (q : ℕ) → q < n → get_or after q no_node ≡ node_with (ins at (link_of x) pool) (get_or (nodes_after n l p nodes) q [])
+  after_at : (q : ℕ) → q < n → get_or after q no_node
+      ≡ node_with (ins at (link_of x) pool) (get_or (nodes_after n l p nodes) q [])
   after_at q lt =
-      get_or-map (node_with (map link_of (take (l + 1) (inserted at l x links)))) (take n (nodes_after n l p nodes)) q [] no_node (omega (arith, length-take-le n (nodes_after n l p nodes) (omega (arith, after_long))))
+      get_or-map (node_with (map link_of (take (l + 1) (inserted at l x links)))) (take n (nodes_after n l p nodes))
+      q [] no_node (omega (arith, length-take-le n (nodes_after n l p nodes) (omega (arith, after_long))))
       ∙ (λ i. node_with (pool_new i) (get_or-take n (nodes_after n l p nodes) q [] lt i))
 
   node_own : get_or after p no_node ≡ with_link (link_of x) (node_at before p)
@@ -245,26 +284,33 @@ module _ (n l p : ℕ) (nodes links : List (List ℕ)) (x : List ℕ) (place : p
       ∙ ap (λ (ls : List Link). with_links own ls) links_own
       ∙ sym (ap (with_link (link_of x)) (before_at p place))
     where
-      links_own : take (held_at nodes p l + 1) (drop (at - held_at nodes p l) (ins at (link_of x) pool)) ≡ take (link_count own) (drop (link_start own) pool) ++ (link_of x ∷ [])
+      links_own : take (held_at nodes p l + 1) (drop (at - held_at nodes p l) (ins at (link_of x) pool))
+          ≡ take (link_count own) (drop (link_start own) pool) ++ (link_of x ∷ [])
       links_own = rw pool_long at (own_links pool (link_start own) (link_count own) (link_of x))
 
   node_other : (q : ℕ) → q < n → (q ≡ p → ⊥) → get_or after q no_node ≡ node_at before q
   node_other q lt ne =
       after_at q lt ∙ ap (node_with (ins at (link_of x) pool)) (word_other q lt ne)
-      ∙ (rw pool_long at (other pool at (link_of x) (omega (arith, at_few.0, pool_long)) (omega (arith, pool_long)) (get_or nodes q []) (λ h. rw pool_long (lies q lt ne h))))
+      ∙ (rw pool_long at (other pool at (link_of x) (omega (arith, at_few.0, pool_long)) (omega (arith, pool_long))
+      (get_or nodes q []) (λ h. rw pool_long (lies q lt ne h))))
       ∙ sym (before_at q lt)
 
   before_long : length before ≡ n
   before_long = length-map (take n nodes) (node_with pool) ∙ length-take-le n nodes nodes-fit
 
   nodes_long : length after ≡ n
-  nodes_long = length-map (take n (nodes_after n l p nodes)) (node_with (map link_of (take (l + 1) (inserted at l x links)))) ∙ length-take-le n (nodes_after n l p nodes) (omega (arith, after_long))
+  nodes_long = length-map (take n (nodes_after n l p nodes))
+      (node_with (map link_of (take (l + 1) (inserted at l x links))))
+      ∙ length-take-le n (nodes_after n l p nodes) (omega (arith, after_long))
 
   -- the cell afterwards is the cell before, with one link more at the node
   pub link_added : after ≡ add_to p (link_of x) before
-  link_added = ext_get_or no_node after (add_to p (link_of x) before) (nodes_long ∙ sym (length-set before p (with_link (link_of x) (node_at before p)) ∙ before_long)) (λ q h.
+  link_added = ext_get_or no_node after (add_to p (link_of x) before)
+      (nodes_long ∙ sym (length-set before p (with_link (link_of x) (node_at before p)) ∙ before_long)) (λ q h.
       let lt : q < n = omega (arith, nodes_long) in
       by_test (eqb q p)
       (λ t. let e : p ≡ q = sym (eqb-true q p t) in
-      rw (← e) (node_own ∙ sym (get_or-set_same before p (with_link (link_of x) (node_at before p)) no_node (omega (arith, before_long)))))
-      (λ f. let ne = eqb-false q p f in node_other q lt ne ∙ sym (get_or-set_other before p q (with_link (link_of x) (node_at before p)) no_node ne)))
+      rw (← e) (node_own ∙ sym (get_or-set_same before p (with_link (link_of x) (node_at before p)) no_node
+      (omega (arith, before_long)))))
+      (λ f. let ne = eqb-false q p f in node_other q lt ne
+      ∙ sym (get_or-set_other before p q (with_link (link_of x) (node_at before p)) no_node ne)))

@@ -16,13 +16,13 @@ use Rattle.records.specs.Put.{put}
 use Rattle.records.proofs.Puts.{put_nil}
 use Rattle.cells.specs.Edit.{held_in}
 use Rattle.cells.specs.Replace.{place_for, pool_after}
-use Rattle.cells.specs.StoredCell.{Beside}
 use Rattle.cells.proofs.Sequences.Tests.{by_test}
 use Rattle.std.proofs.lemmas.List.{take-map, drop-map, map-append}
 use Rattle.cells.proofs.Editing.EditLaws.{held_bound}
 use Rattle.cells.proofs.Editing.CellStored.{set_held}
 use Rattle.cells.proofs.Editing.PoolStored.{change_one}
 use Rattle.cells.proofs.Editing.Replacing.{in_place, behind_all, same_pool, more_pool, placing}
+use Rattle.cells.proofs.Editing.Conditions.{Beside}
 
 module _ {A : Type 0} where
   -- the front, with what is put

@@ -31,7 +31,8 @@ byte1 a b c d ha hb = omega arith
 pub byte2 : (a b c d : ℕ) → a < 256 → b < 256 → c < 256 → (a + b * 256 + c * 65536 + d * 16777216) / 65536 % 256 ≡ c
 byte2 a b c d ha hb hc = omega arith
 
-pub byte3 : (a b c d : ℕ) → a < 256 → b < 256 → c < 256 → d < 256 → (a + b * 256 + c * 65536 + d * 16777216) / 16777216 % 256 ≡ d
+pub byte3 : (a b c d : ℕ) → a < 256 → b < 256 → c < 256 → d < 256
+    → (a + b * 256 + c * 65536 + d * 16777216) / 16777216 % 256 ≡ d
 byte3 a b c d ha hb hc hd = omega arith
 
 pub low8 : (a b : ℕ) → a < 256 → (a + b * 256) % 256 ≡ a
@@ -76,7 +77,8 @@ node_again w =
       flags0 = byte0 (get_or w 5 0 % 256) (f 256) (f 65536) (f 16777216) (omega arith) i;
       flags1 = byte1 (get_or w 5 0 % 256) (f 256) (f 65536) (f 16777216) (omega arith) (omega arith) i;
       flags2 = byte2 (get_or w 5 0 % 256) (f 256) (f 65536) (f 16777216) (omega arith) (omega arith) (omega arith) i;
-      flags3 = byte3 (get_or w 5 0 % 256) (f 256) (f 65536) (f 16777216) (omega arith) (omega arith) (omega arith) (omega arith) i;
+      flags3 = byte3 (get_or w 5 0 % 256) (f 256) (f 65536) (f 16777216) (omega arith) (omega arith) (omega arith)
+          (omega arith) i;
       flags4 = byte0 (get_or w 6 0 % 256) (g 256) (g 65536) 0 (omega arith) i;
       flags5 = byte1 (get_or w 6 0 % 256) (g 256) (g 65536) 0 (omega arith) (omega arith) i;
       link_id = word (get_or w 7 0 % 4294967296) (omega arith) i;
@@ -107,7 +109,14 @@ link_back l h = λ i. record {
 
 pub link_fits : (w : List ℕ) → LinkFits (to_link w)
 unfolding to_link
-link_fits w = record { area_id = omega arith; node_id = omega arith; flags0 = omega arith; flags1 = omega arith; flags2 = omega arith; length = omega arith }
+link_fits w = record {
+  area_id = omega arith;
+  node_id = omega arith;
+  flags0 = omega arith;
+  flags1 = omega arith;
+  flags2 = omega arith;
+  length = omega arith;
+}
 
 pub link_again : (w : List ℕ) → to_link (link_words (to_link w)) ≡ to_link w
 link_again w = link_back (to_link w) (link_fits w)
@@ -117,7 +126,11 @@ link_again w = link_back (to_link w) (link_fits w)
 pub junction_back : (j : PathJunction) → JunctionFits j → to_junction (junction_words j) ≡ j
 unfolding to_junction junction_words
 junction_back j h = λ i. record {
-  position = record { x = of_bits-to_bits binary32 j.position.x h.x i; y = of_bits-to_bits binary32 j.position.y h.y i };
+  position = record {
+    x = of_bits-to_bits binary32 j.position.x h.x i;
+    y = of_bits-to_bits binary32 j.position.y h.y
+        i;
+  };
   min_z = of_bits-to_bits binary32 j.min_z h.min_z i;
   max_z = of_bits-to_bits binary32 j.max_z h.max_z i;
   width = low8 j.width j.height h.width i;
@@ -144,7 +157,12 @@ junction_again w = junction_back (to_junction w) (junction_fits w)
 
 pub ref_back : (r : NodeJunctionRef) → RefFits r → to_ref (ref_words r) ≡ r
 unfolding to_ref ref_words
-ref_back r h = λ i. record { area_id = half r.area_id h.area_id i; node_id = half r.node_id h.node_id i; junction_id = half r.junction_id h.junction_id i; unk0 = half r.unk0 h.unk0 i }
+ref_back r h = λ i. record {
+  area_id = half r.area_id h.area_id i;
+  node_id = half r.node_id h.node_id i;
+  junction_id = half r.junction_id h.junction_id i;
+  unk0 = half r.unk0 h.unk0 i;
+}
 
 pub ref_fits_law : (w : List ℕ) → RefFits (to_ref w)
 unfolding to_ref

@@ -1,4 +1,5 @@
--- The own area, and what belongs to it. Only this file, the two functions' proofs and closed examples open `belongs` and
+-- The own area, and what belongs to it. Only this file, the two functions' proofs and closed examples open
+-- `belongs` and
 -- `ref_for`. Assumes nothing.
 use Prim.Native.Nat.{ℕ, zero, suc, ◌<◌}
 use native.Mathlib.Omega.{arith}
@@ -16,7 +17,8 @@ use Rattle.cells.specs.Cell.{Link, Ref, relink, reref}
 use Rattle.cells.specs.NodeWords.{area_of, first_area, relinked}
 use Rattle.cells.proofs.Sequences.Tests.{by_test, true_false}
 
-pub own_first : (n : ℕ) (nodes : List (List ℕ)) → 0 < n → 0 < length nodes → first_area (take n nodes) ≡ area_of (get_or nodes 0 [])
+pub own_first : (n : ℕ) (nodes : List (List ℕ)) → 0 < n → 0 < length nodes → first_area (take n nodes)
+    ≡ area_of (get_or nodes 0 [])
 unfolding first_area
 own_first zero nodes h k = absurd (omega arith)
 own_first (suc n) [] h k = absurd (omega arith)

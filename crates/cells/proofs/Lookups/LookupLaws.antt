@@ -1,4 +1,5 @@
--- What a search that goes up through nodes or refs has found, and that lookups in the lent lists are lookups in the cell that they hold.
+-- What a search that goes up through nodes or refs has found, and that lookups in the lent lists are lookups in the
+-- cell that they hold.
 use Prim.Native.Nat.{ℕ, zero, suc, ◌+◌, ◌<◌, ◌≤◌}
 use native.Mathlib.Omega.{arith}
 use mathlib.Core.Path.{◌≡◌, refl, ap, sym, ◌∙◌}
@@ -12,9 +13,11 @@ use borrow.Author.Tests.{eq-eqb, ne_eqb, lt-ltb, le-ltb, ltb-false}
 use Rattle.cells.specs.NodeWords.{number_of, first_area}
 use Rattle.cells.specs.Cell.{numbers, first_of}
 use Rattle.cells.specs.Memory.{Memory, over_limit}
-use Rattle.cells.specs.CellOf.{link_of, ref_of as to_ref, node_with, junction_with, nodes_of, junctions_of, refs_of, cell_of}
+use Rattle.cells.specs.CellOf.{link_of, ref_of as to_ref, node_with, junction_with, nodes_of, junctions_of, refs_of}
+use Rattle.cells.specs.CellOf.{cell_of}
 use Rattle.cells.specs.Lookup.{first_with, find, ref_matches, ref_of, or_later, or_else_ref, junction_at, junction_of}
-use Rattle.cells.specs.LookupCall.{numbers_in, first_in, find_in, node_call, place_of, ref_in, below, junction_of_call, at_place}
+use Rattle.cells.specs.LookupCall.{numbers_in, first_in, find_in, node_call, place_of, ref_in, below}
+use Rattle.cells.specs.LookupCall.{junction_of_call, at_place}
 use Rattle.cells.proofs.Sequences.Tests.{by_test}
 use Rattle.std.specs.Prelude.{Ok, Some, None, cond, ◌==◌, Option as Answered}
 use Rattle.std.specs.List.{position, position_from, find as find_one}
@@ -22,11 +25,13 @@ use Rattle.std.specs.Option.{option_map}
 use Rattle.std.proofs.lemmas.Iterator.Adapters.{position_from-zero}
 use native.Mathlib.Nat.{zero-add, add-zero}
 
-first_found : (xs : List ℕ) (k i : ℕ) → i < length xs → get_or xs i 0 ≡ k → ((j : ℕ) → j < i → get_or xs j 0 ≡ k → ⊥) → first_with xs k ≡ some i
+first_found : (xs : List ℕ) (k i : ℕ) → i < length xs → get_or xs i 0 ≡ k
+    → ((j : ℕ) → j < i → get_or xs j 0 ≡ k → ⊥) → first_with xs k ≡ some i
 unfolding first_with
 first_found [] k i lt e h = absurd (omega arith)
 first_found (x ∷ xs) k zero lt e h = rw (eq-eqb x k e)
-first_found (x ∷ xs) k (suc i) lt e h = rw (ne_eqb x k (h 0 (omega arith)), first_found xs k i (omega arith) e (λ j l. h (suc j) (omega arith)))
+first_found (x ∷ xs) k (suc i) lt e h =
+    rw (ne_eqb x k (h 0 (omega arith)), first_found xs k i (omega arith) e (λ j l. h (suc j) (omega arith)))
 
 first_none : (xs : List ℕ) (k : ℕ) → ((j : ℕ) → j < length xs → get_or xs j 0 ≡ k → ⊥) → first_with xs k ≡ none
 unfolding first_with
@@ -47,13 +52,16 @@ module _ (ws : List (List ℕ)) (n k : ℕ) (fits : n ≤ length ws) where
   long : length (numbers_in n ws) ≡ n
   long = numbers_length n ws fits
 
-  pub first_at : (i : ℕ) → i < n → number_of (get_or ws i []) ≡ k → ((j : ℕ) → j < i → number_of (get_or ws j []) ≡ k → ⊥) → Some i ≡ first_in n ws k
+  pub first_at : (i : ℕ) → i < n → number_of (get_or ws i []) ≡ k
+      → ((j : ℕ) → j < i → number_of (get_or ws j []) ≡ k → ⊥) → Some i ≡ first_in n ws k
   unfolding first_in
-  first_at i lt e h = rw (first_found (numbers_in n ws) k i (rw long lt) (number_in n ws i lt ∙ e) (λ j l q. h j l (sym (number_in n ws j (omega arith)) ∙ q)))
+  first_at i lt e h = rw (first_found (numbers_in n ws) k i (rw long lt) (number_in n ws i lt ∙ e)
+      (λ j l q. h j l (sym (number_in n ws j (omega arith)) ∙ q)))
 
   pub first_no : ((j : ℕ) → j < n → number_of (get_or ws j []) ≡ k → ⊥) → None ≡ first_in n ws k
   unfolding first_in
-  first_no h = rw (first_none (numbers_in n ws) k (λ j l q. h j (rw long at l) (sym (number_in n ws j (rw long at l)) ∙ q)))
+  first_no h = rw (first_none (numbers_in n ws) k
+      (λ j l q. h j (rw long at l) (sym (number_in n ws j (rw long at l)) ∙ q)))
 
   pub find_at : k < n → number_of (get_or ws k []) ≡ k → Some k ≡ find_in n ws k
   unfolding find_in find
@@ -72,18 +80,21 @@ pub first_is : (ws : List (List ℕ)) (k : ℕ) → position (λ w. number_of w 
 unfolding first_in numbers_in first_with
 first_is ws k =
     position_from-zero (λ w. number_of w == k) ws ∙ from 0 ws ∙ at_zero (first_with (map number_of ws) k)
-    ∙ ap (λ (l : List (List ℕ)). place_of (first_with (map number_of l) k)) (sym (take_all (length ws) ws (omega arith)))
+    ∙ ap (λ (l : List (List ℕ)). place_of (first_with (map number_of l) k))
+    (sym (take_all (length ws) ws (omega arith)))
   where
     at : ℕ → Option ℕ → Answered ℕ
     at i none = None
     at i (some j) = Some (i + j)
 
-    later : (i : ℕ) (b : Bool) (o : Option ℕ) (rest : Answered ℕ) → rest ≡ at (i + 1) o → cond b (Some i) rest ≡ at i (or_later b o)
+    later : (i : ℕ) (b : Bool) (o : Option ℕ) (rest : Answered ℕ) → rest ≡ at (i + 1) o → cond b (Some i) rest
+        ≡ at i (or_later b o)
     later i true o rest e = ap {B = Answered ℕ} Some (sym (add-zero i))
     later i false none rest e = e
     later i false (some j) rest e = e ∙ ap {B = Answered ℕ} Some (omega arith)
 
-    from : (i : ℕ) (l : List (List ℕ)) → position_from (λ w. number_of w == k) i l ≡ at i (first_with (map number_of l) k)
+    from : (i : ℕ) (l : List (List ℕ)) → position_from (λ w. number_of w == k) i l
+        ≡ at i (first_with (map number_of l) k)
     from i [] = refl
     from i (w ∷ ws) = later i (number_of w == k) (first_with (map number_of ws) k) _ (from (i + 1) ws)
 
@@ -92,23 +103,30 @@ first_is ws k =
     at_zero (some j) = ap {B = Answered ℕ} Some (zero-add j)
 
 -- the front of a list, as a list of its own
-pub find_front : (n k : ℕ) (ws : List (List ℕ)) → n ≤ length ws → find_in (length (take n ws)) (take n ws) k ≡ find_in n ws k
+pub find_front : (n k : ℕ) (ws : List (List ℕ)) → n ≤ length ws → find_in (length (take n ws)) (take n ws) k
+    ≡ find_in n ws k
 unfolding find_in numbers_in
-find_front n k ws h = ap (λ (l : List (List ℕ)). place_of (find (map number_of l) k)) (take_all (length (take n ws)) (take n ws) (omega arith))
+find_front n k ws h = ap (λ (l : List (List ℕ)). place_of (find (map number_of l) k))
+    (take_all (length (take n ws)) (take n ws) (omega arith))
 
 -- ---- a junction by the refs
 
-pub mapped_twice : {A B C : Type 0} (f : B → C) (g : A → B) (o : Answered A) → option_map (λ x. f (g x)) o ≡ option_map f (option_map g o)
+pub mapped_twice : {A B C : Type 0} (f : B → C) (g : A → B) (o : Answered A) → option_map (λ x. f (g x)) o
+    ≡ option_map f (option_map g o)
 mapped_twice f g None = refl
 mapped_twice f g (Some x) = refl
 
-pub ref_found : (own a k : ℕ) (rs : List (List ℕ)) → option_map (λ w. get_or w 2 0) (find_one (λ w. ref_matches own a k (to_ref w)) rs) ≡ place_of (ref_in own rs a k)
+pub ref_found : (own a k : ℕ) (rs : List (List ℕ))
+    → option_map (λ w. get_or w 2 0) (find_one (λ w. ref_matches own a k (to_ref w)) rs)
+    ≡ place_of (ref_in own rs a k)
 unfolding ref_in ref_of
 ref_found own a k [] = refl
 ref_found own a k (r ∷ rs) = go (ref_matches own a k (to_ref r)) (ref_found own a k rs)
   where
-    go : (b : Bool) → option_map (λ w. get_or w 2 0) (find_one (λ w. ref_matches own a k (to_ref w)) rs) ≡ place_of (ref_in own rs a k)
-        → option_map (λ w. get_or w 2 0) (cond b (Some r) (find_one (λ w. ref_matches own a k (to_ref w)) rs)) ≡ place_of (or_else_ref b (get_or r 2 0) (ref_in own rs a k))
+    go : (b : Bool) → option_map (λ w. get_or w 2 0) (find_one (λ w. ref_matches own a k (to_ref w)) rs)
+        ≡ place_of (ref_in own rs a k)
+        → option_map (λ w. get_or w 2 0) (cond b (Some r) (find_one (λ w. ref_matches own a k (to_ref w)) rs))
+        ≡ place_of (or_else_ref b (get_or r 2 0) (ref_in own rs a k))
     go true e = refl
     go false e = e
 
@@ -118,7 +136,8 @@ pub numbers_held : (m : Memory) → numbers (nodes_of m) ≡ numbers_in m.ynd.no
 unfolding nodes_of numbers_in
 numbers_held m = each (take m.ynd.node_count m.nodes)
   where
-    each : (ws : List (List ℕ)) → map (λ n. n.number) (map (node_with (map link_of (take m.ynd.link_count m.links))) ws) ≡ map number_of ws
+    each : (ws : List (List ℕ)) → map (λ n. n.number) (map (node_with (map link_of (take m.ynd.link_count m.links)))
+        ws) ≡ map number_of ws
     each [] = refl
     each (w ∷ ws) = ap (λ (t : List ℕ). number_of w ∷ t) (each ws)
 
@@ -126,7 +145,8 @@ pub area_held : (m : Memory) → first_of (nodes_of m) ≡ first_area (take m.yn
 unfolding nodes_of first_area
 area_held m = first (take m.ynd.node_count m.nodes)
   where
-    first : (ws : List (List ℕ)) → first_of (map (node_with (map link_of (take m.ynd.link_count m.links))) ws) ≡ first_area ws
+    first : (ws : List (List ℕ)) → first_of (map (node_with (map link_of (take m.ynd.link_count m.links))) ws)
+        ≡ first_area ws
     first [] = refl
     first (w ∷ ws) = refl
 
@@ -144,18 +164,26 @@ past_none (x ∷ xs) (suc j) h = past_none xs j (omega arith)
 junctions_few : (m : Memory) → length (junctions_of m) ≤ m.ynd.junction_count
 unfolding junctions_of
 junctions_few m =
-    omega (arith, length-map (take m.ynd.junction_count m.junctions) (junction_with (take m.ynd.heightmap_count m.heights)), length-take m.ynd.junction_count m.junctions)
+    omega (
+      arith,
+      length-map (take m.ynd.junction_count m.junctions)
+          (junction_with (take m.ynd.heightmap_count m.heights)),
+      length-take m.ynd.junction_count m.junctions,
+    )
 
 -- the junction at the place that `junction_of` gives is the cell's
-pub junction_held : (m : Memory) (a k : ℕ) → over_limit m.ynd ≡ false → m.ynd.node_count ≤ length m.nodes → m.ynd.ref_count ≤ length m.refs
+pub junction_held : (m : Memory) (a k : ℕ) → over_limit m.ynd ≡ false → m.ynd.node_count ≤ length m.nodes
+    → m.ynd.ref_count ≤ length m.refs
     → junction_of (cell_of m) a k ≡ at_place (junctions_of m) (junction_of_call m.ynd m.nodes m.refs a k)
 unfolding junction_of_call junction_of cell_of ref_in refs_of
 junction_held m a k o hn hr =
     rw (o, le-ltb _ _ hn, le-ltb _ _ hr)
-    (ap (λ (own : ℕ). junction_at (junctions_of m) (ref_of own (map to_ref (take m.ynd.ref_count m.refs)) a k)) (area_held m)
+    (ap (λ (own : ℕ). junction_at (junctions_of m) (ref_of own (map to_ref (take m.ynd.ref_count m.refs)) a k))
+    (area_held m)
     ∙ go (ref_of (first_area (take m.ynd.node_count m.nodes)) (map to_ref (take m.ynd.ref_count m.refs)) a k))
   where
-    go : (o : Option ℕ) → junction_at (junctions_of m) o ≡ at_place (junctions_of m) (Ok (below m.ynd.junction_count (place_of o)))
+    go : (o : Option ℕ) → junction_at (junctions_of m) o
+        ≡ at_place (junctions_of m) (Ok (below m.ynd.junction_count (place_of o)))
     go none = refl
     go (some j) = by_test (ltb j m.ynd.junction_count) (λ t. rw t)
         (λ f. rw f (past_none (junctions_of m) j (omega (arith, ltb-false j m.ynd.junction_count f, junctions_few m))))

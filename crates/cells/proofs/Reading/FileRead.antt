@@ -14,23 +14,28 @@ use Rattle.records.specs.Sections.{located, bytes_of, part_bytes, array_at}
 use Rattle.records.specs.Records.{node_at, link_at, junction_at, ref_at}
 use Rattle.cells.specs.Lists.{up_to, join_to, sum_to}
 use Rattle.cells.specs.Words.{path_node, path_link, path_junction, node_words, link_words, junction_words, ref_words}
-use Rattle.cells.specs.Checks.{root_read, sizes_check, opened, arrays_found, arrays_check, counts_of, links_at, values_at}
+use Rattle.cells.specs.Checks.{root_read, sizes_check, opened, arrays_found, arrays_check, counts_of, links_at}
+use Rattle.cells.specs.Checks.{values_at}
 use Rattle.cells.specs.Memory.{Memory, Left, unless}
-use Rattle.cells.specs.Read.{links_from, values_from, node_in, links_in, junction_in, values_in, ref_in, room_check, cell_read, filled, if_held, if_found, read_arrays, read_of}
+use Rattle.cells.specs.Read.{links_from, values_from, node_in, links_in, junction_in, values_in, ref_in, room_check}
+use Rattle.cells.specs.Read.{cell_read, filled, if_held, if_found, read_arrays, read_of}
 use Rattle.cells.specs.NodeWords.{area_of, number_of}
 use Rattle.cells.specs.Cell.{Link}
-use Rattle.cells.specs.CellOf.{link_of, ref_of, body_of, node_with, junction_with, nodes_of, junctions_of, refs_of, cell_of}
+use Rattle.cells.specs.CellOf.{link_of, ref_of, body_of, node_with, junction_with, nodes_of, junctions_of, refs_of}
+use Rattle.cells.specs.CellOf.{cell_of}
 use Rattle.cells.specs.Words.{to_node}
 use Rattle.cells.specs.CellOf.{bits_of, marks_of}
 use Rattle.records.proofs.RecordBack.{NodeFits, node_fits_law}
 use Rattle.cells.proofs.Forms.Entries.{unstep_fits, byte0, byte1, byte2, byte3, low8, high8, low16, high16, half, word}
-use Rattle.cells.specs.FileCell.{file_link_of, file_ref_of, file_body, file_node_of, file_junction_of, file_nodes, file_junctions, file_refs, cell_from, cell_by, file_cell}
+use Rattle.cells.specs.FileCell.{file_link_of, file_ref_of, file_body, file_node_of, file_junction_of, file_nodes}
+use Rattle.cells.specs.FileCell.{file_junctions, file_refs, cell_from, cell_by, file_cell}
 use Rattle.records.specs.declared.root.Root.{Root}
 use Rattle.records.specs.declared.section.Part.{Part}
 use Rattle.cells.specs.declared.count.Counts.{Counts}
 use Rattle.records.specs.declared.node.Node as raw-node
 use Rattle.std.proofs.lemmas.List.{take-map, drop-map, map-append}
-use Rattle.cells.proofs.Reading.ReadLaws.{length_up_to, length_join_to, own_part, length_links, length_values, Holds, holds}
+use Rattle.cells.proofs.Reading.ReadLaws.{length_up_to, length_join_to, own_part, length_links, length_values}
+use Rattle.cells.proofs.Reading.ReadLaws.{Holds, holds}
 use Rattle.std.specs.Prelude.{Result, Ok, Err, Option, Some, None}
 use Rattle.numbers.specs.Refusals.{Answer}
 use Rattle.numbers.specs.declared.refusal.Refusal.{Refusal}
@@ -47,7 +52,8 @@ up_to_same f g (suc n) e = λ k. up_to_same f g n (λ i h. e i (omega arith)) k 
 pub map_up_to : {A B : Type 0} (h : A → B) (f : ℕ → A) (n : ℕ) → map h (up_to f n) ≡ up_to (λ i. h (f i)) n
 unfolding up_to
 map_up_to h f zero = refl
-map_up_to {B = B} h f (suc n) = map-append h (up_to f n) (f n ∷ []) ∙ ap (λ (l : List B). l ++ (h (f n) ∷ [])) (map_up_to h f n)
+map_up_to {B = B} h f (suc n) = map-append h (up_to f n) (f n ∷ [])
+    ∙ ap (λ (l : List B). l ++ (h (f n) ∷ [])) (map_up_to h f n)
 
 -- ---- the words of each record
 
@@ -91,13 +97,25 @@ body_words n first h = λ i. record { position = bits_of (path_node n 0).positio
 
 -- a node, with its links from `first` on
 pub node_words_law : (ls : List Link) (n : raw-node.Node) (first : ℕ) → NodeFits n
-    → node_with ls (node_words (path_node n first)) ≡ record { area = n.area_id; number = n.node_id; links = take (n.link_count_flags / 8) (drop first ls); body = file_body n }
+    → node_with ls (node_words (path_node n first))
+    ≡ record {
+      area = n.area_id;
+      number = n.node_id;
+      links = take (n.link_count_flags / 8) (drop first ls);
+      body = file_body n;
+    }
 unfolding area_of number_of node_words path_node to_node
 node_words_law ls n first h =
     let b = read_back n h in
-    λ i. record { area = (b i).area_id; number = (b i).node_id; links = take (b i).link_count (drop first ls); body = body_words n first h i }
+    λ i. record {
+      area = (b i).area_id;
+      number = (b i).node_id;
+      links = take (b i).link_count (drop first ls);
+      body = body_words n first h i;
+    }
 
-pub link_words_law : (s : List ℕ) (at : ℕ) → link_of (link_words (path_link (link_at s at))) ≡ file_link_of (link_at s at)
+pub link_words_law : (s : List ℕ) (at : ℕ) → link_of (link_words (path_link (link_at s at)))
+    ≡ file_link_of (link_at s at)
 unfolding link_words path_link link_at
 link_words_law s at = λ i. record {
   area = le16 s at;
@@ -112,18 +130,23 @@ link_words_law s at = λ i. record {
 
 -- ---- nodes with their links, junctions with their values
 
-links_one : (n l : List ℕ) (i : ℕ) → map link_of (links_in n l i) ≡ up_to (λ k. file_link_of (link_at l (((node_at n (i * 40)).link_id + k) * 8))) (links_at n i)
+links_one : (n l : List ℕ) (i : ℕ) → map link_of (links_in n l i)
+    ≡ up_to (λ k. file_link_of (link_at l (((node_at n (i * 40)).link_id + k) * 8))) (links_at n i)
 unfolding links_in links_from
 links_one n l i =
     let at : ℕ → ℕ = λ k. ((node_at n (i * 40)).link_id + k) * 8 in
     map_up_to link_of (λ k. link_words (path_link (link_at l (at k)))) (links_at n i)
-    ∙ up_to_same (λ k. link_of (link_words (path_link (link_at l (at k))))) (λ k. file_link_of (link_at l (at k))) (links_at n i) (λ k h. link_words_law l (at k))
+    ∙ up_to_same (λ k. link_of (link_words (path_link (link_at l (at k))))) (λ k. file_link_of (link_at l (at k)))
+    (links_at n i) (λ k h. link_words_law l (at k))
 
 -- each one's own part of the joined lists
-own : {A : Type 0} (f : ℕ → List A) (g : ℕ → ℕ) → ((i : ℕ) → length (f i) ≡ g i) → (n i : ℕ) → i < n → take (g i) (drop (sum_to g i) (join_to f n)) ≡ f i
-own {A = A} f g len n i h = ap (λ (x : List A). take (g i) (drop (sum_to g i) x)) (sym (append-nil (join_to f n))) ∙ own_part f g len n i [] h
+own : {A : Type 0} (f : ℕ → List A) (g : ℕ → ℕ) → ((i : ℕ) → length (f i) ≡ g i) → (n i : ℕ) → i < n
+    → take (g i) (drop (sum_to g i) (join_to f n)) ≡ f i
+own {A = A} f g len n i h = ap (λ (x : List A). take (g i) (drop (sum_to g i) x)) (sym (append-nil (join_to f n)))
+    ∙ own_part f g len n i [] h
 
-node_one : (n l : List ℕ) (count i : ℕ) → i < count → node_with (map link_of (join_to (links_in n l) count)) (node_in n i) ≡ file_node_of l (node_at n (i * 40))
+node_one : (n l : List ℕ) (count i : ℕ) → i < count
+    → node_with (map link_of (join_to (links_in n l) count)) (node_in n i) ≡ file_node_of l (node_at n (i * 40))
 unfolding node_in
 node_one n l count i h =
     let r = node_at n (i * 40) in
@@ -134,7 +157,8 @@ node_one n l count i h =
     ∙ (λ k. record {
       area = r.area_id;
       number = r.node_id;
-      links = (ap (take c) (drop-map link_of from all) ∙ take-map link_of c (drop from all) ∙ ap (map link_of) (own (links_in n l) (links_at n) (length_links n l) count i h) ∙ links_one n l i) k;
+      links = (ap (take c) (drop-map link_of from all) ∙ take-map link_of c (drop from all)
+          ∙ ap (map link_of) (own (links_in n l) (links_at n) (length_links n l) count i h) ∙ links_one n l i) k;
       body = file_body r;
     })
 
@@ -146,16 +170,21 @@ height_small : (s : List ℕ) (at : ℕ) → (junction_at s at).heightmap_dim_y 
 unfolding junction_at
 height_small s at = omega arith
 
-values_one : (j h : List ℕ) (i : ℕ) → values_in j h i ≡ up_to (λ k. byte_at h ((junction_at j (i * 12)).heightmap_ptr + k)) (values_at j i)
+values_one : (j h : List ℕ) (i : ℕ) → values_in j h i
+    ≡ up_to (λ k. byte_at h ((junction_at j (i * 12)).heightmap_ptr + k)) (values_at j i)
 unfolding values_in values_from
 values_one j h i = refl
 
-junction_one : (j h : List ℕ) (count i : ℕ) → i < count → junction_with (join_to (values_in j h) count) (junction_in j i) ≡ file_junction_of h (junction_at j (i * 12))
+junction_one : (j h : List ℕ) (count i : ℕ) → i < count
+    → junction_with (join_to (values_in j h) count) (junction_in j i) ≡ file_junction_of h (junction_at j (i * 12))
 unfolding junction_in junction_words path_junction
 junction_one j h count i lt =
     let r = junction_at j (i * 12) in
-    let w : (r.heightmap_dim_x + r.heightmap_dim_y * 256) % 256 ≡ r.heightmap_dim_x = low8 r.heightmap_dim_x r.heightmap_dim_y (width_small j (i * 12)) in
-    let t : (r.heightmap_dim_x + r.heightmap_dim_y * 256) / 256 % 256 ≡ r.heightmap_dim_y = high8 r.heightmap_dim_x r.heightmap_dim_y (width_small j (i * 12)) (height_small j (i * 12)) in
+    let w : (r.heightmap_dim_x + r.heightmap_dim_y * 256) % 256
+    ≡ r.heightmap_dim_x = low8 r.heightmap_dim_x r.heightmap_dim_y (width_small j (i * 12)) in
+    let t : (r.heightmap_dim_x + r.heightmap_dim_y * 256) / 256 % 256
+    ≡ r.heightmap_dim_y = high8 r.heightmap_dim_x r.heightmap_dim_y (width_small j (i * 12))
+    (height_small j (i * 12)) in
     λ k. record {
       x = to_bits binary32 (unstep 2 r.position_x);
       y = to_bits binary32 (unstep 2 r.position_y);
@@ -163,7 +192,8 @@ junction_one j h count i lt =
       high = to_bits binary32 (unstep 5 r.max_z);
       width = w k;
       height = t k;
-      values = ((λ q. take (w q * t q) (drop (sum_to (values_at j) i) (join_to (values_in j h) count))) ∙ own (values_in j h) (values_at j) (length_values j h) count i lt ∙ values_one j h i) k;
+      values = ((λ q. take (w q * t q) (drop (sum_to (values_at j) i) (join_to (values_in j h) count)))
+          ∙ own (values_in j h) (values_at j) (length_values j h) count i lt ∙ values_one j h i) k;
     }
 
 ref_one : (r : List ℕ) (i : ℕ) → ref_of (ref_in r i) ≡ file_ref_of (ref_at r (i * 8))
@@ -183,10 +213,13 @@ module _ (root : Root) (n l j h r : List ℕ) (m : Memory) where
   left = filled root k n l j h r m
 
   links_front : take k.links (join_to (links_in n l) k.nodes ++ drop k.links m.links) ≡ join_to (links_in n l) k.nodes
-  links_front = take_at (join_to (links_in n l) k.nodes) (drop k.links m.links) k.links (length_join_to (links_in n l) (links_at n) (length_links n l) k.nodes)
+  links_front = take_at (join_to (links_in n l) k.nodes) (drop k.links m.links) k.links
+      (length_join_to (links_in n l) (links_at n) (length_links n l) k.nodes)
 
-  values_front : take k.heights (join_to (values_in j h) k.junctions ++ drop k.heights m.heights) ≡ join_to (values_in j h) k.junctions
-  values_front = take_at (join_to (values_in j h) k.junctions) (drop k.heights m.heights) k.heights (length_join_to (values_in j h) (values_at j) (length_values j h) k.junctions)
+  values_front : take k.heights (join_to (values_in j h) k.junctions ++ drop k.heights m.heights)
+      ≡ join_to (values_in j h) k.junctions
+  values_front = take_at (join_to (values_in j h) k.junctions) (drop k.heights m.heights) k.heights
+      (length_join_to (values_in j h) (values_at j) (length_values j h) k.junctions)
 
   nodes_left_law : nodes_of left ≡ file_nodes n l
   unfolding nodes_of file_nodes filled cell_read
@@ -194,7 +227,8 @@ module _ (root : Root) (n l j h r : List ℕ) (m : Memory) where
       let ls = map link_of (join_to (links_in n l) k.nodes) in
       (λ i. map (node_with (map link_of (links_front i))) (front (node_in n) k.nodes (drop k.nodes m.nodes) i))
       ∙ map_up_to (node_with ls) (node_in n) k.nodes
-      ∙ up_to_same (λ i. node_with ls (node_in n i)) (λ i. file_node_of l (node_at n (i * 40))) k.nodes (λ i lt. node_one n l k.nodes i lt)
+      ∙ up_to_same (λ i. node_with ls (node_in n i)) (λ i. file_node_of l (node_at n (i * 40))) k.nodes
+      (λ i lt. node_one n l k.nodes i lt)
 
   junctions_left_law : junctions_of left ≡ file_junctions j h
   unfolding junctions_of file_junctions filled cell_read
@@ -202,7 +236,8 @@ module _ (root : Root) (n l j h r : List ℕ) (m : Memory) where
       let hs = join_to (values_in j h) k.junctions in
       (λ i. map (junction_with (values_front i)) (front (junction_in j) k.junctions (drop k.junctions m.junctions) i))
       ∙ map_up_to (junction_with hs) (junction_in j) k.junctions
-      ∙ up_to_same (λ i. junction_with hs (junction_in j i)) (λ i. file_junction_of h (junction_at j (i * 12))) k.junctions (λ i lt. junction_one j h k.junctions i lt)
+      ∙ up_to_same (λ i. junction_with hs (junction_in j i)) (λ i. file_junction_of h (junction_at j (i * 12)))
+      k.junctions (λ i lt. junction_one j h k.junctions i lt)
 
   refs_left_law : refs_of left ≡ file_refs r
   unfolding refs_of file_refs filled cell_read
@@ -225,11 +260,13 @@ module _ (root : Root) (n l j h r : List ℕ) (m : Memory) where
 
 -- what holds of the five arrays of an accepted reading, within the limits of 6, and of the memory filled with them
 module _ (s g : List ℕ) (m : Memory) (P : (n l j h r : List ℕ) → Memory → Type 0)
-    (each : (n l j h r : List ℕ) → Holds n j r (counts_of n j r) → P n l j h r (filled (root_read s) (counts_of n j r) n l j h r m)) where
+    (each : (n l j h r : List ℕ) → Holds n j r (counts_of n j r)
+    → P n l j h r (filled (root_read s) (counts_of n j r) n l j h r m)) where
   abbrev root : Root
   root = root_read s
 
-  arrays_each : (n l j h r : List ℕ) → (read_arrays root n l j h r m).answer ≡ (Ok tt) → P n l j h r (read_arrays root n l j h r m).memory
+  arrays_each : (n l j h r : List ℕ) → (read_arrays root n l j h r m).answer ≡ (Ok tt)
+      → P n l j h r (read_arrays root n l j h r m).memory
   unfolding read_arrays
   arrays_each n l j h r e = go (arrays_check n l j h r) refl e
     where
@@ -239,11 +276,15 @@ module _ (s g : List ℕ) (m : Memory) (P : (n l j h r : List ℕ) → Memory �
       fill : Counts → Left
       fill k = record { answer = (Ok tt); memory = filled root k n l j h r m }
 
-      inner : (k : Counts) (c : Answer) → Holds n j r k → (unless c m (fill k)).answer ≡ (Ok tt) → P n l j h r (unless c m (fill k)).memory
+      inner : (k : Counts) (c : Answer) → Holds n j r k → (unless c m (fill k)).answer ≡ (Ok tt)
+          → P n l j h r (unless c m (fill k)).memory
       inner k (Err a) q t = not_refused t
-      inner k (Ok tt) q t = subst (λ (x : Counts). P n l j h r (filled root x n l j h r m)) (sym q.counts) (each n l j h r (record { few_nodes = q.few_nodes; few_junctions = q.few_junctions; counts = refl }))
+      inner k (Ok tt) q t = subst (λ (x : Counts). P n l j h r (filled root x n l j h r m)) (sym q.counts)
+          (each n l j h r (record { few_nodes = q.few_nodes; few_junctions = q.few_junctions; counts = refl }))
 
-      go : (c : Result Counts Refusal) → arrays_check n l j h r ≡ c → (if_held c m (λ k. unless (short k) m (fill k))).answer ≡ (Ok tt) → P n l j h r (if_held c m (λ k. unless (short k) m (fill k))).memory
+      go : (c : Result Counts Refusal) → arrays_check n l j h r ≡ c
+          → (if_held c m (λ k. unless (short k) m (fill k))).answer ≡ (Ok tt)
+          → P n l j h r (if_held c m (λ k. unless (short k) m (fill k))).memory
       go (Err a) d t = not_refused t
       go (Ok k) d t = inner k (short k) (holds n l j h r k d) t
 
@@ -251,20 +292,25 @@ module _ (s g : List ℕ) (m : Memory) (P : (n l j h r : List ℕ) → Memory �
   found pointer count size = located pointer count size (length s) (length g)
 
   abbrev PartsHold : (a b c d f : Option Part) → Memory → Type 0
-  PartsHold a b c d f = P (part_bytes a s g) (part_bytes b s g) (part_bytes c s g) (part_bytes d s g) (part_bytes f s g)
+  PartsHold a b c d f = P (part_bytes a s g) (part_bytes b s g) (part_bytes c s g) (part_bytes d s g)
+      (part_bytes f s g)
 
   read_each : (read_of s g m).answer ≡ (Ok tt)
-      → PartsHold (found root.nodes root.node_count 40) (found root.links root.link_count 8) (found root.junctions root.junction_count 12)
+      → PartsHold (found root.nodes root.node_count 40) (found root.links root.link_count 8)
+      (found root.junctions root.junction_count 12)
       (found root.heightmap root.heightmap_count 1) (found root.refs root.ref_count 8) (read_of s g m).memory
   unfolding read_of arrays_found
   read_each e = sizes (sizes_check (length s) (length g)) e
     where
       reading : Part → Part → Part → Part → Part → Left
-      reading n l j h r = read_arrays root (bytes_of n s g) (bytes_of l s g) (bytes_of j s g) (bytes_of h s g) (bytes_of r s g) m
+      reading n l j h r = read_arrays root (bytes_of n s g) (bytes_of l s g) (bytes_of j s g) (bytes_of h s g)
+          (bytes_of r s g) m
 
       by : Option Part → Option Part → Option Part → Option Part → Option Part → Left
       by a b c d f =
-          if_found (opened array.Nodes a λ n. opened array.Links b λ l. opened array.Junctions c λ j. opened array.Heightmap d λ h. opened array.Refs f λ r. Ok (record { nodes = n; links = l; junctions = j; heights = h; refs = r })) m reading
+          if_found (opened array.Nodes a λ n. opened array.Links b λ l. opened array.Junctions c λ j. opened
+          array.Heightmap d λ h. opened array.Refs f λ r. Ok
+          (record { nodes = n; links = l; junctions = j; heights = h; refs = r })) m reading
 
       arrays : (a b c d f : Option Part) → (by a b c d f).answer ≡ (Ok tt) → PartsHold a b c d f (by a b c d f).memory
       arrays None b c d f t = not_refused t
@@ -272,23 +318,32 @@ module _ (s g : List ℕ) (m : Memory) (P : (n l j h r : List ℕ) → Memory �
       arrays (Some n) (Some l) None d f t = not_refused t
       arrays (Some n) (Some l) (Some j) None f t = not_refused t
       arrays (Some n) (Some l) (Some j) (Some h) None t = not_refused t
-      arrays (Some n) (Some l) (Some j) (Some h) (Some r) t = arrays_each (bytes_of n s g) (bytes_of l s g) (bytes_of j s g) (bytes_of h s g) (bytes_of r s g) t
+      arrays (Some n) (Some l) (Some j) (Some h) (Some r) t = arrays_each (bytes_of n s g) (bytes_of l s g)
+          (bytes_of j s g) (bytes_of h s g) (bytes_of r s g) t
 
-      sizes : (c : Answer) → (unless c m (if_found (arrays_found (root_read s) (length s) (length g)) m reading)).answer ≡ (Ok tt)
-          → PartsHold (found root.nodes root.node_count 40) (found root.links root.link_count 8) (found root.junctions root.junction_count 12)
-          (found root.heightmap root.heightmap_count 1) (found root.refs root.ref_count 8) (unless c m (if_found (arrays_found (root_read s) (length s) (length g)) m reading)).memory
+      sizes : (c : Answer) → (unless c m (if_found (arrays_found (root_read s) (length s) (length g)) m
+          reading)).answer ≡ (Ok tt)
+          → PartsHold (found root.nodes root.node_count 40) (found root.links root.link_count 8)
+          (found root.junctions root.junction_count 12)
+          (found root.heightmap root.heightmap_count 1) (found root.refs root.ref_count 8)
+          (unless c m (if_found (arrays_found (root_read s) (length s) (length g)) m reading)).memory
       sizes (Err a) t = not_refused t
       sizes (Ok tt) t =
-          arrays (found root.nodes root.node_count 40) (found root.links root.link_count 8) (found root.junctions root.junction_count 12)
+          arrays (found root.nodes root.node_count 40) (found root.links root.link_count 8)
+          (found root.junctions root.junction_count 12)
           (found root.heightmap root.heightmap_count 1) (found root.refs root.ref_count 8) t
 
 -- the first cell: what an accepted reading of two sections leaves in the memory lent to it
-pub read_cell : (s g : List ℕ) (m : Memory) → (read_of s g m).answer ≡ (Ok tt) → cell_of (read_of s g m).memory ≡ file_cell s g
+pub read_cell : (s g : List ℕ) (m : Memory) → (read_of s g m).answer ≡ (Ok tt) → cell_of (read_of s g m).memory
+    ≡ file_cell s g
 unfolding file_cell cell_by array_at
 read_cell s g m e =
-    read_each s g m (λ n l j h r x. cell_of x ≡ cell_from (root_read s) n l j h r) (λ n l j h r q. filled_cell (root_read s) n l j h r m) e
+    read_each s g m (λ n l j h r x. cell_of x ≡ cell_from (root_read s) n l j h r)
+    (λ n l j h r q. filled_cell (root_read s) n l j h r m) e
 
 -- what holds of whatever five arrays, within the limits of 6, fill the memory with holds after an accepted reading
-module _ (P : Memory → Type 0) (s g : List ℕ) (m : Memory) (each : (n l j h r : List ℕ) → Holds n j r (counts_of n j r) → P (filled (root_read s) (counts_of n j r) n l j h r m)) where
+module _ (P : Memory → Type 0) (s g : List ℕ) (m : Memory)
+    (each : (n l j h r : List ℕ) → Holds n j r (counts_of n j r)
+    → P (filled (root_read s) (counts_of n j r) n l j h r m)) where
   pub read_all : (read_of s g m).answer ≡ (Ok tt) → P (read_of s g m).memory
   read_all e = read_each s g m (λ n l j h r x. P x) each e

@@ -28,7 +28,13 @@ whole m h =
     by_test (ltb (length m.junctions) m.ynd.junction_count) (λ t. lacks (rw (f₀, f₁, t) at h)) (λ f₂.
     by_test (ltb (length m.heights) m.ynd.heightmap_count) (λ t. lacks (rw (f₀, f₁, f₂, t) at h)) (λ f₃.
     by_test (ltb (length m.refs) m.ynd.ref_count) (λ t. lacks (rw (f₀, f₁, f₂, f₃, t) at h)) (λ f₄.
-    record { nodes_fit = ltb-false _ _ f₀; links_fit = ltb-false _ _ f₁; junctions_fit = ltb-false _ _ f₂; heights_fit = ltb-false _ _ f₃; refs_fit = ltb-false _ _ f₄ })))))
+    record {
+      nodes_fit = ltb-false _ _ f₀;
+      links_fit = ltb-false _ _ f₁;
+      junctions_fit = ltb-false _ _ f₂;
+      heights_fit = ltb-false _ _ f₃;
+      refs_fit = ltb-false _ _ f₄;
+    })))))
   where
     lacks : {P : Type 0} {l : Lent} → ◌≡◌ {A = Answer} (Err (TooShort l)) (Ok tt) → P
     lacks e = cc

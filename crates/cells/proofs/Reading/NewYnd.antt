@@ -10,6 +10,15 @@ use Rattle.cells.specs.NewYnd.{new_ynd}
 pub new_empty :
     (nodes links junctions : List (List ℕ)) (heights : List ℕ) (refs : List (List ℕ))
     → cell_of (memory new_ynd nodes links junctions heights refs)
-    ≡ record { nodes = []; junctions = []; refs = []; vehicles = 0; peds = 0; vft = new_ynd.vft; words = new_ynd.unknowns }
+    ≡ record {
+      nodes = [];
+      junctions = [];
+      refs = [];
+      vehicles = 0;
+      peds = 0;
+      vft = new_ynd.vft;
+      words =
+          new_ynd.unknowns;
+    }
 unfolding new_ynd cell_of nodes_of junctions_of refs_of
 new_empty nodes links junctions heights refs = refl

@@ -25,7 +25,8 @@ module _ (g : List ℕ) (m : Memory) where
   pub undrawn_read : length g ≤ 16777216
       → read_of [] g m
       ≡ record { answer = (Ok tt); memory = memory new_ynd m.nodes m.links m.junctions m.heights m.refs }
-  unfolding read_of sizes_check arrays_found located new_root new_ynd read_arrays arrays_check scan room_check filled cell_read
+  unfolding read_of sizes_check arrays_found located new_root new_ynd read_arrays arrays_check scan room_check
+      filled cell_read
       up_to join_to sum_to bytes_of extent
   undrawn_read h =
       rw (
@@ -44,8 +45,18 @@ module _ (g : List ℕ) (m : Memory) where
 
 -- the cell: nothing in it, and the default words
 pub undrawn_cell : (g : List ℕ) → file_cell [] g
-    ≡ record { nodes = []; junctions = []; refs = []; vehicles = 0; peds = 0; vft = new_ynd.vft; words = new_ynd.unknowns }
-unfolding file_cell cell_by cell_from file_nodes file_junctions file_refs new_root new_ynd array_at located bytes_of extent up_to
+    ≡ record {
+      nodes = [];
+      junctions = [];
+      refs = [];
+      vehicles = 0;
+      peds = 0;
+      vft = new_ynd.vft;
+      words =
+          new_ynd.unknowns;
+    }
+unfolding file_cell cell_by cell_from file_nodes file_junctions file_refs new_root new_ynd array_at located bytes_of
+    extent up_to
 undrawn_cell g = refl
 
 -- written, it is the 1,152 bytes of root and pages, whatever lists are lent

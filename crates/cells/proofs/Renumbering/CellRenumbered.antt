@@ -9,8 +9,10 @@ use lib.ListN.{length, get_or, take, drop, length-map}
 use lib.Seq.{take_at, length-take-le, get_or-drop}
 use lib.ListN.{get_or-append}
 use Rattle.cells.specs.Order.{keep, parted, Old, new_place, new_places}
-use Rattle.cells.specs.NodeWords.{area_of, number_of, is_ped, numbered, number_from, reordered, first_area, old_of, relinked}
-use Rattle.cells.specs.Renumber.{over, vehicles, peds, renumber_lists, recounted, new_lists, renumber_memory, answer_of, left_by, renumber}
+use Rattle.cells.specs.NodeWords.{area_of, number_of, is_ped, numbered, number_from, reordered, first_area, old_of}
+use Rattle.cells.specs.NodeWords.{relinked}
+use Rattle.cells.specs.Renumber.{over, vehicles, peds, renumber_lists, recounted, new_lists, renumber_memory}
+use Rattle.cells.specs.Renumber.{answer_of, left_by, renumber}
 use Rattle.cells.specs.RenumberParts.{Room}
 use lib.Dec.{ltb}
 use borrow.Author.Tests.{ltb-false}
@@ -21,7 +23,8 @@ use Rattle.cells.proofs.Reading.Fits.{whole}
 use Rattle.cells.proofs.Renumbering.Parted.{places_length, places_at}
 use Rattle.cells.proofs.Renumbering.Parted as any
 pub use Rattle.cells.proofs.Renumbering.Reordered.{number_length}
-use Rattle.cells.specs.Cell.{Link, Node, is_ped_node, is_vehicle_node, first_of, old_nodes, relink, reref, renode, number_nodes, renumber_cell, ped_flags}
+use Rattle.cells.specs.Cell.{Link, Node, is_ped_node, is_vehicle_node, first_of, old_nodes, relink, reref, renode}
+use Rattle.cells.specs.Cell.{number_nodes, renumber_cell, ped_flags}
 use Rattle.cells.specs.Memory.{Memory, over_limit, short}
 use Rattle.cells.specs.CellOf.{link_of, ref_of, body_of, node_with, nodes_of, junctions_of, refs_of, cell_of}
 use Rattle.cells.specs.Words.{to_node}
@@ -34,7 +37,8 @@ pub parted_length : (ns : List (List ℕ)) → length (parted is_ped ns) ≡ len
 parted_length ns = any.parted_length is_ped ns
 
 -- what an accepted call has room for
-pub accepted : (m : Memory) (scratch places : ℕ) → answer_of (over_limit m.ynd) m.ynd.node_count (short m) scratch places ≡ (Ok tt) → Room m scratch places
+pub accepted : (m : Memory) (scratch places : ℕ)
+    → answer_of (over_limit m.ynd) m.ynd.node_count (short m) scratch places ≡ (Ok tt) → Room m scratch places
 unfolding answer_of
 accepted m scratch places e =
     by_test (over_limit m.ynd) (λ t. not_refused (rw t at e)) (λ f₀.
@@ -42,14 +46,23 @@ accepted m scratch places e =
     by_test (ltb scratch 65536) (λ t. not_refused (rw (f₀, f₁, t) at e)) (λ f₄.
     by_test (ltb places m.ynd.node_count) (λ t. not_refused (rw (f₀, f₁, f₄, t) at e)) (λ f₅.
     let w = whole m f₁ in
-    record { few = (within m.ynd f₀).0; nodes_fit = w.nodes_fit; links_fit = w.links_fit; refs_fit = w.refs_fit; scratch_fits = ltb-false _ _ f₄; places_fit = ltb-false _ _ f₅ }))))
+    record {
+      few = (within m.ynd f₀).0;
+      nodes_fit = w.nodes_fit;
+      links_fit = w.links_fit;
+      refs_fit = w.refs_fit;
+      scratch_fits = ltb-false _ _ f₄;
+      places_fit = ltb-false _ _ f₅;
+    }))))
   where
-    lists : {P : Type 0} (next lack : Answer) → short m ≡ lack → unless (short m) next ≡ Ok tt → (short m ≡ Ok tt → P) → P
+    lists : {P : Type 0} (next lack : Answer) → short m ≡ lack → unless (short m) next ≡ Ok tt
+        → (short m ≡ Ok tt → P) → P
     lists next (Ok _) q d k = k q
     lists next (Err r) q d k = not_refused (rw q at d)
 
 -- what is read of each entry after a change of each
-map_map : {A B C D : Type 0} (f : A → B) (g : C → A) (h : C → D) (k : D → B) → ((x : C) → f (g x) ≡ k (h x)) → (l : List C) → map f (map g l) ≡ map k (map h l)
+map_map : {A B C D : Type 0} (f : A → B) (g : C → A) (h : C → D) (k : D → B) → ((x : C) → f (g x) ≡ k (h x))
+    → (l : List C) → map f (map g l) ≡ map k (map h l)
 map_map f g h k e [] = refl
 map_map {B = B} f g h k e (x ∷ xs) = λ i. e x i ∷ map_map f g h k e xs i
 
@@ -62,13 +75,15 @@ unfolding relinked
 ref_new o w = refl
 
 -- a node with another number is the node, but for the number
-node_new : (o : Old) (ls : List Link) (k : ℕ) (w : List ℕ) → k < 65536 → node_with (map (relink o) ls) (numbered k w) ≡ renode o k (node_with ls w)
+node_new : (o : Old) (ls : List Link) (k : ℕ) (w : List ℕ) → k < 65536
+    → node_with (map (relink o) ls) (numbered k w) ≡ renode o k (node_with ls w)
 unfolding numbered area_of number_of body_of to_node
 node_new o ls k w lt = λ i. record {
   area = (let e : (get_or w 0 0 % 65536 + k * 65536) % 65536 ≡ get_or w 0 0 % 65536 = omega arith in e) i;
   number = (let e : (get_or w 0 0 % 65536 + k * 65536) / 65536 % 65536 ≡ k = omega arith in e) i;
   links = ((λ j. take (get_or-drop 1 w 5 0 j / 65536 % 256) (drop (get_or-drop 1 w 6 0 j) (map (relink o) ls)))
-      ∙ ap (take (get_or w 6 0 / 65536 % 256)) (drop-map (relink o) (get_or w 7 0) ls) ∙ take-map (relink o) (get_or w 6 0 / 65536 % 256) (drop (get_or w 7 0) ls)) i;
+      ∙ ap (take (get_or w 6 0 / 65536 % 256)) (drop-map (relink o) (get_or w 7 0) ls)
+      ∙ take-map (relink o) (get_or w 6 0 / 65536 % 256) (drop (get_or w 7 0) ls)) i;
   body = same_body (get_or w 0 0 % 65536 + k * 65536) w i;
 }
   where
@@ -82,24 +97,32 @@ unfolding number_from number_nodes
 nodes_new o ls k [] h = refl
 nodes_new o ls k (w ∷ ws) h = λ i. node_new o ls k w (omega arith) i ∷ nodes_new o ls (suc k) ws (omega arith) i
 
-parted_new : (ls : List Link) (ws : List (List ℕ)) → parted is_ped_node (map (node_with ls) ws) ≡ map (node_with ls) (parted is_ped ws)
+parted_new : (ls : List Link) (ws : List (List ℕ)) → parted is_ped_node (map (node_with ls) ws)
+    ≡ map (node_with ls) (parted is_ped ws)
 unfolding parted is_ped body_of to_node
 parted_new ls ws = rw (map-append, map_keep, map_keep)
 
-pub old_same : (ls : List Link) (n : ℕ) (nodes : List (List ℕ)) → old_of n nodes ≡ old_nodes (map (node_with ls) (take n nodes))
+pub old_same : (ls : List Link) (n : ℕ) (nodes : List (List ℕ)) → old_of n nodes
+    ≡ old_nodes (map (node_with ls) (take n nodes))
 unfolding old_of first_area is_ped body_of to_node
-old_same ls n nodes = λ i. record { area = area (take n nodes) i; numbers = each (λ x. x.number) (take n nodes) i; peds = each is_ped_node (take n nodes) i }
+old_same ls n nodes = λ i. record {
+  area = area (take n nodes) i;
+  numbers = each (λ x. x.number) (take n nodes) i;
+  peds = each is_ped_node (take n nodes) i;
+}
   where
     area : (ws : List (List ℕ)) → first_area ws ≡ first_of (map (node_with ls) ws)
     area [] = refl
     area (w ∷ ws) = refl
 
-    each : {B : Type 0} (f : Node → B) (ws : List (List ℕ)) → map (λ w. f (node_with ls w)) ws ≡ map f (map (node_with ls) ws)
+    each : {B : Type 0} (f : Node → B) (ws : List (List ℕ)) → map (λ w. f (node_with ls w)) ws
+        ≡ map f (map (node_with ls) ws)
     each f [] = refl
     each {B} f (w ∷ ws) = ap {B = List B} (λ t. f (node_with ls w) ∷ t) (each f ws)
 
 -- the front of what is stored over the front
-front : {A : Type 0} (f : List A → List A) (n : ℕ) (l : List A) → length (f (take n l)) ≡ n → take n (over f n l) ≡ f (take n l)
+front : {A : Type 0} (f : List A → List A) (n : ℕ) (l : List A) → length (f (take n l)) ≡ n → take n (over f n l)
+    ≡ f (take n l)
 front f n l e = take_at (f (take n l)) (drop n l) n e
 
 module _ (m : Memory) (ps : List ℕ) {s : ℕ}
@@ -122,13 +145,16 @@ module _ (m : Memory) (ps : List ℕ) {s : ℕ}
   new_links : map link_of (take m.ynd.link_count (renumber_memory m ps).links) ≡ map (relink o) ls
   unfolding renumber_memory new_lists renumber_lists
   new_links =
-      ap (map link_of) (front (map (relinked o)) m.ynd.link_count m.links (relinked_long m.ynd.link_count m.links room.links_fit))
+      ap (map link_of) (front (map (relinked o)) m.ynd.link_count m.links
+      (relinked_long m.ynd.link_count m.links room.links_fit))
       ∙ map_map link_of (relinked o) link_of (relink o) (link_new o) (take m.ynd.link_count m.links)
 
-  new_refs : map ref_of (take m.ynd.ref_count (renumber_memory m ps).refs) ≡ map (reref o) (map ref_of (take m.ynd.ref_count m.refs))
+  new_refs : map ref_of (take m.ynd.ref_count (renumber_memory m ps).refs)
+      ≡ map (reref o) (map ref_of (take m.ynd.ref_count m.refs))
   unfolding renumber_memory new_lists renumber_lists
   new_refs =
-      ap (map ref_of) (front (map (relinked o)) m.ynd.ref_count m.refs (relinked_long m.ynd.ref_count m.refs room.refs_fit))
+      ap (map ref_of) (front (map (relinked o)) m.ynd.ref_count m.refs
+      (relinked_long m.ynd.ref_count m.refs room.refs_fit))
       ∙ map_map ref_of (relinked o) ref_of (reref o) (ref_new o) (take m.ynd.ref_count m.refs)
 
   ordered_long : length (parted is_ped ns) ≡ n
@@ -138,19 +164,23 @@ module _ (m : Memory) (ps : List ℕ) {s : ℕ}
   unfolding renumber_memory new_lists renumber_lists reordered
   front_nodes = front reordered n m.nodes (number_length 0 (parted is_ped ns) ∙ ordered_long)
 
-  new_nodes : map (node_with (map (relink o) ls)) (number_from 0 (parted is_ped ns)) ≡ number_nodes o 0 (parted is_ped_node (map (node_with ls) ns))
-  new_nodes = nodes_new o ls 0 (parted is_ped ns) (omega (arith, ordered_long, room.few)) ∙ ap (number_nodes o 0) (sym (parted_new ls ns))
+  new_nodes : map (node_with (map (relink o) ls)) (number_from 0 (parted is_ped ns))
+      ≡ number_nodes o 0 (parted is_ped_node (map (node_with ls) ns))
+  new_nodes = nodes_new o ls 0 (parted is_ped ns) (omega (arith, ordered_long, room.few))
+      ∙ ap (number_nodes o 0) (sym (parted_new ls ns))
 
   counted : (t : Node → Bool) → length (keep (λ w. t (node_with ls w)) ns) ≡ length (keep t (map (node_with ls) ns))
   counted t = rw (map_keep, length-map)
 
   pub renumber_memory_law : cell_of (renumber_memory m ps) ≡ renumber_cell (cell_of m)
-  unfolding cell_of nodes_of refs_of junctions_of renumber_cell recounted vehicles peds is_ped body_of to_node renumber_memory
+  unfolding cell_of nodes_of refs_of junctions_of renumber_cell recounted vehicles peds is_ped body_of to_node
+      renumber_memory
   renumber_memory_law = whole (old_same ls n m.nodes)
     where
       whole : o ≡ old_nodes (map (node_with ls) ns) → cell_of (renumber_memory m ps) ≡ renumber_cell (cell_of m)
       whole e = λ i. record {
-        nodes = ((λ j. map (node_with (new_links j)) (front_nodes j)) ∙ new_nodes ∙ ap (λ (x : Old). number_nodes x 0 (parted is_ped_node (map (node_with ls) ns))) e) i;
+        nodes = ((λ j. map (node_with (new_links j)) (front_nodes j)) ∙ new_nodes
+            ∙ ap (λ (x : Old). number_nodes x 0 (parted is_ped_node (map (node_with ls) ns))) e) i;
         junctions = junctions_of m;
         refs = (new_refs ∙ ap (λ (x : Old). map (reref x) (map ref_of (take m.ynd.ref_count m.refs))) e) i;
         vehicles = counted is_vehicle_node i;
@@ -163,15 +193,18 @@ abbrev pub answer_for : Memory → List ℕ → ℕ → Answer
 answer_for m ps s = answer_of (over_limit m.ynd) m.ynd.node_count (short m) s (length ps)
 
 -- a call that is done renumbers the cell, and one that is refused leaves the memory as it was
-pub done_call : (m : Memory) (ps : List ℕ) (s : ℕ) → (renumber m s ps).answer ≡ (Ok tt) → cell_of (renumber m s ps).memory ≡ renumber_cell (cell_of m)
+pub done_call : (m : Memory) (ps : List ℕ) (s : ℕ) → (renumber m s ps).answer ≡ (Ok tt)
+    → cell_of (renumber m s ps).memory ≡ renumber_cell (cell_of m)
 unfolding renumber
 done_call m ps s e = go (answer_for m ps s) refl e
   where
-    go : (a : Answer) → answer_for m ps s ≡ a → (left_by a m ps).answer ≡ (Ok tt) → cell_of (left_by a m ps).memory ≡ renumber_cell (cell_of m)
+    go : (a : Answer) → answer_for m ps s ≡ a → (left_by a m ps).answer ≡ (Ok tt) → cell_of (left_by a m ps).memory
+        ≡ renumber_cell (cell_of m)
     go (Ok tt) d t = renumber_memory_law m ps (accepted m s (length ps) d)
     go (Err x) d t = cc
 
-pub refused_call : (m : Memory) (ps : List ℕ) (s : ℕ) (x : Refusal) → (renumber m s ps).answer ≡ Err x → (renumber m s ps).memory ≡ m
+pub refused_call : (m : Memory) (ps : List ℕ) (s : ℕ) (x : Refusal) → (renumber m s ps).answer ≡ Err x
+    → (renumber m s ps).memory ≡ m
 unfolding renumber
 refused_call m ps s x e = go (answer_for m ps s) e
   where
@@ -180,20 +213,31 @@ refused_call m ps s x e = go (answer_for m ps s) e
     go (Err y) t = refl
 
 -- an accepted renumbering is of at most 65,536 nodes
-pub done_few : (m : Memory) (ps : List ℕ) (s : ℕ) → (renumber m s ps).answer ≡ (Ok tt) → length (cell_of m).nodes ≤ 65536
+pub done_few : (m : Memory) (ps : List ℕ) (s : ℕ) → (renumber m s ps).answer ≡ (Ok tt) → length (cell_of m).nodes
+    ≤ 65536
 unfolding renumber cell_of nodes_of
 done_few m ps s e = go (answer_for m ps s) refl e
   where
-    go : (a : Answer) → answer_for m ps s ≡ a → (left_by a m ps).answer ≡ (Ok tt) → length (map (node_with (map link_of (take m.ynd.link_count m.links))) (take m.ynd.node_count m.nodes)) ≤ 65536
+    go : (a : Answer) → answer_for m ps s ≡ a → (left_by a m ps).answer ≡ (Ok tt)
+        → length (map (node_with (map link_of (take m.ynd.link_count m.links))) (take m.ynd.node_count m.nodes))
+        ≤ 65536
     go (Ok tt) d t =
         let r = accepted m s (length ps) d in
-        omega (arith, length-map (take m.ynd.node_count m.nodes) (node_with (map link_of (take m.ynd.link_count m.links))), length-take-le m.ynd.node_count m.nodes r.nodes_fit, r.few)
+        omega (
+          arith,
+          length-map (take m.ynd.node_count m.nodes)
+              (node_with (map link_of (take m.ynd.link_count m.links))),
+          length-take-le m.ynd.node_count m.nodes
+              r.nodes_fit,
+          r.few,
+        )
     go (Err x) d t = cc
 
 -- ---- the lent list of new places
 
 -- an accepted call fills it with where each node goes, as lists of calls move it
-pub places_tell : (m : Memory) (ps : List ℕ) (s : ℕ) → (renumber m s ps).answer ≡ (Ok tt) → (p : ℕ) → p < length (cell_of m).nodes
+pub places_tell : (m : Memory) (ps : List ℕ) (s : ℕ) → (renumber m s ps).answer ≡ (Ok tt) → (p : ℕ) → p
+    < length (cell_of m).nodes
     → get_or (renumber m s ps).places p 0 ≡ new_place (ped_flags (cell_of m).nodes) p
 unfolding renumber new_lists renumber_lists cell_of nodes_of old_of
 places_tell m ps s e p lt = go (answer_for m ps s) refl e
@@ -204,12 +248,15 @@ places_tell m ps s e p lt = go (answer_for m ps s) refl e
     flags : List Bool
     flags = map is_ped (take n m.nodes)
 
-    go : (a : Answer) → answer_for m ps s ≡ a → (left_by a m ps).answer ≡ (Ok tt) → get_or (left_by a m ps).places p 0 ≡ new_place (ped_flags (cell_of m).nodes) p
+    go : (a : Answer) → answer_for m ps s ≡ a → (left_by a m ps).answer ≡ (Ok tt)
+        → get_or (left_by a m ps).places p 0 ≡ new_place (ped_flags (cell_of m).nodes) p
     go (Err x) d t = cc
     go (Ok tt) d t =
-        let same : flags ≡ ped_flags (nodes_of m) = ap (λ (o : Old). o.peds) (old_same (map link_of (take m.ynd.link_count m.links)) n m.nodes) in
+        let same : flags ≡ ped_flags (nodes_of m) = ap (λ (o : Old). o.peds)
+        (old_same (map link_of (take m.ynd.link_count m.links)) n m.nodes) in
         let long : length (ped_flags (nodes_of m)) ≡ length (nodes_of m) = length-map (nodes_of m) is_ped_node in
         let inside : p < length flags = omega (arith, ap length same, long, lt) in
-        get_or-append (new_places flags) (drop n ps) 0 p (let q : p < length (new_places flags) = omega (arith, places_length flags) in q)
+        get_or-append (new_places flags) (drop n ps) 0 p
+        (let q : p < length (new_places flags) = omega (arith, places_length flags) in q)
         ∙ places_at flags p inside
         ∙ ap (λ (x : List Bool). new_place x p) same

@@ -31,24 +31,32 @@ module _ (nodes : List (List ℕ)) (scratch places : List ℕ) (r : Ready nodes 
   place_below t lt = omega (arith, place_at t lt, (new_at nodes t lt).0)
 
   module _ (k t : ℕ) (is-t : get_or scratch k 0 ≡ t) where
-    pub looked_up : t < length nodes → number_of (get_or nodes t []) ≡ k → get_or places t 0 ≡ new_number (old_of (length nodes) nodes) k
+    pub looked_up : t < length nodes → number_of (get_or nodes t []) ≡ k → get_or places t 0
+        ≡ new_number (old_of (length nodes) nodes) k
     unfolding new_number old_of
     looked_up lt e =
         place_at t lt
-        ∙ rw (take-length nodes) (sym (ap (λ (o : Option ℕ). place_or (map is_ped nodes) o k) (named (map number_of nodes) scratch r.indexed k t is-t (omega (arith, length-map nodes number_of)) (get_or-map number_of nodes t [] 0 lt ∙ e))))
+        ∙ rw (take-length nodes) (sym (ap (λ (o : Option ℕ). place_or (map is_ped nodes) o k)
+        (named (map number_of nodes) scratch r.indexed k t is-t (omega (arith, length-map nodes number_of))
+        (get_or-map number_of nodes t [] 0 lt ∙ e))))
 
-    pub left_alone : (t < length nodes → number_of (get_or nodes t []) ≡ k → ⊥) → k ≡ new_number (old_of (length nodes) nodes) k
+    pub left_alone : (t < length nodes → number_of (get_or nodes t []) ≡ k → ⊥) → k
+        ≡ new_number (old_of (length nodes) nodes) k
     unfolding new_number old_of
     left_alone nowhere =
-        rw (take-length nodes) (sym (ap (λ (o : Option ℕ). place_or (map is_ped nodes) o k) (unnamed (map number_of nodes) scratch r.indexed k t is-t
-        (λ lt e. let below : t < length nodes = omega (arith, length-map nodes number_of) in nowhere below (sym (get_or-map number_of nodes t [] 0 below) ∙ e)))))
+        rw (take-length nodes) (sym (ap (λ (o : Option ℕ). place_or (map is_ped nodes) o k)
+        (unnamed (map number_of nodes) scratch r.indexed k t is-t
+        (λ lt e. let below : t < length nodes = omega (arith, length-map nodes number_of) in nowhere below
+        (sym (get_or-map number_of nodes t [] 0 below) ∙ e)))))
 
 -- a link or a ref, by whether it belongs to the cell
-pub relinked_own : (nodes : List (List ℕ)) (own x k : ℕ) → own ≡ first_area nodes → belongs own x ≡ true → renamed (old_of (length nodes) nodes) x k ≡ new_number (old_of (length nodes) nodes) k
+pub relinked_own : (nodes : List (List ℕ)) (own x k : ℕ) → own ≡ first_area nodes → belongs own x ≡ true
+    → renamed (old_of (length nodes) nodes) x k ≡ new_number (old_of (length nodes) nodes) k
 unfolding renamed old_of
 relinked_own nodes own x k e t = rw (take-length nodes, ← e, t)
 
-pub relinked_other : (nodes : List (List ℕ)) (own x k : ℕ) → own ≡ first_area nodes → belongs own x ≡ false → renamed (old_of (length nodes) nodes) x k ≡ k
+pub relinked_other : (nodes : List (List ℕ)) (own x k : ℕ) → own ≡ first_area nodes → belongs own x ≡ false
+    → renamed (old_of (length nodes) nodes) x k ≡ k
 unfolding renamed old_of
 relinked_other nodes own x k e t = rw (take-length nodes, ← e, t)
 

@@ -31,26 +31,33 @@ last_snoc [] x k = go (eqb x k)
     go false = refl
 last_snoc (n ∷ ns) x k = rw (last_snoc ns x k) (go (eqb x k) (last_with ns k) (eqb n k))
   where
-    go : (b : Bool) (o : Option ℕ) (c : Bool) → or_else (pick b (length ns) o) c ≡ pick b (suc (length ns)) (or_else o c)
+    go : (b : Bool) (o : Option ℕ) (c : Bool) → or_else (pick b (length ns) o) c
+        ≡ pick b (suc (length ns)) (or_else o c)
     go true o c = refl
     go false o c = refl
 
-indexed_next : (ns : List ℕ) (x : ℕ) (s : List ℕ) → x < length s → Indexed ns s → Indexed (ns ++ (x ∷ [])) (set s x (length ns))
+indexed_next : (ns : List ℕ) (x : ℕ) (s : List ℕ) → x < length s → Indexed ns s
+    → Indexed (ns ++ (x ∷ [])) (set s x (length ns))
 indexed_next ns x s lt ix = record {
   at = λ k p e. by_test (eqb x k)
-      (λ t. rw (← eqb-true x k t) (get_or-set_same s x (length ns) 0 lt) ∙ some-injective _ _ (rw (last_snoc ns x k, t) at e))
-      (λ f. get_or-set_other s x k (length ns) 0 (λ d. eqb-false x k f (sym d)) ∙ ix.at k p (rw (last_snoc ns x k, f) at e));
+      (λ t. rw (← eqb-true x k t) (get_or-set_same s x (length ns) 0 lt)
+      ∙ some-injective _ _ (rw (last_snoc ns x k, t) at e))
+      (λ f. get_or-set_other s x k (length ns) 0 (λ d. eqb-false x k f (sym d))
+      ∙ ix.at k p (rw (last_snoc ns x k, f) at e));
 }
 
 pub index_starts : (s : List ℕ) → Indexed [] s
 unfolding last_with
 index_starts s = record { at = λ k p e. cc }
 
-pub index_turn : (nodes : List (List ℕ)) (i k : ℕ) (s : List ℕ) → i < length nodes → k ≡ number_of (get_or nodes i []) → k < length s
+pub index_turn : (nodes : List (List ℕ)) (i k : ℕ) (s : List ℕ) → i < length nodes → k
+    ≡ number_of (get_or nodes i []) → k < length s
     → Indexed (map number_of (take i nodes)) s → Indexed (map number_of (take (i + 1) nodes)) (set s k i)
 index_turn nodes i k s lt e hk ix =
-    let long : length (map number_of (take i nodes)) ≡ i = length-map (take i nodes) number_of ∙ length-take-le i nodes (omega arith) in
-    rw (add-one, take-suc nodes i [] lt, map-append, ← e) (rw long at (indexed_next (map number_of (take i nodes)) k s hk ix))
+    let long : length (map number_of (take i nodes)) ≡ i = length-map (take i nodes) number_of
+    ∙ length-take-le i nodes (omega arith) in
+    rw (add-one, take-suc nodes i [] lt, map-append, ← e)
+    (rw long at (indexed_next (map number_of (take i nodes)) k s hk ix))
 
 -- the last node that has a number has it
 pub last_inside : (ns : List ℕ) (k p : ℕ) → last_with ns k ≡ some p → (p < length ns) × (get_or ns p 0 ≡ k)
@@ -58,7 +65,8 @@ unfolding last_with
 last_inside [] k p e = cc
 last_inside (n ∷ ns) k p e = go (λ q d. last_inside ns k q d) (last_with ns k) refl e
   where
-    go : ((q : ℕ) → last_with ns k ≡ some q → (q < length ns) × (get_or ns q 0 ≡ k)) → (o : Option ℕ) → last_with ns k ≡ o → or_else o (eqb n k) ≡ some p → (p < length (n ∷ ns)) × (get_or (n ∷ ns) p 0 ≡ k)
+    go : ((q : ℕ) → last_with ns k ≡ some q → (q < length ns) × (get_or ns q 0 ≡ k)) → (o : Option ℕ)
+        → last_with ns k ≡ o → or_else o (eqb n k) ≡ some p → (p < length (n ∷ ns)) × (get_or (n ∷ ns) p 0 ≡ k)
     go ih (some q) d h = let r = ih q d in rw (← some-injective _ _ h) (omega (arith, r.0), r.1)
     go ih none d h = by_test (eqb n k)
         (λ t. rw (← some-injective _ _ (rw t at h)) (omega arith, eqb-true n k t))

@@ -31,7 +31,8 @@ unfolding no_node no_body
 none_ped = refl
 
 -- the node first at place p stands at its new place
-pub new_at : (ns : List Node) (p : ℕ) → p < length ns → (new_place (ped_flags ns) p < length ns) × (get_or (ordered ns) (new_place (ped_flags ns) p) no_node ≡ node_at ns p)
+pub new_at : (ns : List Node) (p : ℕ) → p < length ns → (new_place (ped_flags ns) p < length ns)
+    × (get_or (ordered ns) (new_place (ped_flags ns) p) no_node ≡ node_at ns p)
 new_at ns p lt = any.new_at is_ped_node no_node none_ped ns p lt
 
 pub number_length : (all : Old) (k : ℕ) (ns : List Node) → length (number_nodes all k ns) ≡ length ns
@@ -60,24 +61,33 @@ module _ (c : Cell) where
   new_junctions = refl
 
   pub new_node_law : (p : ℕ) → p < length c.nodes
-      → node_at (renumber_cell c).nodes (new_place (ped_flags c.nodes) p) ≡ renode (old_nodes c.nodes) (new_place (ped_flags c.nodes) p) (node_at c.nodes p)
+      → node_at (renumber_cell c).nodes (new_place (ped_flags c.nodes) p)
+      ≡ renode (old_nodes c.nodes) (new_place (ped_flags c.nodes) p) (node_at c.nodes p)
   unfolding renumber_cell
   new_node_law p lt =
       let n = new_at c.nodes p lt in
-      number_at (old_nodes c.nodes) 0 (ordered c.nodes) (new_place (ped_flags c.nodes) p) (omega (arith, n.0, ordered_length c.nodes))
+      number_at (old_nodes c.nodes) 0 (ordered c.nodes) (new_place (ped_flags c.nodes) p)
+      (omega (arith, n.0, ordered_length c.nodes))
       ∙ rw (zero-add, n.1)
 
   -- every node's number is its place
   pub new_number_law : (q : ℕ) → q < length c.nodes → (node_at (renumber_cell c).nodes q).number ≡ q
   unfolding renumber_cell
-  new_number_law q lt = ap (λ (n : Node). n.number) (number_at (old_nodes c.nodes) 0 (ordered c.nodes) q (omega (arith, ordered_length c.nodes))) ∙ zero-add q
+  new_number_law q lt = ap (λ (n : Node). n.number)
+      (number_at (old_nodes c.nodes) 0 (ordered c.nodes) q (omega (arith, ordered_length c.nodes))) ∙ zero-add q
 
   pub new_find : (q : ℕ) → q < length c.nodes → find (numbers (renumber_cell c).nodes) q ≡ some q
   unfolding find
-  new_find q lt = rw (length-map, number_is, lt-ltb q (length (renumber_cell c).nodes) (omega (arith, new_length)), eq-eqb _ _ (new_number_law q lt))
+  new_find q lt = rw (
+    length-map,
+    number_is,
+    lt-ltb q (length (renumber_cell c).nodes) (omega (arith, new_length)),
+    eq-eqb _ _ (new_number_law q lt),
+  )
 
 pub every_number : (all : Old) (f g : Node → Bool) → ((k : ℕ) (n : Node) → g n ≡ true → f (renode all k n) ≡ true)
     → (k : ℕ) (ns : List Node) → every g ns ≡ true → every f (number_nodes all k ns) ≡ true
 unfolding every number_nodes
 every_number all f g e k [] h = refl
-every_number all f g e k (n ∷ ns) h = cc (e k n (and_left _ _ h), every_number all f g e (suc k) ns (and_right (g n) _ h))
+every_number all f g e k (n ∷ ns) h = cc
+    (e k n (and_left _ _ h), every_number all f g e (suc k) ns (and_right (g n) _ h))

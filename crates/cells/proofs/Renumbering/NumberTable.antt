@@ -62,7 +62,8 @@ pub table_all : (nodes : List (List ℕ)) (i : ℕ) → i ≡ length nodes → (
 unfolding new_number old_of
 table_all nodes i e k =
     ap (λ (m : ℕ). so_far (map is_ped nodes) nodes m k) e
-    ∙ ap (λ (l : List (List ℕ)). place_or (map is_ped l) (last_with (map number_of (take (length nodes) nodes)) k) k) (sym (take_all (length nodes) nodes (omega arith)))
+    ∙ ap (λ (l : List (List ℕ)). place_or (map is_ped l) (last_with (map number_of (take (length nodes) nodes)) k)
+    k) (sym (take_all (length nodes) nodes (omega arith)))
 
 -- a list whose elements are told
 told_all : (f : ℕ → ℕ) (n : ℕ) (l : List ℕ) → length l ≡ n → ((k : ℕ) → k < n → get_or l k 0 ≡ f k) → l ≡ listed f 0 n
@@ -73,13 +74,20 @@ told_all f n l h told =
 -- an accepted call
 pub call_done : (n : ℕ) (nodes : List (List ℕ)) (table places t p : List ℕ)
     → n ≤ 65536 → n ≤ length nodes → 65536 ≤ length table → n ≤ length places
-    → length t ≡ 65536 → ((k : ℕ) → k < 65536 → get_or t k 0 ≡ new_number (old_of (length (take n nodes)) (take n nodes)) k)
+    → length t ≡ 65536 → ((k : ℕ) → k < 65536 → get_or t k 0
+    ≡ new_number (old_of (length (take n nodes)) (take n nodes)) k)
     → p ≡ new_places (map is_ped (take n nodes))
     → numbers_left (Ok tt) (t ++ drop 65536 table) (p ++ drop n places) ≡ numbers_call n nodes table places
 unfolding numbers_call numbers_causes new_numbers
 call_done n nodes table places t p few h₀ h₆ h₇ long told ep =
     let et = told_all (new_number (old_of (length (take n nodes)) (take n nodes))) 65536 t long told in
-    rw (le-ltb 65536 n few, le-ltb (length nodes) n h₀, le-ltb (length table) 65536 h₆, le-ltb (length places) n h₇, ← old_front n nodes)
+    rw (
+      le-ltb 65536 n few,
+      le-ltb (length nodes) n h₀,
+      le-ltb (length table) 65536 h₆,
+      le-ltb (length places) n h₇,
+      ← old_front n nodes,
+    )
     (λ i. numbers_left (Ok tt) (et i ++ drop 65536 table) (ep i ++ drop n places))
 
 pub table_long : (o : Old) → length (new_numbers o) ≡ 65536

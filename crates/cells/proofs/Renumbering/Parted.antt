@@ -1,4 +1,5 @@
--- The order that renumbering gives, over any elements and any test: what stands at a new place, and that no two are the same.
+-- The order that renumbering gives, over any elements and any test: what stands at a new place, and that no two are
+-- the same.
 -- Assumes nothing.
 use Prim.Native.Nat.{ℕ, ◌+◌, ◌<◌}
 use native.Mathlib.Omega.{arith}
@@ -15,7 +16,8 @@ use Rattle.cells.proofs.Sequences.Tests.{by_test, keep_at, keep_lengths, map_kee
 use Rattle.cells.proofs.Sequences.Ranks.{rank_less, listed_length, listed_at}
 
 -- two places of one group that go to one place are one
-one_group : {A : Type 0} (g : A → Bool) (l : List A) (p q : ℕ) (d : A) → p < length l → q < length l → g (get_or l p d) ≡ true → g (get_or l q d) ≡ true
+one_group : {A : Type 0} (g : A → Bool) (l : List A) (p q : ℕ) (d : A) → p < length l → q < length l
+    → g (get_or l p d) ≡ true → g (get_or l q d) ≡ true
     → rank g l p ≡ rank g l q → p ≡ q
 one_group g l p q d hp hq tp tq e = by_test (ltb p q)
     (λ t. absurd (omega (arith, rank_less g l p q d (ltb-true _ _ t) hp tp)))
@@ -38,23 +40,29 @@ module _ {A : Type 0} (f : A → Bool) where
     flag_at l p = ap (get_or (map f l) p) (sym off) ∙ get_or-map f l p d
 
     -- the new place, by the elements themselves
-    pub new_place_law : (l : List A) (p : ℕ) → new_place (map f l) p ≡ cond (f (get_or l p d)) (length (keep others l) + rank f l p) (rank others l p)
+    pub new_place_law : (l : List A) (p : ℕ) → new_place (map f l) p
+        ≡ cond (f (get_or l p d)) (length (keep others l) + rank f l p) (rank others l p)
     unfolding new_place
     new_place_law l p = rw (flag_at, rank_map, rank_map, map_keep, length-map)
 
     -- the element first at place p stands at its new place
-    pub new_at : (l : List A) (p : ℕ) → p < length l → (new_place (map f l) p < length l) × (get_or (parted f l) (new_place (map f l) p) d ≡ get_or l p d)
+    pub new_at : (l : List A) (p : ℕ) → p < length l → (new_place (map f l) p < length l)
+        × (get_or (parted f l) (new_place (map f l) p) d ≡ get_or l p d)
     unfolding parted
     new_at l p lt =
         let all : length (keep others l) + length (keep f l) ≡ length l = keep_lengths f others (λ x. refl) l in
         rw (new_place_law l p) (by_test (f (get_or l p d))
-        (λ t. let k = keep_at f l p d lt t in rw t (omega (arith, k.0), get_or-append-add (keep others l) (keep f l) (rank f l p) d ∙ k.1))
-        (λ u. let k = keep_at others l p d lt (ap not u) in rw u (omega (arith, k.0), get_or-append (keep others l) (keep f l) d (rank others l p) k.0 ∙ k.1)))
+        (λ t. let k = keep_at f l p d lt t in rw t
+        (omega (arith, k.0), get_or-append-add (keep others l) (keep f l) (rank f l p) d ∙ k.1))
+        (λ u. let k = keep_at others l p d lt (ap not u) in rw u
+        (omega (arith, k.0), get_or-append (keep others l) (keep f l) d (rank others l p) k.0 ∙ k.1)))
 
     -- no two elements have one new place
-    pub new_apart : (l : List A) (p q : ℕ) → p < length l → q < length l → new_place (map f l) p ≡ new_place (map f l) q → p ≡ q
+    pub new_apart : (l : List A) (p q : ℕ) → p < length l → q < length l → new_place (map f l) p
+        ≡ new_place (map f l) q → p ≡ q
     new_apart l p q hp hq same =
-        let e : cond (f (get_or l p d)) (length (keep others l) + rank f l p) (rank others l p) ≡ cond (f (get_or l q d)) (length (keep others l) + rank f l q) (rank others l q)
+        let e : cond (f (get_or l p d)) (length (keep others l) + rank f l p) (rank others l p)
+        ≡ cond (f (get_or l q d)) (length (keep others l) + rank f l q) (rank others l q)
         = sym (new_place_law l p) ∙ same ∙ new_place_law l q in
         by_test (f (get_or l p d))
         (λ t. by_test (f (get_or l q d))

@@ -40,7 +40,8 @@ module _ {A : Type 0} where
   keep_append g [] m = refl
   keep_append g (x ∷ xs) m = go (g x) (keep_append g xs m)
     where
-      go : (b : Bool) → keep g (xs ++ m) ≡ keep g xs ++ keep g m → put_if b x (keep g (xs ++ m)) ≡ put_if b x (keep g xs) ++ keep g m
+      go : (b : Bool) → keep g (xs ++ m) ≡ keep g xs ++ keep g m → put_if b x (keep g (xs ++ m))
+          ≡ put_if b x (keep g xs) ++ keep g m
       go true ih = ap (λ (t : List A). x ∷ t) ih
       go false ih = ih
 
@@ -51,14 +52,16 @@ module _ {A : Type 0} where
   rank_front g [] (y ∷ ys) zero h le = refl
   rank_front g [] (y ∷ ys) (suc q) h le = absurd (omega arith)
   rank_front g (x ∷ xs) m zero h le = refl
-  rank_front g (x ∷ xs) m (suc q) h le = rw (and_left (g x) _ h) (ap suc (rank_front g xs m q (and_right (g x) _ h) (omega arith)))
+  rank_front g (x ∷ xs) m (suc q) h le = rw (and_left (g x) _ h)
+      (ap suc (rank_front g xs m q (and_right (g x) _ h) (omega arith)))
 
   rank_back : (g : A → Bool) (l m : List A) (j : ℕ) → rank g (l ++ m) (length l + j) ≡ length (keep g l) + rank g m j
   unfolding keep rank
   rank_back g [] m j = rw (zero-add, zero-add)
   rank_back g (x ∷ xs) m j = rw suc-add (go (g x) (rank_back g xs m j))
     where
-      go : (b : Bool) → rank g (xs ++ m) (length xs + j) ≡ length (keep g xs) + rank g m j → one_if b (rank g (xs ++ m) (length xs + j)) ≡ length (put_if b x (keep g xs)) + rank g m j
+      go : (b : Bool) → rank g (xs ++ m) (length xs + j) ≡ length (keep g xs) + rank g m j
+          → one_if b (rank g (xs ++ m) (length xs + j)) ≡ length (put_if b x (keep g xs)) + rank g m j
       go true ih = omega arith
       go false ih = ih
 
@@ -70,14 +73,16 @@ module _ {A : Type 0} (f : A → Bool) where
   unfolding parted
   others_again l =
       keep_append others (keep others l) (keep f l)
-      ∙ (λ i. keep_all others (keep others l) (kept_pass others l) i ++ keep_none f others (λ x t. ap not t) (keep f l) (kept_pass f l) i)
+      ∙ (λ i. keep_all others (keep others l) (kept_pass others l) i
+      ++ keep_none f others (λ x t. ap not t) (keep f l) (kept_pass f l) i)
       ∙ append-nil (keep others l)
 
   pub passing_again : (l : List A) → keep f (parted f l) ≡ keep f l
   unfolding parted
   passing_again l =
       keep_append f (keep others l) (keep f l)
-      ∙ (λ i. keep_none others f (λ x t. not-true (f x) t) (keep others l) (kept_pass others l) i ++ keep_all f (keep f l) (kept_pass f l) i)
+      ∙ (λ i. keep_none others f (λ x t. not-true (f x) t) (keep others l) (kept_pass others l) i
+      ++ keep_all f (keep f l) (kept_pass f l) i)
 
   module _ (d : A) (off : f d ≡ false) where
     -- a place among those that fail
@@ -91,7 +96,8 @@ module _ {A : Type 0} (f : A → Bool) where
 
     front_stays : (l : List A) (q : ℕ) → q < length (keep others l) → new_place (map f (parted f l)) q ≡ q
     front_stays l q lt =
-        let fails : f (get_or (parted f l) q d) ≡ false = ap f (front l q lt) ∙ not-true _ (every_at others (keep others l) q d (kept_pass others l) lt) in
+        let fails : f (get_or (parted f l) q d) ≡ false = ap f (front l q lt)
+        ∙ not-true _ (every_at others (keep others l) q d (kept_pass others l) lt) in
         new_place_law f d off (parted f l) q ∙ rw fails (front_rank l q lt)
 
     -- a place among those that pass
@@ -103,15 +109,19 @@ module _ {A : Type 0} (f : A → Bool) where
     unfolding parted
     back_rank l j lt =
         rank_back f (keep others l) (keep f l) j
-        ∙ (λ i. length (keep_none others f (λ x t. not-true (f x) t) (keep others l) (kept_pass others l) i) + rank f (keep f l) j)
+        ∙ (λ i. length (keep_none others f (λ x t. not-true (f x) t) (keep others l) (kept_pass others l) i)
+        + rank f (keep f l) j)
         ∙ zero-add (rank f (keep f l) j)
         ∙ ap (λ (x : List A). rank f x j) (sym (append-nil (keep f l)))
         ∙ rank_front f (keep f l) [] j (kept_pass f l) (omega arith)
 
-    back_stays : (l : List A) (j : ℕ) → j < length (keep f l) → new_place (map f (parted f l)) (length (keep others l) + j) ≡ length (keep others l) + j
+    back_stays : (l : List A) (j : ℕ) → j < length (keep f l)
+        → new_place (map f (parted f l)) (length (keep others l) + j) ≡ length (keep others l) + j
     back_stays l j lt =
-        let passes : f (get_or (parted f l) (length (keep others l) + j) d) ≡ true = ap f (back l j) ∙ every_at f (keep f l) j d (kept_pass f l) lt in
-        new_place_law f d off (parted f l) (length (keep others l) + j) ∙ rw passes (λ i. length (others_again l i) + back_rank l j lt i)
+        let passes : f (get_or (parted f l) (length (keep others l) + j) d) ≡ true = ap f (back l j)
+        ∙ every_at f (keep f l) j d (kept_pass f l) lt in
+        new_place_law f d off (parted f l) (length (keep others l) + j)
+        ∙ rw passes (λ i. length (others_again l i) + back_rank l j lt i)
 
     -- what is parted is in its order
     pub new_again : (l : List A) (q : ℕ) → q < length l → new_place (map f (parted f l)) q ≡ q
@@ -122,7 +132,8 @@ module _ {A : Type 0} (f : A → Bool) where
         (λ t.
         let le : length (keep others l) ≤ q = ltb-false _ _ t in
         let e : length (keep others l) + (q - length (keep others l)) ≡ q = omega arith in
-        subst (λ (x : ℕ). new_place (map f (parted f l)) x ≡ x) e (back_stays l (q - length (keep others l)) (omega arith)))
+        subst (λ (x : ℕ). new_place (map f (parted f l)) x ≡ x) e
+        (back_stays l (q - length (keep others l)) (omega arith)))
 
     -- where each element is at its new place, the list is parted
     pub parted_same : (l : List A) → ((q : ℕ) → q < length l → new_place (map f l) q ≡ q) → parted f l ≡ l

@@ -22,13 +22,16 @@ unfolding is_ped
 none_ped = refl
 
 new_place_law : (ns : List (List ℕ)) (p : ℕ)
-    → new_place (map is_ped ns) p ≡ cond (is_ped (get_or ns p [])) (length (keep is_vehicle ns) + rank is_ped ns p) (rank is_vehicle ns p)
+    → new_place (map is_ped ns) p ≡ cond (is_ped (get_or ns p [])) (length (keep is_vehicle ns) + rank is_ped ns p)
+    (rank is_vehicle ns p)
 new_place_law ns p = any.new_place_law is_ped [] none_ped ns p
 
-pub new_at : (ns : List (List ℕ)) (p : ℕ) → p < length ns → (new_place (map is_ped ns) p < length ns) × (get_or (parted is_ped ns) (new_place (map is_ped ns) p) [] ≡ get_or ns p [])
+pub new_at : (ns : List (List ℕ)) (p : ℕ) → p < length ns → (new_place (map is_ped ns) p < length ns)
+    × (get_or (parted is_ped ns) (new_place (map is_ped ns) p) [] ≡ get_or ns p [])
 new_at ns p lt = any.new_at is_ped [] none_ped ns p lt
 
-pub new_apart : (ns : List (List ℕ)) (p q : ℕ) → p < length ns → q < length ns → new_place (map is_ped ns) p ≡ new_place (map is_ped ns) q → p ≡ q
+pub new_apart : (ns : List (List ℕ)) (p q : ℕ) → p < length ns → q < length ns → new_place (map is_ped ns) p
+    ≡ new_place (map is_ped ns) q → p ≡ q
 new_apart ns p q hp hq same = any.new_apart is_ped [] none_ped ns p q hp hq same
 
 -- what every turn of filling them keeps
@@ -37,15 +40,20 @@ pub record Placing (ns : List (List ℕ)) (places₀ places : List ℕ) (i v p :
   pub p_is : p ≡ length (keep is_vehicle ns) + rank is_ped ns i
   pub filled : places ≡ take i (new_places (map is_ped ns)) ++ drop i places₀
 
-pub placing_starts : (ns : List (List ℕ)) (places : List ℕ) (p : ℕ) → p ≡ length (keep is_vehicle ns) → Placing ns places places 0 0 p
-placing_starts ns places p e = record { v_is = sym (rank_zero is_vehicle ns); p_is = omega (arith, rank_zero is_ped ns); filled = refl }
+pub placing_starts : (ns : List (List ℕ)) (places : List ℕ) (p : ℕ) → p ≡ length (keep is_vehicle ns)
+    → Placing ns places places 0 0 p
+placing_starts ns places p e = record
+    { v_is = sym (rank_zero is_vehicle ns); p_is = omega (arith, rank_zero is_ped ns); filled = refl }
 
-module _ (ns : List (List ℕ)) (places₀ places : List ℕ) (i v p : ℕ) (hi : i < length ns) (hp : i < length places₀) (g : Placing ns places₀ places i v p) where
-  stored : (x : ℕ) → new_place (map is_ped ns) i ≡ x → set places i x ≡ take (i + 1) (new_places (map is_ped ns)) ++ drop (i + 1) places₀
+module _ (ns : List (List ℕ)) (places₀ places : List ℕ) (i v p : ℕ) (hi : i < length ns) (hp : i < length places₀)
+    (g : Placing ns places₀ places i v p) where
+  stored : (x : ℕ) → new_place (map is_ped ns) i ≡ x → set places i x ≡ take (i + 1) (new_places (map is_ped ns))
+      ++ drop (i + 1) places₀
   stored x e =
       let flags : length (map is_ped ns) ≡ length ns = length-map ns is_ped in
       rw g.filled
-      (fill_turn places₀ (new_places (map is_ped ns)) i 0 x hp (omega (arith, places_length (map is_ped ns), flags)) (places_at (map is_ped ns) i (omega (arith, flags)) ∙ e))
+      (fill_turn places₀ (new_places (map is_ped ns)) i 0 x hp (omega (arith, places_length (map is_ped ns), flags))
+      (places_at (map is_ped ns) i (omega (arith, flags)) ∙ e))
 
   pub turn_ped : is_ped (get_or ns i []) ≡ true → Placing ns places₀ (set places i p) (i + 1) v (p + 1)
   turn_ped t = record {
@@ -61,14 +69,17 @@ module _ (ns : List (List ℕ)) (places₀ places : List ℕ) (i v p : ℕ) (hi 
     filled = stored v (new_place_law ns i ∙ rw t (sym g.v_is));
   }
 
-pub placed : {ns : List (List ℕ)} {places₀ places places' : List ℕ} {i v v' p p' : ℕ} → places' ≡ places → v' ≡ v → p' ≡ p → Placing ns places₀ places i v p → Placing ns places₀ places' i v' p'
+pub placed : {ns : List (List ℕ)} {places₀ places places' : List ℕ} {i v v' p p' : ℕ} → places' ≡ places → v' ≡ v
+    → p' ≡ p → Placing ns places₀ places i v p → Placing ns places₀ places' i v' p'
 placed a b c g = rw (a, b, c) g
 
 -- all filled in
-pub all_placed : (ns : List (List ℕ)) (places₀ places : List ℕ) (i v p : ℕ) → i ≡ length ns → length places₀ ≡ length ns → Placing ns places₀ places i v p
+pub all_placed : (ns : List (List ℕ)) (places₀ places : List ℕ) (i v p : ℕ) → i ≡ length ns → length places₀
+    ≡ length ns → Placing ns places₀ places i v p
     → places ≡ new_places (map is_ped ns)
 all_placed ns places₀ places i v p e h g =
-    g.filled ∙ fill_all places₀ (new_places (map is_ped ns)) i (places_length (map is_ped ns) ∙ length-map ns is_ped ∙ sym h) (e ∙ sym h)
+    g.filled ∙ fill_all places₀ (new_places (map is_ped ns)) i
+    (places_length (map is_ped ns) ∙ length-map ns is_ped ∙ sym h) (e ∙ sym h)
 
 -- those that are no ped nodes are no more than all
 pub vehicles_all : (nodes : List (List ℕ)) → length (keep is_vehicle nodes) ≤ length nodes

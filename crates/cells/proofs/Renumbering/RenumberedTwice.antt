@@ -11,7 +11,8 @@ use lib.ListN.{length, length-map}
 use lib.Seq.{ext_get_or}
 use Rattle.cells.specs.Area.{belongs}
 use Rattle.cells.specs.Order.{keep, new_place, new_number, last_with, place_or, renamed, Old}
-use Rattle.cells.specs.Cell.{Link, Node, Ref, Cell, node_at, no_node, is_ped_node, is_vehicle_node, numbers, ped_flags, old_nodes, ordered, relink, reref, renode, number_nodes, renumber_cell}
+use Rattle.cells.specs.Cell.{Link, Node, Ref, Cell, node_at, no_node, is_ped_node, is_vehicle_node, numbers}
+use Rattle.cells.specs.Cell.{ped_flags, old_nodes, ordered, relink, reref, renode, number_nodes, renumber_cell}
 use Rattle.cells.specs.Memory.{Memory}
 use Rattle.cells.specs.CellOf.{cell_of}
 use Rattle.cells.specs.Renumber.{renumber}
@@ -27,7 +28,8 @@ map_same f e [] = refl
 map_same f e (x ∷ xs) = λ i. e x i ∷ map_same f e xs i
 
 -- numbering keeps what a node's body says
-bodies_kept : {B : Type 0} (g : Node → B) → ((o : Old) (k : ℕ) (n : Node) → g (renode o k n) ≡ g n) → (o : Old) (k : ℕ) (ns : List Node) → map g (number_nodes o k ns) ≡ map g ns
+bodies_kept : {B : Type 0} (g : Node → B) → ((o : Old) (k : ℕ) (n : Node) → g (renode o k n) ≡ g n)
+    → (o : Old) (k : ℕ) (ns : List Node) → map g (number_nodes o k ns) ≡ map g ns
 unfolding number_nodes
 bodies_kept g e o k [] = refl
 bodies_kept g e o k (n ∷ ns) = λ i. e o k n i ∷ bodies_kept g e o (suc k) ns i
@@ -74,10 +76,22 @@ module _ (c : Cell) where
   same_link l = λ i. record { area = l.area; number = same_renamed l.area l.number i; body = l.body }
 
   same_ref : (r : Ref) → reref (old_nodes new) r ≡ r
-  same_ref r = λ i. record { area = r.area; number = same_renamed r.area r.number i; junction = r.junction; unk0 = r.unk0 }
+  same_ref r = λ i. record {
+    area = r.area;
+    number = same_renamed r.area r.number i;
+    junction = r.junction;
+    unk0 =
+        r.unk0;
+  }
 
   same_node : (k : ℕ) (n : Node) → n.number ≡ k → renode (old_nodes new) k n ≡ n
-  same_node k n e = λ i. record { area = n.area; number = sym e i; links = map_same (relink (old_nodes new)) same_link n.links i; body = n.body }
+  same_node k n e = λ i. record {
+    area = n.area;
+    number = sym e i;
+    links = map_same (relink (old_nodes new))
+        same_link n.links i;
+    body = n.body;
+  }
 
   same_order : ordered new ≡ new
   same_order = parted_same is_ped_node no_node none_ped new (λ q lt. stays q (omega (arith, new_length c)))
@@ -95,14 +109,17 @@ module _ (c : Cell) where
     nodes = (ap (number_nodes (old_nodes new) 0) same_order ∙ same_nodes) i;
     junctions = c.junctions;
     refs = map_same (reref (old_nodes new)) same_ref (renumber_cell c).refs i;
-    vehicles = (counted is_vehicle_node new (ordered c.nodes) (bodies_kept is_vehicle_node (λ o k n. refl) (old_nodes c.nodes) 0 (ordered c.nodes)) ∙ ap length (others_again is_ped_node c.nodes)) i;
+    vehicles = (counted is_vehicle_node new (ordered c.nodes)
+        (bodies_kept is_vehicle_node (λ o k n. refl) (old_nodes c.nodes) 0 (ordered c.nodes))
+        ∙ ap length (others_again is_ped_node c.nodes)) i;
     peds = (counted is_ped_node new (ordered c.nodes) flags_new ∙ ap length (passing_again is_ped_node c.nodes)) i;
     vft = c.vft;
     words = c.words;
   }
 
 -- a second call that is done leaves the cell as the first one left it
-pub call_again : (m : Memory) (ps qs : List ℕ) (s t : ℕ) → (renumber m s ps).answer ≡ (Ok tt) → (renumber (renumber m s ps).memory t qs).answer ≡ (Ok tt)
+pub call_again : (m : Memory) (ps qs : List ℕ) (s t : ℕ) → (renumber m s ps).answer ≡ (Ok tt)
+    → (renumber (renumber m s ps).memory t qs).answer ≡ (Ok tt)
     → cell_of (renumber (renumber m s ps).memory t qs).memory ≡ cell_of (renumber m s ps).memory
 call_again m ps qs s t d e =
     let first = done_call m ps s d in

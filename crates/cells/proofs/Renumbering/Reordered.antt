@@ -19,7 +19,8 @@ module _ (nodes : List (List ℕ)) where
   flags : length (map is_ped nodes) ≡ length nodes
   flags = length-map nodes is_ped
 
-  pub place_at : (k : ℕ) → k < length nodes → get_or (new_places (map is_ped nodes)) k 0 ≡ new_place (map is_ped nodes) k
+  pub place_at : (k : ℕ) → k < length nodes → get_or (new_places (map is_ped nodes)) k 0
+      ≡ new_place (map is_ped nodes) k
   place_at k lt = places_at (map is_ped nodes) k (omega (arith, flags))
 
   pub places_many : length (new_places (map is_ped nodes)) ≡ length nodes
@@ -35,7 +36,8 @@ module _ (nodes : List (List ℕ)) where
   they_lead k lt = rw (place_at k lt) (new_at nodes k lt).1
 
 -- each with its number
-pub number_at : (k : ℕ) (ws : List (List ℕ)) (i : ℕ) → i < length ws → get_or (number_from k ws) i [] ≡ numbered (k + i) (get_or ws i [])
+pub number_at : (k : ℕ) (ws : List (List ℕ)) (i : ℕ) → i < length ws → get_or (number_from k ws) i []
+    ≡ numbered (k + i) (get_or ws i [])
 unfolding number_from
 number_at k [] i lt = absurd (omega arith)
 number_at k (w ∷ ws) zero lt = rw add-zero
@@ -47,10 +49,12 @@ number_length k [] = refl
 number_length k (w ∷ ws) = ap suc (number_length (suc k) ws)
 
 -- one number more, in a loop that stores them from the front
-pub number_turn : (ws : List (List ℕ)) (i : ℕ) (w : List ℕ) → i < length ws → w ≡ numbered i (get_or (take i (number_from 0 ws) ++ drop i ws) i [])
+pub number_turn : (ws : List (List ℕ)) (i : ℕ) (w : List ℕ) → i < length ws → w
+    ≡ numbered i (get_or (take i (number_from 0 ws) ++ drop i ws) i [])
     → set (take i (number_from 0 ws) ++ drop i ws) i w ≡ take (i + 1) (number_from 0 ws) ++ drop (i + 1) ws
 number_turn ws i w h e =
     let D = number_from 0 ws in
     let long : length D ≡ length ws = number_length 0 ws in
-    let is : get_or D i [] ≡ w = number_at 0 ws i h ∙ rw zero-add (ap (numbered i) (sym (fill_ahead ws D i [] h (omega arith)))) ∙ sym e in
+    let is : get_or D i [] ≡ w = number_at 0 ws i h
+    ∙ rw zero-add (ap (numbered i) (sym (fill_ahead ws D i [] h (omega arith)))) ∙ sym e in
     fill_turn ws D i [] w h (omega arith) is

@@ -12,21 +12,31 @@ use lib.Seq.{drop-cons, set_at, append_snoc, take-suc, length-take-le, take_all,
 
 module _ {A : Type 0} (l D : List A) (i : ℕ) where
   -- the element stored next
-  pub fill_turn : (d x : A) → i < length l → i < length D → get_or D i d ≡ x → set (take i D ++ drop i l) i x ≡ take (i + 1) D ++ drop (i + 1) l
+  pub fill_turn : (d x : A) → i < length l → i < length D → get_or D i d ≡ x → set (take i D ++ drop i l) i x
+      ≡ take (i + 1) D ++ drop (i + 1) l
   fill_turn d x hl hD e =
       rw (drop-cons l i d hl, add-one, take-suc D i d hD, e)
-      (set_at (take i D) (get_or l i d) (drop (suc i) l) x i (length-take-le i D (omega arith)) ∙ sym (append_snoc (take i D) x (drop (suc i) l)))
+      (set_at (take i D) (get_or l i d) (drop (suc i) l) x i (length-take-le i D (omega arith))
+      ∙ sym (append_snoc (take i D) x (drop (suc i) l)))
 
   -- what is yet to be stored over
   pub fill_ahead : (d : A) → i < length l → i ≤ length D → get_or (take i D ++ drop i l) i d ≡ get_or l i d
-  fill_ahead d hl hD = rw (drop-cons l i d hl) (get_or_at (take i D) (get_or l i d) (drop (suc i) l) d i (length-take-le i D hD))
+  fill_ahead d hl hD = rw (drop-cons l i d hl)
+      (get_or_at (take i D) (get_or l i d) (drop (suc i) l) d i (length-take-le i D hD))
 
 -- an element that f is applied to, in a loop that does so from the front
 pub mapped_turn : (f : List ℕ → List ℕ) (l : List (List ℕ)) (i : ℕ) (w : List ℕ) → i < length l
-    → w ≡ f (get_or (map f (take i l) ++ drop i l) i []) → set (map f (take i l) ++ drop i l) i w ≡ map f (take (i + 1) l) ++ drop (i + 1) l
+    → w ≡ f (get_or (map f (take i l) ++ drop i l) i []) → set (map f (take i l) ++ drop i l) i w
+    ≡ map f (take (i + 1) l) ++ drop (i + 1) l
 mapped_turn f l i w h e =
     let now = map f (take i l) ++ drop i l in
-    let long : i < length now = omega (arith, length-append (map f (take i l)) (drop i l), length-map (take i l) f, length-take-le i l (omega arith), length-drop i l) in
+    let long : i < length now = omega (
+      arith,
+      length-append (map f (take i l)) (drop i l),
+      length-map (take i l) f,
+      length-take-le i l (omega arith),
+      length-drop i l,
+    ) in
     ap (set now i) e ∙ map_over_more f l now i (get_or now i []) h refl (get_or_default now i [] _ long)
 
 -- all stored

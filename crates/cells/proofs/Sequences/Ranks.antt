@@ -17,13 +17,15 @@ module _ {A : Type 0} where
   rank_zero f (x ∷ xs) = refl
 
   -- one place more
-  rank_suc : (f : A → Bool) (l : List A) (p : ℕ) (d : A) → p < length l → rank f l (suc p) ≡ one_if (f (get_or l p d)) (rank f l p)
+  rank_suc : (f : A → Bool) (l : List A) (p : ℕ) (d : A) → p < length l → rank f l (suc p)
+      ≡ one_if (f (get_or l p d)) (rank f l p)
   unfolding rank
   rank_suc f [] p d lt = absurd (omega arith)
   rank_suc f (x ∷ xs) zero d lt = ap (one_if (f x)) (rank_zero f xs)
   rank_suc f (x ∷ xs) (suc p) d lt = go (f x) (rank_suc f xs p d (omega arith))
     where
-      go : (b : Bool) → rank f xs (suc p) ≡ one_if (f (get_or xs p d)) (rank f xs p) → one_if b (rank f xs (suc p)) ≡ one_if (f (get_or xs p d)) (one_if b (rank f xs p))
+      go : (b : Bool) → rank f xs (suc p) ≡ one_if (f (get_or xs p d)) (rank f xs p) → one_if b (rank f xs (suc p))
+          ≡ one_if (f (get_or xs p d)) (one_if b (rank f xs p))
       go false ih = ih
       go true ih = rw ih (swap (f (get_or xs p d)) (rank f xs p))
         where
@@ -43,9 +45,15 @@ module _ {A : Type 0} where
       go false ih = ih
 
   -- an element that passes has a lower rank than any later place
-  pub rank_less : (f : A → Bool) (l : List A) (p q : ℕ) (d : A) → p < q → p < length l → f (get_or l p d) ≡ true → rank f l p < rank f l q
+  pub rank_less : (f : A → Bool) (l : List A) (p q : ℕ) (d : A) → p < q → p < length l → f (get_or l p d) ≡ true
+      → rank f l p < rank f l q
   rank_less f l p q d lt inside t =
-      omega (arith, rank_grows f l (suc p) q (omega arith), rank_suc f l p d inside ∙ ap (λ (b : Bool). one_if b (rank f l p)) t)
+      omega (
+        arith,
+        rank_grows f l (suc p) q (omega arith),
+        rank_suc f l p d inside
+            ∙ ap (λ (b : Bool). one_if b (rank f l p)) t,
+      )
 
 module _ {A : Type 0} (f : A → Bool) (l : List A) (i : ℕ) (d : A) (h : i < length l) where
   pub rank_yes : f (get_or l i d) ≡ true → rank f l (i + 1) ≡ rank f l i + 1

@@ -19,29 +19,40 @@ part_turn l own p n x rest e m room =
 
 module _ {B : Type 0} (f : List ℕ → List B) (xs : List (List ℕ)) (i : ℕ) where
   -- the length of what is left: one entry, and what is behind it
-  pub joined_room : i < length xs → length (joined f (drop i xs)) ≡ length (f (get_or xs i [])) + length (joined f (drop (i + 1) xs))
-  joined_room h = ap length (joined_split f xs i [] h) ∙ length-append (f (get_or xs i [])) (joined f (drop (i + 1) xs))
+  pub joined_room : i < length xs → length (joined f (drop i xs)) ≡ length (f (get_or xs i []))
+      + length (joined f (drop (i + 1) xs))
+  joined_room h = ap length (joined_split f xs i [] h)
+      ∙ length-append (f (get_or xs i [])) (joined f (drop (i + 1) xs))
 
   pub joined_none : length xs ≤ i → joined f (drop i xs) ≡ []
   unfolding joined
   joined_none h = ap (joined f) (drop_of_length-le xs h)
 
-  pub joined_behind : (l x : List B) (p q : ℕ) → i < length xs → x ≡ f (get_or xs i []) → q ≡ p + length x → p ≤ length l
+  pub joined_behind : (l x : List B) (p q : ℕ) → i < length xs → x ≡ f (get_or xs i []) → q ≡ p + length x → p
+      ≤ length l
       → put (put l p x) q (joined f (drop (i + 1) xs)) ≡ put l p (joined f (drop i xs))
-  joined_behind l x p q h e m room = turn l l _ p p q x _ _ (ap (λ (y : List B). put l p (y ++ joined f (drop (i + 1) xs))) e ∙ ap (put l p) (sym (joined_split f xs i [] h))) refl m room
+  joined_behind l x p q h e m room = turn l l _ p p q x _ _
+      (ap (λ (y : List B). put l p (y ++ joined f (drop (i + 1) xs))) e
+      ∙ ap (put l p) (sym (joined_split f xs i [] h))) refl m room
 
-  pub joined_put : (l own : List B) (p n : ℕ) → i < length xs → own ≡ f (get_or xs i []) → n ≡ length own → p ≤ length l
+  pub joined_put : (l own : List B) (p n : ℕ) → i < length xs → own ≡ f (get_or xs i []) → n ≡ length own → p
+      ≤ length l
       → put (put_mid p (p + n - p) l own) (p + n) (joined f (drop (i + 1) xs)) ≡ put l p (joined f (drop i xs))
   joined_put l own p n h e m room = part_turn l own p n _ _ e m room ∙ ap (put l p) (sym (joined_split f xs i [] h))
 
 module _ {B C : Type 0} (f : List ℕ → List B) (g : ℕ → List ℕ → List C) (xs : List (List ℕ)) (i k : ℕ) where
   -- k' entries are before the next
-  pub laid_put : (l own : List C) (p n k' : ℕ) → i < length xs → own ≡ g k (get_or xs i []) → n ≡ length own → k' ≡ k + length (f (get_or xs i []))
-      → p ≤ length l → put (put_mid p (p + n - p) l own) (p + n) (laid f g k' (drop (i + 1) xs)) ≡ put l p (laid f g k (drop i xs))
+  pub laid_put : (l own : List C) (p n k' : ℕ) → i < length xs → own ≡ g k (get_or xs i []) → n ≡ length own → k'
+      ≡ k + length (f (get_or xs i []))
+      → p ≤ length l → put (put_mid p (p + n - p) l own) (p + n) (laid f g k' (drop (i + 1) xs))
+      ≡ put l p (laid f g k (drop i xs))
   unfolding laid
   laid_put l own p n k' h e m next room =
-      rw next (part_turn l own p n _ _ e m room ∙ ap (λ (ys : List (List ℕ)). put l p (laid f g k ys)) (sym (split xs i [] h)))
+      rw next (part_turn l own p n _ _ e m room
+      ∙ ap (λ (ys : List (List ℕ)). put l p (laid f g k ys)) (sym (split xs i [] h)))
 
-  pub laid_ended : (l₀ l whole : List C) (at p : ℕ) → length xs ≤ i → put l p (laid f g k (drop i xs)) ≡ put l₀ at whole → l ≡ put l₀ at whole
+  pub laid_ended : (l₀ l whole : List C) (at p : ℕ) → length xs ≤ i → put l p (laid f g k (drop i xs))
+      ≡ put l₀ at whole → l ≡ put l₀ at whole
   unfolding laid
-  laid_ended l₀ l whole at p h before = ended l₀ l at p (laid f g k (drop i xs)) whole before (ap (laid f g k) (drop_of_length-le xs h))
+  laid_ended l₀ l whole at p h before = ended l₀ l at p (laid f g k (drop i xs)) whole before
+      (ap (laid f g k) (drop_of_length-le xs h))

@@ -1,4 +1,5 @@
--- Answers at named inputs, where a believable slip would give another one, over the definitions that the contracts cite.
+-- Answers at named inputs, where a believable slip would give another one, over the definitions that the contracts
+-- cite.
 -- Assumes nothing.
 use Prim.Native.Nat.{ℕ, ◌*◌}
 use mathlib.Core.Path.{◌≡◌, refl, ap}
@@ -65,7 +66,8 @@ unfolding check_nodes
 none_behind_a_post = refl
 
 -- a node with links stores what stands before it, also behind a post; a post stores 0
-pub start_behind_a_post : laid {B = ℕ} (λ n. n) (λ k n. stored_start k (length n) ∷ []) 0 ((7 ∷ 8 ∷ []) ∷ [] ∷ (9 ∷ []) ∷ [] ∷ []) ≡ 0 ∷ 0 ∷ 2 ∷ 0 ∷ []
+pub start_behind_a_post : laid {B = ℕ} (λ n. n) (λ k n. stored_start k (length n) ∷ []) 0
+    ((7 ∷ 8 ∷ []) ∷ [] ∷ (9 ∷ []) ∷ [] ∷ []) ≡ 0 ∷ 0 ∷ 2 ∷ 0 ∷ []
 unfolding laid
 start_behind_a_post = refl
 
@@ -87,12 +89,14 @@ new_places_law = ap (λ (r : Renumbered). r.places) renumber_pair
 -- ---- what other believable slips would change
 
 -- flags1 >> 3 of 10, 14 and 18 make a ped node, 17 does not
-pub ped_kinds : map (λ k. is_ped (0 ∷ 0 ∷ 0 ∷ 0 ∷ 0 ∷ (k * 8 * 256) ∷ [])) (10 ∷ 14 ∷ 17 ∷ 18 ∷ []) ≡ true ∷ true ∷ false ∷ true ∷ []
+pub ped_kinds : map (λ k. is_ped (0 ∷ 0 ∷ 0 ∷ 0 ∷ 0 ∷ (k * 8 * 256) ∷ [])) (10 ∷ 14 ∷ 17 ∷ 18 ∷ []) ≡ true ∷ true
+    ∷ false ∷ true ∷ []
 unfolding is_ped
 ped_kinds = refl
 
 -- of flags5 the low three bits are stored
-pub flags5_low : (file_node 0 3 (to_node (0 ∷ 0 ∷ 0 ∷ 0 ∷ 0 ∷ 0 ∷ (15 * 256) ∷ 0 ∷ replicate 5 0))).link_count_flags ≡ 31
+pub flags5_low : (file_node 0 3 (to_node (0 ∷ 0 ∷ 0 ∷ 0 ∷ 0 ∷ 0 ∷ (15 * 256) ∷ 0 ∷ replicate 5 0))).link_count_flags
+    ≡ 31
 unfolding file_node to_node
 flags5_low = refl
 
@@ -108,7 +112,8 @@ unfolding file_node to_node
 tags_stored = refl
 
 -- and read from it, into its own word
-pub tags_kept : drop 8 (node_words (path_node (file_node 0 0 (to_node tagged)) 0)) ≡ 11 ∷ 22 ∷ 33 ∷ 4294967295 ∷ 65535 ∷ []
+pub tags_kept : drop 8 (node_words (path_node (file_node 0 0 (to_node tagged)) 0)) ≡ 11 ∷ 22 ∷ 33 ∷ 4294967295
+    ∷ 65535 ∷ []
 unfolding file_node to_node path_node node_words
 tags_kept = refl
 
@@ -121,14 +126,26 @@ no_tags = refl
 abbrev two : Memory
 two =
     memory
-    (record { vft = 0; vehicle_node_count = 2; ped_node_count = 0; unknowns = replicate 7 0; node_count = 2; link_count = 2; junction_count = 0; heightmap_count = 0; ref_count = 0 })
-    ((0 ∷ 0 ∷ 0 ∷ 0 ∷ 0 ∷ 0 ∷ (2 * 65536) ∷ 0 ∷ replicate 5 0) ∷ (65536 ∷ 0 ∷ 0 ∷ 0 ∷ 0 ∷ 0 ∷ 0 ∷ 1 ∷ replicate 5 0) ∷ [])
+    (record {
+      vft = 0;
+      vehicle_node_count = 2;
+      ped_node_count = 0;
+      unknowns = replicate 7 0;
+      node_count = 2;
+      link_count = 2;
+      junction_count = 0;
+      heightmap_count = 0;
+      ref_count = 0;
+    })
+    ((0 ∷ 0 ∷ 0 ∷ 0 ∷ 0 ∷ 0 ∷ (2 * 65536) ∷ 0 ∷ replicate 5 0) ∷ (65536 ∷ 0 ∷ 0 ∷ 0 ∷ 0 ∷ 0 ∷ 0 ∷ 1 ∷ replicate 5 0)
+    ∷ [])
     ((0 ∷ 1 ∷ 0 ∷ 0 ∷ []) ∷ (0 ∷ 0 ∷ 0 ∷ 0 ∷ []) ∷ (9 ∷ 9 ∷ 9 ∷ 9 ∷ []) ∷ [])
     []
     []
     []
 
-pub bare_link_last : (add_link two 1 (link_to 0 7)).memory.links ≡ (0 ∷ 1 ∷ 0 ∷ 0 ∷ []) ∷ (0 ∷ 0 ∷ 0 ∷ 0 ∷ []) ∷ (0 ∷ 7 ∷ 0 ∷ 0 ∷ []) ∷ []
+pub bare_link_last : (add_link two 1 (link_to 0 7)).memory.links ≡ (0 ∷ 1 ∷ 0 ∷ 0 ∷ []) ∷ (0 ∷ 0 ∷ 0 ∷ 0 ∷ [])
+    ∷ (0 ∷ 7 ∷ 0 ∷ 0 ∷ []) ∷ []
 unfolding add_link over_limit room_for_link behind held_in inserted link_words link_to
 bare_link_last = refl
 
@@ -168,12 +185,14 @@ pub no_bytes : (read_of [] [] bare).memory.ynd
       heightmap_count = 0;
       ref_count = 0;
     }
-unfolding read_of sizes_check arrays_found located new_root new_ynd read_arrays arrays_check scan room_check filled cell_read
+unfolding read_of sizes_check arrays_found located new_root new_ynd read_arrays arrays_check scan room_check filled
+    cell_read
     up_to join_to sum_to bytes_of extent
 no_bytes = refl
 
 pub no_bytes_done : (read_of [] [] bare).answer ≡ (Ok tt)
-unfolding read_of sizes_check arrays_found located new_root new_ynd read_arrays arrays_check scan room_check sum_to bytes_of
+unfolding read_of sizes_check arrays_found located new_root new_ynd read_arrays arrays_check scan room_check sum_to
+    bytes_of
     extent
 no_bytes_done = refl
 
@@ -187,6 +206,7 @@ unfolding read_of sizes_check
 bytes_111 = refl
 
 pub bytes_112 : (read_of (replicate 112 0) [] bare).answer ≡ (Ok tt)
-unfolding read_of sizes_check arrays_found located root_of unknowns_of number_at read_arrays arrays_check scan room_check
+unfolding read_of sizes_check arrays_found located root_of unknowns_of number_at read_arrays arrays_check scan
+    room_check
     sum_to bytes_of extent
 bytes_112 = refl

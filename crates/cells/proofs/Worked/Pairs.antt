@@ -5,9 +5,11 @@ use mathlib.Core.Path.{◌≡◌, refl}
 use mathlib.Core.List.{List, [], ◌∷◌}
 use Rattle.cells.specs.Area.{belongs}
 use Rattle.cells.specs.Order.{keep, rank, parted, new_place, new_places, listed, last_with, new_number, renamed}
-use Rattle.cells.specs.NodeWords.{area_of, number_of, is_ped, numbered, number_from, reordered, first_area, old_of, relinked}
+use Rattle.cells.specs.NodeWords.{area_of, number_of, is_ped, numbered, number_from, reordered, first_area, old_of}
+use Rattle.cells.specs.NodeWords.{relinked}
 use Rattle.cells.specs.Memory.{Memory, memory, over_limit, short_of}
-use Rattle.cells.specs.Renumber.{vehicles, peds, renumber_lists, recounted, answer_of, new_lists, renumber_memory, renumber}
+use Rattle.cells.specs.Renumber.{vehicles, peds, renumber_lists, recounted, answer_of, new_lists, renumber_memory}
+use Rattle.cells.specs.Renumber.{renumber}
 use Rattle.cells.specs.declared.ynd.Ynd.{Ynd}
 use Rattle.std.specs.Prelude.{Ok}
 
@@ -48,10 +50,13 @@ pub renumber_pair : renumber three 65536 (50 ∷ 51 ∷ 52 ∷ 53 ∷ [])
       answer = (Ok tt);
       memory =
           memory (cell 2 1) (node 0 0 10 ∷ node 1 0 30 ∷ node 2 80 20 ∷ node 5 0 40 ∷ [])
-          (link 1177 2 ∷ link 1177 1 ∷ link 1178 9 ∷ link 1177 5 ∷ link 1177 7 ∷ []) [] [] (link 1177 0 ∷ link 1177 3 ∷ []);
+          (link 1177 2 ∷ link 1177 1 ∷ link 1178 9 ∷ link 1177 5 ∷ link 1177 7 ∷ []) [] []
+          (link 1177 0 ∷ link 1177 3 ∷ []);
       places = 0 ∷ 2 ∷ 1 ∷ 53 ∷ [];
     }
-unfolding renumber over_limit answer_of short_of renumber_memory new_lists recounted vehicles peds renumber_lists reordered number_from numbered parted keep is_ped relinked renamed belongs new_number last_with new_place new_places listed rank old_of first_area area_of number_of
+unfolding renumber over_limit answer_of short_of renumber_memory new_lists recounted vehicles peds renumber_lists
+    reordered number_from numbered parted keep is_ped relinked renamed belongs new_number last_with new_place
+    new_places listed rank old_of first_area area_of number_of
 renumber_pair = refl
 
 -- of two equal numbers the last node counts

@@ -25,7 +25,17 @@ use Rattle.numbers.specs.declared.refusal.Lent.TheVariants as lent
 unfoldable pub one_node : ℕ → Memory
 one_node count =
     memory
-    (record { vft = 0; vehicle_node_count = 1; ped_node_count = 0; unknowns = replicate 7 0; node_count = 1; link_count = count; junction_count = 0; heightmap_count = 0; ref_count = 0 })
+    (record {
+      vft = 0;
+      vehicle_node_count = 1;
+      ped_node_count = 0;
+      unknowns = replicate 7 0;
+      node_count = 1;
+      link_count = count;
+      junction_count = 0;
+      heightmap_count = 0;
+      ref_count = 0;
+    })
     ((0 ∷ 0 ∷ 0 ∷ 0 ∷ 0 ∷ 0 ∷ (count * 65536) ∷ 0 ∷ replicate 5 0) ∷ [])
     (replicate count (replicate 4 0))
     []
@@ -37,7 +47,8 @@ pub wrote : (h : Memory) (s : List ℕ) (n : ℕ) → length (written h) ≡ n �
 unfolding stored
 wrote h s n e room =
     let m = length (written h) in
-    ap (λ (b : Bool). (or_else b (refuse (TooShort lent.Section) s) (left (Ok m) (written h ++ drop m s))).answer) (le-ltb (length s) m (omega (arith, e, room))) ∙ ap Ok e
+    ap (λ (b : Bool). (or_else b (refuse (TooShort lent.Section) s) (left (Ok m) (written h ++ drop m s))).answer)
+    (le-ltb (length s) m (omega (arith, e, room))) ∙ ap Ok e
 
 -- no check refuses
 goes_on : (s : List ℕ) → write_call (one_node 31) s ≡ stored (held (one_node 31)) s
@@ -49,12 +60,15 @@ unfolding one_node write_call held over_limit write_held maps_cut short_of check
 bare_goes_on s = refl
 
 size_31 : length (written (held (one_node 31))) ≡ 1448
-unfolding one_node held written arrays total gap_for joined laid links_in node_bytes link_bytes file_node file_link number_bytes bits16
-size_31 = section_length (root_for (held (one_node 31)) (map length (blocks (held (one_node 31))))) (blocks (held (one_node 31)))
+unfolding one_node held written arrays total gap_for joined laid links_in node_bytes link_bytes file_node file_link
+    number_bytes bits16
+size_31 = section_length (root_for (held (one_node 31)) (map length (blocks (held (one_node 31)))))
+    (blocks (held (one_node 31)))
 
 bare_size : length (written (held (one_node 0))) ≡ 1192
 unfolding one_node held written arrays total gap_for joined laid links_in node_bytes file_node number_bytes bits16
-bare_size = section_length (root_for (held (one_node 0)) (map length (blocks (held (one_node 0))))) (blocks (held (one_node 0)))
+bare_size = section_length (root_for (held (one_node 0)) (map length (blocks (held (one_node 0)))))
+    (blocks (held (one_node 0)))
 
 -- 31 links write, wherever there is room; 32 don't, in any section
 pub links_31 : (s : List ℕ) → 1448 ≤ length s → (write_call (one_node 31) s).answer ≡ Ok 1448
@@ -69,5 +83,6 @@ pub bare_node : (s : List ℕ) → 1192 ≤ length s → (write_call (one_node 0
 bare_node s room = ap (λ (w : WriteLeft). w.answer) (bare_goes_on s) ∙ wrote (held (one_node 0)) s 1192 bare_size room
 
 pub bare_address : le64 (written (held (one_node 0))) 16 ≡ 0x50000480
-unfolding one_node held written section_bytes header_bytes root_bytes root_for places_of offset address start_of gap_for arrays joined laid links_in node_bytes file_node number_at number_bytes bits16
+unfolding one_node held written section_bytes header_bytes root_bytes root_for places_of offset address start_of
+    gap_for arrays joined laid links_in node_bytes file_node number_at number_bytes bits16
 bare_address = refl

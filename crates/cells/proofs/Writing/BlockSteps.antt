@@ -16,6 +16,9 @@ module _ (at : ℕ) (b : List ℕ) (bs : List (List ℕ)) where
 
   pub array_put : (s : List ℕ) → at + length (lay at (b ∷ bs)) ≤ length s
       → put s at (lay at (b ∷ bs))
-      ≡ put (put (put s at (replicate (gap_for at (length b)) 0)) (at + gap_for at (length b)) b) (end_of at (length b)) (lay (end_of at (length b)) bs)
+      ≡ put (put (put s at (replicate (gap_for at (length b)) 0)) (at + gap_for at (length b)) b)
+      (end_of at (length b)) (lay (end_of at (length b)) bs)
   array_put s room =
-      sym (lay_turn s _ at (end_of at (length b)) b bs (padded_put s _ _ at (gap_for at (length b)) b refl refl refl (omega (arith, room))) (omega (arith, padded_length at b)) (omega (arith, room)))
+      sym (lay_turn s _ at (end_of at (length b)) b bs
+      (padded_put s _ _ at (gap_for at (length b)) b refl refl refl (omega (arith, room)))
+      (omega (arith, padded_length at b)) (omega (arith, room)))

@@ -1,4 +1,5 @@
--- T-05: writing is refused with 9 exactly at the first node with links that has over 65,535 links before it, if neither
+-- T-05: writing is refused with 9 exactly at the first node with links that has over 65,535 links before it, if
+-- neither
 -- it nor a node before it has over 31. Assumes nothing.
 use Prim.Native.Nat.{ℕ, zero, suc, ◌+◌, ◌≤◌, ◌<◌}
 use native.Mathlib.Omega.{arith}
@@ -20,7 +21,8 @@ use Rattle.cells.proofs.Writing.Starts.{start_some, over_some, over_behind, not_
 use Rattle.std.specs.Prelude.{Result, Ok, Err}
 use Rattle.numbers.specs.Refusals.{Answer, when, decided, number_of}
 use Rattle.numbers.specs.declared.refusal.Refusal.{Refusal}
-use Rattle.numbers.specs.declared.refusal.Refusal.TheVariants.{TooShort, TooManyLinks, LinksStartTooHigh, ValuesStartTooHigh, TooManyRefs, WrongSize, AtLimit}
+use Rattle.numbers.specs.declared.refusal.Refusal.TheVariants.{TooShort, TooManyLinks, LinksStartTooHigh}
+use Rattle.numbers.specs.declared.refusal.Refusal.TheVariants.{ValuesStartTooHigh, TooManyRefs, WrongSize, AtLimit}
 use Rattle.numbers.specs.declared.refusal.Lent.{Lent}
 use Rattle.numbers.specs.declared.refusal.Lent.TheVariants as lent
 
@@ -30,7 +32,8 @@ module _ {B : Type 0} (links : List ℕ → List B) where
     pub inside : p < length nodes
     pub with_links : 0 < length (links (get_or nodes p []))
     pub behind : 65535 < before + length (joined links (take p nodes))
-    pub first : (i : ℕ) → i < p → 0 < length (links (get_or nodes i [])) → before + length (joined links (take i nodes)) ≤ 65535
+    pub first : (i : ℕ) → i < p → 0 < length (links (get_or nodes i [])) → before
+        + length (joined links (take i nodes)) ≤ 65535
     pub few : (i : ℕ) → i ≤ p → length (links (get_or nodes i [])) ≤ 31
 
   module _ (before : ℕ) (n : List ℕ) (ns : List (List ℕ)) (few : length (links n) ≤ 31) where
@@ -129,7 +132,12 @@ module _ {B : Type 0} (links : List ℕ → List B) where
         inside = omega (arith, h.inside);
         with_links = h.with_links;
         behind = omega (arith, h.behind, length-append (links n) (joined links (take p ns)));
-        first = λ i lt s. omega (arith, h.first (suc i) (omega arith) s, length-append (links n) (joined links (take i ns)));
+        first = λ i lt s. omega (
+          arith,
+          h.first (suc i) (omega arith) s,
+          length-append (links n)
+              (joined links (take i ns)),
+        );
         few = λ i le. h.few (suc i) (omega arith);
       })
       ∙ ap (λ (k : ℕ). Err (LinksStartTooHigh k)) e)
@@ -151,21 +159,24 @@ unfolding check_junctions
 ten count place before [] cause e = cc
 ten count place before (j ∷ js) cause e =
     by_test (ltb 65535 before)
-    (λ t. let q : ◌≡◌ {A = Result ℕ Refusal} (Err (ValuesStartTooHigh place)) (Err cause) = rw t at e in let same : ValuesStartTooHigh place ≡ cause = cc in sym (ap number_of same))
+    (λ t. let q : ◌≡◌ {A = Result ℕ Refusal} (Err (ValuesStartTooHigh place)) (Err cause) = rw t at e in let same :
+    ValuesStartTooHigh place ≡ cause = cc in sym (ap number_of same))
     (λ f. ten count (place + 1) (before + count j) js cause (rw f at e))
 
 -- a list that is too short is 7
 seven : (m : Memory) (cause : Refusal) → short m ≡ Err cause → number_of cause ≡ 7
 unfolding short_of
 seven m cause =
-    go (ltb (length m.nodes) m.ynd.node_count) (ltb (length m.links) m.ynd.link_count) (ltb (length m.junctions) m.ynd.junction_count)
+    go (ltb (length m.nodes) m.ynd.node_count) (ltb (length m.links) m.ynd.link_count)
+    (ltb (length m.junctions) m.ynd.junction_count)
     (ltb (length m.heights) m.ynd.heightmap_count) (ltb (length m.refs) m.ynd.ref_count)
   where
     named : {l : Lent} → ◌≡◌ {A = Answer} (Err (TooShort l)) (Err cause) → number_of cause ≡ 7
     named {l} e = let same : TooShort l ≡ cause = cc in sym (ap number_of same)
 
     go : (a b c d f : Bool)
-        → decided (when a (TooShort lent.Nodes) ∷ when b (TooShort lent.Links) ∷ when c (TooShort lent.Junctions) ∷ when d (TooShort lent.Heightmap) ∷ when f (TooShort lent.Refs) ∷ []) ≡ Err cause
+        → decided (when a (TooShort lent.Nodes) ∷ when b (TooShort lent.Links) ∷ when c (TooShort lent.Junctions)
+        ∷ when d (TooShort lent.Heightmap) ∷ when f (TooShort lent.Refs) ∷ []) ≡ Err cause
         → number_of cause ≡ 7
     go true b c d f e = named e
     go false true c d f e = named e
@@ -183,20 +194,24 @@ module _ (m : Memory) (s : List ℕ) (p : ℕ) where
   pub refused_nine : (write_call m s).answer ≡ Err (LinksStartTooHigh p) → NineAt (own m) 0 (held m).nodes p
   unfolding write_call write_held stored
   refused_nine e =
-      go (over_limit (held m).ynd) (maps_cut (held m).ynd.heightmap_count (held m).junctions) (check_nodes (λ n. length (own m n)) 0 0 (held m).nodes)
+      go (over_limit (held m).ynd) (maps_cut (held m).ynd.heightmap_count (held m).junctions)
+      (check_nodes (λ n. length (own m n)) 0 0 (held m).nodes)
       (check_junctions (λ j. length (values_in (held m).heights j)) 0 0 (held m).junctions)
       (ltb 65535 (held m).ynd.ref_count) (short m) (ltb (length s) (length (written (held m)))) refl refl refl e
     where
-      other : {P : Type 0} {a : Refusal} → (number_of a ≡ 9 → ⊥) → ◌≡◌ {A = Result ℕ Refusal} (Err a) (Err (LinksStartTooHigh p)) → P
+      other : {P : Type 0} {a : Refusal} → (number_of a ≡ 9 → ⊥)
+          → ◌≡◌ {A = Result ℕ Refusal} (Err a) (Err (LinksStartTooHigh p)) → P
       other {P} {a} n q = let same : a ≡ LinksStartTooHigh p = cc in absurd (n (ap number_of same))
 
       wrote : WriteLeft
       wrote = left (Ok (length (written (held m)))) (written (held m) ++ drop (length (written (held m))) s)
 
-      go : (o w : Bool) (a b : Result ℕ Refusal) (c : Bool) (d : Answer) (f : Bool) → check_nodes (λ n. length (own m n)) 0 0 (held m).nodes ≡ a
+      go : (o w : Bool) (a b : Result ℕ Refusal) (c : Bool) (d : Answer) (f : Bool)
+          → check_nodes (λ n. length (own m n)) 0 0 (held m).nodes ≡ a
           → check_junctions (λ j. length (values_in (held m).heights j)) 0 0 (held m).junctions ≡ b
           → short m ≡ d
-          → (or_else o (refuse AtLimit s) (or_else w (refuse WrongSize s) (after a s (after b s (or_else c (refuse TooManyRefs s)
+          → (or_else o (refuse AtLimit s) (or_else w (refuse WrongSize s)
+          (after a s (after b s (or_else c (refuse TooManyRefs s)
           (after d s (or_else f (refuse (TooShort lent.Section) s) wrote))))))
           ).answer ≡ Err (LinksStartTooHigh p)
           → NineAt (own m) 0 (held m).nodes p

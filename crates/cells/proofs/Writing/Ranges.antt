@@ -25,7 +25,8 @@ module _ {A : Type 0} where
 
 pub link_count_law : (links : List (List ℕ)) (n : List ℕ) → length (links_in links n) ≡ links_within (length links) n
 unfolding links_in links_within
-link_count_law links n = length-take (link_count n) (drop (link_start n) links) ∙ ap (min (link_count n)) (length-drop (link_start n) links)
+link_count_law links n = length-take (link_count n) (drop (link_start n) links)
+    ∙ ap (min (link_count n)) (length-drop (link_start n) links)
 
 pub links_size : (links : List (List ℕ)) (n : List ℕ) → length (links_records links n) ≡ 8 * length (links_in links n)
 links_size links n = joined_length link_record 8 (λ e. link_length_law (file_link (to_link e))) (links_in links n)
@@ -34,7 +35,8 @@ links_size links n = joined_length link_record 8 (λ e. link_length_law (file_li
 
 pub value_count_law : (heights j : List ℕ) → length (values_in heights j) ≡ values_within (length heights) j
 unfolding values_in values_within
-value_count_law heights j = length-take (value_count j) (drop (value_start j) heights) ∙ ap (min (value_count j)) (length-drop (value_start j) heights)
+value_count_law heights j = length-take (value_count j) (drop (value_start j) heights)
+    ∙ ap (min (value_count j)) (length-drop (value_start j) heights)
 
 byte_small : (x : ℕ) → x % 256 ≤ 255
 byte_small x = omega arith
@@ -44,12 +46,15 @@ least_small a b h = omega arith
 
 pub value_small : (pool : ℕ) (j : List ℕ) → values_within pool j ≤ 65025
 unfolding values_within
-value_small pool j = least_small (value_count j) (pool - value_start j) (mul-le-mul (byte_small (get_or j 4 0)) (byte_small _))
+value_small pool j = least_small (value_count j) (pool - value_start j)
+    (mul-le-mul (byte_small (get_or j 4 0)) (byte_small _))
 
 -- ---- the counts by the list, and by its length
 
-pub node_counts : (links : List (List ℕ)) → ◌≡◌ {A = List ℕ → ℕ} (λ n. length (links_in links n)) (links_within (length links))
+pub node_counts : (links : List (List ℕ))
+    → ◌≡◌ {A = List ℕ → ℕ} (λ n. length (links_in links n)) (links_within (length links))
 node_counts links = fun_ext (λ n. link_count_law links n)
 
-pub junction_counts : (heights : List ℕ) → ◌≡◌ {A = List ℕ → ℕ} (λ j. length (values_in heights j)) (values_within (length heights))
+pub junction_counts : (heights : List ℕ)
+    → ◌≡◌ {A = List ℕ → ℕ} (λ j. length (values_in heights j)) (values_within (length heights))
 junction_counts heights = fun_ext (λ j. value_count_law heights j)

@@ -49,7 +49,8 @@ module _ (before count : ℕ) where
 
 -- the two bytes at 26 of a node's record are its start
 module _ (links : List (List ℕ)) (before : ℕ) (n : List ℕ) where
-  pub start_bytes : take 2 (drop 26 (node_record links before n)) ≡ bytes16 (stored_start before (length (links_in links n)))
+  pub start_bytes : take 2 (drop 26 (node_record links before n))
+      ≡ bytes16 (stored_start before (length (links_in links n)))
   unfolding file_node node_bytes number_bytes
   start_bytes = refl
 

@@ -14,7 +14,8 @@ use Rattle.records.proofs.Laid.{lay_total, header_length, section_length}
 use Rattle.records.specs.declared.layout.Places.{Places}
 use Rattle.cells.specs.Entries.{links_in, values_in}
 use Rattle.cells.specs.WriteChecks.{links_within, values_within, maps_cut, accepted, check_nodes, check_junctions}
-use Rattle.cells.specs.Blocks.{refs_block, junctions_block, links_block, nodes_block, arrays, blocks, root_for, written}
+use Rattle.cells.specs.Blocks.{refs_block, junctions_block, links_block, nodes_block, arrays, blocks, root_for}
+use Rattle.cells.specs.Blocks.{written}
 use Rattle.cells.specs.Memory.{Memory, over_limit}
 use Rattle.cells.specs.Write.{WriteLeft, left, refuse, or_else, after, stored, write_held}
 use Rattle.cells.specs.WriteCounts.{write_counts, Cut, Counted}
@@ -33,12 +34,15 @@ use Rattle.numbers.specs.declared.refusal.Refusal.TheVariants.{TooManyRefs, Wron
 
 -- the counts by the list, and by its length
 pub nodes_say : (links : List (List ℕ)) (place before : ℕ) (ns : List (List ℕ))
-    → check_nodes (links_within (length links)) place before ns ≡ check_nodes (λ n. length (links_in links n)) place before ns
+    → check_nodes (links_within (length links)) place before ns
+    ≡ check_nodes (λ n. length (links_in links n)) place before ns
 nodes_say links place before ns = ap (λ (f : List ℕ → ℕ). check_nodes f place before ns) (sym (node_counts links))
 
 pub junctions_say : (heights : List ℕ) (place before : ℕ) (js : List (List ℕ))
-    → check_junctions (values_within (length heights)) place before js ≡ check_junctions (λ j. length (values_in heights j)) place before js
-junctions_say heights place before js = ap (λ (f : List ℕ → ℕ). check_junctions f place before js) (sym (junction_counts heights))
+    → check_junctions (values_within (length heights)) place before js
+    ≡ check_junctions (λ j. length (values_in heights j)) place before js
+junctions_say heights place before js = ap (λ (f : List ℕ → ℕ). check_junctions f place before js)
+    (sym (junction_counts heights))
 
 module _ (h : Memory) where
   abbrev answer : Result Counts Refusal
@@ -55,25 +59,62 @@ module _ (h : Memory) where
       (λ t.
       let r : Err WrongSize ≡ Ok k = rw (o, t) at told in
       cc)
-      (λ w. go o w (check_nodes (links_within (length h.links)) 0 0 h.nodes) (check_junctions (values_within (length h.heights)) 0 0 h.junctions) refl refl))
+      (λ w. go o w (check_nodes (links_within (length h.links)) 0 0 h.nodes)
+      (check_junctions (values_within (length h.heights)) 0 0 h.junctions) refl refl))
     where
-      go : over_limit h.ynd ≡ false → maps_cut h.ynd.heightmap_count h.junctions ≡ false → (a b : Result ℕ Refusal) → check_nodes (links_within (length h.links)) 0 0 h.nodes ≡ a → check_junctions (values_within (length h.heights)) 0 0 h.junctions ≡ b → Counted h k
+      go : over_limit h.ynd ≡ false → maps_cut h.ynd.heightmap_count h.junctions ≡ false → (a b : Result ℕ Refusal)
+          → check_nodes (links_within (length h.links)) 0 0 h.nodes ≡ a
+          → check_junctions (values_within (length h.heights)) 0 0 h.junctions ≡ b → Counted h k
       go o w (Err x) b ea eb =
           let r : Err x ≡ Ok k = rw (o, w, sym (nodes_say h.links 0 0 h.nodes) ∙ ea) at told in
           cc
       go o w (Ok l) (Err x) ea eb =
-          let r : Err x ≡ Ok k = rw (o, w, sym (nodes_say h.links 0 0 h.nodes) ∙ ea, sym (junctions_say h.heights 0 0 h.junctions) ∙ eb) at told in
+          let r : Err x ≡ Ok k = rw (
+            o,
+            w,
+            sym (nodes_say h.links 0 0 h.nodes)
+                ∙ ea,
+            sym (junctions_say h.heights 0 0 h.junctions) ∙ eb,
+          ) at told in
           cc
       go o w (Ok l) (Ok v) ea eb =
           by_test (ltb 65535 h.ynd.ref_count)
           (λ t.
-          let r : Err TooManyRefs ≡ Ok k = rw (o, w, sym (nodes_say h.links 0 0 h.nodes) ∙ ea, sym (junctions_say h.heights 0 0 h.junctions) ∙ eb, t) at told in
+          let r : Err TooManyRefs ≡ Ok k = rw (
+            o,
+            w,
+            sym (nodes_say h.links 0 0 h.nodes)
+                ∙ ea,
+            sym (junctions_say h.heights 0 0 h.junctions) ∙ eb,
+            t,
+          ) at told in
           cc)
           (λ u.
-          let r : Ok (record { nodes = length h.nodes; links = l; junctions = length h.junctions; heights = v; refs = length h.refs }) ≡ Ok k = rw (o, w, sym (nodes_say h.links 0 0 h.nodes) ∙ ea, sym (junctions_say h.heights 0 0 h.junctions) ∙ eb, u) at told in
-          let e : ◌≡◌ {A = Counts} (record { nodes = length h.nodes; links = l; junctions = length h.junctions; heights = v; refs = length h.refs }) k = cc in
-          let p = nodes_total (links_in h.links) (links_within (length h.links)) (link_count_law h.links) 0 0 h.nodes l (omega arith) ea in
-          let q = junctions_total (values_in h.heights) (values_within (length h.heights)) (value_count_law h.heights) (value_small (length h.heights)) 0 0 h.junctions v (omega arith) eb in
+          let r : Ok (record {
+            nodes = length h.nodes;
+            links = l;
+            junctions = length h.junctions;
+            heights = v;
+            refs = length h.refs;
+          }) ≡ Ok k = rw (
+            o,
+            w,
+            sym (nodes_say h.links 0 0 h.nodes)
+                ∙ ea,
+            sym (junctions_say h.heights 0 0 h.junctions) ∙ eb,
+            u,
+          ) at told in
+          let e : ◌≡◌ {A = Counts} (record {
+            nodes = length h.nodes;
+            links = l;
+            junctions = length h.junctions;
+            heights = v;
+            refs = length h.refs;
+          }) k = cc in
+          let p = nodes_total (links_in h.links) (links_within (length h.links)) (link_count_law h.links) 0 0
+          h.nodes l (omega arith) ea in
+          let q = junctions_total (values_in h.heights) (values_within (length h.heights))
+          (value_count_law h.heights) (value_small (length h.heights)) 0 0 h.junctions v (omega arith) eb in
           let few = ltb-false 65535 h.ynd.ref_count u in
           let limits = within h.ynd o in
           record {
@@ -176,12 +217,23 @@ module _ (h : Memory) (lack : Answer) (s : List ℕ) where
   by_counts : if_counted (counts_of h) ≡ write_held h lack s
   unfolding write_held write_counts
   by_counts =
-      go (over_limit h.ynd) (maps_cut h.ynd.heightmap_count h.junctions) (check_nodes (λ n. length (links_in h.links n)) 0 0 h.nodes) (check_junctions (λ j. length (values_in h.heights j)) 0 0 h.junctions)
+      go (over_limit h.ynd) (maps_cut h.ynd.heightmap_count h.junctions)
+      (check_nodes (λ n. length (links_in h.links n)) 0 0 h.nodes)
+      (check_junctions (λ j. length (values_in h.heights j)) 0 0 h.junctions)
       (ltb 65535 h.ynd.ref_count)
     where
       go : (o w : Bool) (a b : Result ℕ Refusal) (c : Bool)
-          → if_counted (refuse_if o AtLimit (refuse_if w WrongSize (and_then a λ l. and_then b λ v. refuse_if c TooManyRefs (Ok (record { nodes = length h.nodes; links = l; junctions = length h.junctions; heights = v; refs = length h.refs })))))
-          ≡ or_else o (refuse AtLimit s) (or_else w (refuse WrongSize s) (after a s (after b s (or_else c (refuse TooManyRefs s) next))))
+          → if_counted (refuse_if o AtLimit (refuse_if w WrongSize (and_then a λ l. and_then b λ v. refuse_if c
+          TooManyRefs (Ok (record {
+            nodes = length h.nodes;
+            links = l;
+            junctions = length h.junctions;
+            heights =
+                v;
+            refs = length h.refs;
+          })))))
+          ≡ or_else o (refuse AtLimit s) (or_else w (refuse WrongSize s)
+          (after a s (after b s (or_else c (refuse TooManyRefs s) next))))
       go true w a b c = refl
       go false true a b c = refl
       go false false (Err x) b c = refl
@@ -205,7 +257,8 @@ unfolding written
 arrays_room h = section_length (root_for h (map length (blocks h))) (blocks h) ∙ sym (lay_total header_size (blocks h))
 
 -- a section that has room
-pub stored_fits : (h : Memory) (s : List ℕ) → length (written h) ≤ length s → stored h s ≡ left (Ok (length (written h))) (written h ++ drop (length (written h)) s)
+pub stored_fits : (h : Memory) (s : List ℕ) → length (written h) ≤ length s → stored h s
+    ≡ left (Ok (length (written h))) (written h ++ drop (length (written h)) s)
 unfolding stored
 stored_fits h s fits = rw (le-ltb (length s) (length (written h)) fits)
 
@@ -215,8 +268,10 @@ stored_in end len h = rw (le-leb end len h)
 
 -- the header put, and the arrays behind it
 pub section_put : (h : Memory) (s : List ℕ) → length (written h) ≤ length s
-    → put (put s 0 (header_bytes (root_for h (map length (blocks h))))) header_size (lay header_size (blocks h)) ≡ written h ++ drop (length (written h)) s
+    → put (put s 0 (header_bytes (root_for h (map length (blocks h))))) header_size (lay header_size (blocks h))
+    ≡ written h ++ drop (length (written h)) s
 unfolding written section_bytes
 section_put h s fits =
     let r = root_for h (map length (blocks h)) in
-    then s _ _ 0 header_size (header_bytes r) (lay header_size (blocks h)) refl refl (omega (arith, header_length r)) (omega arith) ∙ put_start s (written h)
+    then s _ _ 0 header_size (header_bytes r) (lay header_size (blocks h)) refl refl
+    (omega (arith, header_length r)) (omega arith) ∙ put_start s (written h)

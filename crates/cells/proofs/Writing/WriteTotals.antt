@@ -14,23 +14,28 @@ use Rattle.std.specs.Prelude.{Result, Ok, Err}
 use Rattle.numbers.specs.declared.refusal.Refusal.{Refusal}
 use Rattle.numbers.specs.declared.refusal.Refusal.TheVariants.{TooManyLinks, LinksStartTooHigh, ValuesStartTooHigh}
 
-unless_sum : (b : Bool) (cause : Refusal) (next : Result ℕ Refusal) (n : ℕ) → unless b (Err cause) next ≡ Ok n → (b ≡ false) × (next ≡ Ok n)
+unless_sum : (b : Bool) (cause : Refusal) (next : Result ℕ Refusal) (n : ℕ) → unless b (Err cause) next ≡ Ok n
+    → (b ≡ false) × (next ≡ Ok n)
 unless_sum true cause next n e = cc
 unless_sum false cause next n e = (refl, e)
 
 module _ {B : Type 0} (f : List ℕ → List B) (count : List ℕ → ℕ) (same : (x : List ℕ) → length (f x) ≡ count x) where
-  pub nodes_total : (place before : ℕ) (ns : List (List ℕ)) (n : ℕ) → before ≤ 65566 → check_nodes count place before ns ≡ Ok n → (n ≡ before + length (joined f ns)) × (n ≤ 65566)
+  pub nodes_total : (place before : ℕ) (ns : List (List ℕ)) (n : ℕ) → before ≤ 65566
+      → check_nodes count place before ns ≡ Ok n → (n ≡ before + length (joined f ns)) × (n ≤ 65566)
   unfolding check_nodes joined
   nodes_total place before [] n h e = let q : before ≡ n = cc in (omega arith, omega arith)
   nodes_total place before (x ∷ xs) n h e =
       let rest = check_nodes count (place + 1) (before + count x) xs in
-      let a = unless_sum (ltb 31 (count x)) (TooManyLinks place) (unless (start_over before (count x)) (Err (LinksStartTooHigh place)) rest) n e in
+      let a = unless_sum (ltb 31 (count x)) (TooManyLinks place)
+      (unless (start_over before (count x)) (Err (LinksStartTooHigh place)) rest) n e in
       let b = unless_sum (start_over before (count x)) (LinksStartTooHigh place) rest n a.1 in
       let few : count x ≤ 31 = ltb-false _ _ a.0 in
-      let r = nodes_total (place + 1) (before + count x) xs n (start_sum before (count x) (ltb-false _ _ b.0) few h) b.1 in
+      let r = nodes_total (place + 1) (before + count x) xs n (start_sum before (count x) (ltb-false _ _ b.0) few h)
+      b.1 in
       (omega (arith, r.0, length-append (f x) (joined f xs), same x), r.1)
 
-  pub junctions_total : ((x : List ℕ) → count x ≤ 65025) → (place before : ℕ) (ns : List (List ℕ)) (n : ℕ) → before ≤ 130560
+  pub junctions_total : ((x : List ℕ) → count x ≤ 65025) → (place before : ℕ) (ns : List (List ℕ)) (n : ℕ) → before
+      ≤ 130560
       → check_junctions count place before ns ≡ Ok n → (n ≡ before + length (joined f ns)) × (n ≤ 130560)
   unfolding check_junctions joined
   junctions_total small place before [] n h e = let q : before ≡ n = cc in (omega arith, omega arith)

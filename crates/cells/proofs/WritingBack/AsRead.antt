@@ -14,7 +14,8 @@ use Rattle.records.specs.declared.root.Root.{Root}
 use Rattle.cells.specs.Lists.{join_to, every}
 use Rattle.cells.specs.Order.{Old}
 use Rattle.cells.specs.NodeWords.{old_of, relinked}
-use Rattle.cells.specs.Cell.{Node, Junction, Cell, is_ped_node, relink, number_nodes, ordered, old_nodes, renumber_cell}
+use Rattle.cells.specs.Cell.{Node, Junction, Cell, is_ped_node, relink, number_nodes, ordered, old_nodes}
+use Rattle.cells.specs.Cell.{renumber_cell}
 use Rattle.cells.specs.CellOf.{cell_of}
 use Rattle.cells.specs.FileCell.{file_node_of, file_junction_of, file_nodes, file_junctions, cell_from}
 use Rattle.cells.specs.Checks.{counts_of, links_at, values_at}
@@ -45,7 +46,8 @@ links_held c = length (joined (λ n. n.links) c.nodes)
 abbrev pub values_held : Cell → ℕ
 values_held c = length (joined (λ j. j.values) c.junctions)
 
--- within the limits of 6, heightmaps whole, and lists long enough for every node's own links and every junction's own values
+-- within the limits of 6, heightmaps whole, and lists long enough for every node's own links and every junction's
+-- own values
 pub record AsRead (m : Memory) : Type 0 where
   pub few_nodes : length (cell_of m).nodes ≤ 65536
   pub few_junctions : length (cell_of m).junctions ≤ 4096
@@ -55,7 +57,8 @@ pub record AsRead (m : Memory) : Type 0 where
 
 -- ---- reading
 
-filled_as_read : (root : Root) (n l j h r : List ℕ) (m : Memory) → Holds n j r (counts_of n j r) → AsRead (filled root (counts_of n j r) n l j h r m)
+filled_as_read : (root : Root) (n l j h r : List ℕ) (m : Memory) → Holds n j r (counts_of n j r)
+    → AsRead (filled root (counts_of n j r) n l j h r m)
 unfolding filled cell_from file_nodes file_junctions
 filled_as_read root n l j h r m few =
     let k = counts_of n j r in
@@ -65,8 +68,14 @@ filled_as_read root n l j h r m few =
     let values : (i : ℕ) → length (junction i).values ≡ values_at j i = λ i. length_up_to _ (values_at j i) in
     record {
       few_nodes = omega (arith, ap (λ (c : Cell). length c.nodes) same, length_up_to node k.nodes, few.few_nodes);
-      few_junctions = omega (arith, ap (λ (c : Cell). length c.junctions) same, length_up_to junction k.junctions, few.few_junctions);
-      maps_whole = ap (λ (c : Cell). every whole_map c.junctions) same ∙ every_up_to whole_map junction (λ i. eq-eqb _ _ (values i)) k.junctions;
+      few_junctions = omega (
+        arith,
+        ap (λ (c : Cell). length c.junctions) same,
+        length_up_to junction k.junctions,
+        few.few_junctions,
+      );
+      maps_whole = ap (λ (c : Cell). every whole_map c.junctions) same
+          ∙ every_up_to whole_map junction (λ i. eq-eqb _ _ (values i)) k.junctions;
       links_fit = omega (
         arith,
         ap links_held same,
@@ -89,7 +98,8 @@ read_as_read s g m e = read_all AsRead s g m (λ n l j h r held. filled_as_read 
 -- ---- renumbering
 
 -- each node takes its links with it
-number_links : (o : Old) (k : ℕ) (ns : List Node) → length (joined (λ n. n.links) (number_nodes o k ns)) ≡ length (joined (λ n. n.links) ns)
+number_links : (o : Old) (k : ℕ) (ns : List Node) → length (joined (λ n. n.links) (number_nodes o k ns))
+    ≡ length (joined (λ n. n.links) ns)
 unfolding number_nodes joined
 number_links o k [] = refl
 number_links o k (n ∷ ns) =
@@ -103,14 +113,16 @@ number_links o k (n ∷ ns) =
 
 links_stay : (c : Cell) → links_held (renumber_cell c) ≡ links_held c
 unfolding renumber_cell
-links_stay c = number_links (old_nodes c.nodes) 0 (ordered c.nodes) ∙ count_parted (λ (n : Node). n.links) is_ped_node c.nodes
+links_stay c = number_links (old_nodes c.nodes) 0 (ordered c.nodes)
+    ∙ count_parted (λ (n : Node). n.links) is_ped_node c.nodes
 
 module _ (m : Memory) (ps : List ℕ) (s : ℕ) (h : AsRead m) where
   renumbered_as_read : Room m s (length ps) → AsRead (renumber_memory m ps)
   unfolding renumber_memory new_lists renumber_lists
   renumbered_as_read room =
       let same : cell_of (renumber_memory m ps) ≡ renumber_cell (cell_of m) = renumber_memory_law m ps room in
-      let js : (cell_of (renumber_memory m ps)).junctions ≡ (cell_of m).junctions = ap (λ (c : Cell). c.junctions) same ∙ new_junctions (cell_of m) in
+      let js : (cell_of (renumber_memory m ps)).junctions
+      ≡ (cell_of m).junctions = ap (λ (c : Cell). c.junctions) same ∙ new_junctions (cell_of m) in
       let l = m.ynd.link_count in
       let o = old_of m.ynd.node_count m.nodes in
       record {
@@ -135,7 +147,8 @@ module _ (m : Memory) (ps : List ℕ) (s : ℕ) (h : AsRead m) where
   unfolding renumber
   renumber_as_read = go (answer_of (over_limit m.ynd) m.ynd.node_count (short m) s (length ps)) refl
     where
-      go : (a : Answer) → answer_of (over_limit m.ynd) m.ynd.node_count (short m) s (length ps) ≡ a → AsRead (left_by a m ps).memory
+      go : (a : Answer) → answer_of (over_limit m.ynd) m.ynd.node_count (short m) s (length ps) ≡ a
+          → AsRead (left_by a m ps).memory
       go (Ok tt) e = renumbered_as_read (accepted m s (length ps) e)
       go (Err cause) e = h
 
@@ -148,7 +161,8 @@ write_read_as_read m s h = go (write_call m s).answer
     t : List ℕ
     t = (write_call m s).section
 
-    reading : (n : ℕ) (c : Answer) → (read_of (take n t) [] m).answer ≡ c → AsRead (if_read n t c (read_of (take n t) [] m).memory m s).memory
+    reading : (n : ℕ) (c : Answer) → (read_of (take n t) [] m).answer ≡ c
+        → AsRead (if_read n t c (read_of (take n t) [] m).memory m s).memory
     reading n (Err cause) e = h
     reading n (Ok tt) e = read_as_read (take n t) [] m e
 

@@ -33,41 +33,55 @@ use Rattle.numbers.specs.declared.refusal.Lent.TheVariants as lent
 
 -- ---- the cell, and the entries that hold it
 
-links_same : (ls ns : List (List ℕ)) → length (joined (λ n. n.links) (map (node_with (map link_of ls)) ns)) ≡ length (joined (links_in ls) ns)
+links_same : (ls ns : List (List ℕ)) → length (joined (λ n. n.links) (map (node_with (map link_of ls)) ns))
+    ≡ length (joined (links_in ls) ns)
 unfolding links_in
 links_same ls ns = count_map (λ (n : Node). n.links) (node_with (map link_of ls)) (links_in ls) as_many ns
   where
-    as_many : (w : List ℕ) → length (take (link_count w) (drop (link_start w) (map link_of ls))) ≡ length (take (link_count w) (drop (link_start w) ls))
+    as_many : (w : List ℕ) → length (take (link_count w) (drop (link_start w) (map link_of ls)))
+        ≡ length (take (link_count w) (drop (link_start w) ls))
     as_many w =
         ap (λ (x : List Link). length (take (link_count w) x)) (drop-map link_of (link_start w) ls)
         ∙ ap {A = List Link} length (take-map link_of (link_count w) (drop (link_start w) ls))
         ∙ length-map (take (link_count w) (drop (link_start w) ls)) link_of
 
-values_same : (hs : List ℕ) (js : List (List ℕ)) → length (joined (λ j. j.values) (map (junction_with hs) js)) ≡ length (joined (values_in hs) js)
+values_same : (hs : List ℕ) (js : List (List ℕ)) → length (joined (λ j. j.values) (map (junction_with hs) js))
+    ≡ length (joined (values_in hs) js)
 unfolding values_in
 values_same hs js = count_map (λ (j : Junction). j.values) (junction_with hs) (values_in hs) (λ w. refl) js
 
 -- ---- 12: heightmaps that are whole are not cut
 
-none_cut : (pool : ℕ) (hs : List ℕ) (js : List (List ℕ)) → every whole_map (map (junction_with (take pool hs)) js) ≡ true → maps_cut pool js ≡ false
+none_cut : (pool : ℕ) (hs : List ℕ) (js : List (List ℕ)) → every whole_map (map (junction_with (take pool hs)) js)
+    ≡ true → maps_cut pool js ≡ false
 unfolding maps_cut values_within every
 none_cut pool hs [] t = refl
 none_cut pool hs (j ∷ js) t =
     let all = eqb-true _ (value_count j) (and_left (whole_map (junction_with (take pool hs) j)) _ t) in
     let fits : value_count j ≤ min (value_count j) (pool - value_start j) =
-    omega (arith, all, length-take (value_count j) (drop (value_start j) (take pool hs)), length-drop (value_start j) (take pool hs), length-take pool hs) in
-    rw (le-ltb (min (value_count j) (pool - value_start j)) (value_count j) fits) (none_cut pool hs js (and_right (whole_map (junction_with (take pool hs) j)) _ t))
+    omega (
+      arith,
+      all,
+      length-take (value_count j) (drop (value_start j) (take pool hs)),
+      length-drop
+          (value_start j) (take pool hs),
+      length-take pool hs,
+    ) in
+    rw (le-ltb (min (value_count j) (pool - value_start j)) (value_count j) fits)
+    (none_cut pool hs js (and_right (whole_map (junction_with (take pool hs) j)) _ t))
 
 -- ---- a refused writing leaves the section
 
 abbrev Leaves : List ℕ → WriteLeft → Type 0
 Leaves s w = (cause : Refusal) → w.answer ≡ Err cause → w.section ≡ s
 
-after_leaves : {A : Type 0} (c : Result A Refusal) (s : List ℕ) (next : WriteLeft) → Leaves s next → Leaves s (after c s next)
+after_leaves : {A : Type 0} (c : Result A Refusal) (s : List ℕ) (next : WriteLeft) → Leaves s next
+    → Leaves s (after c s next)
 after_leaves (Err a) s next h cause e = refl
 after_leaves (Ok n) s next h cause e = h cause e
 
-else_leaves : (b : Bool) (x : Refusal) (s : List ℕ) (next : WriteLeft) → Leaves s next → Leaves s (or_else b (refuse x s) next)
+else_leaves : (b : Bool) (x : Refusal) (s : List ℕ) (next : WriteLeft) → Leaves s next
+    → Leaves s (or_else b (refuse x s) next)
 else_leaves true x s next h cause e = refl
 else_leaves false x s next h cause e = h cause e
 
@@ -88,7 +102,8 @@ held_leaves h lack s =
     let l₂ = or_else (ltb 65535 h.ynd.ref_count) (refuse TooManyRefs s) l₃ in
     let l₁ = after (check_junctions (λ j. length (values_in h.heights j)) 0 0 h.junctions) s l₂ in
     let l₀ = after (check_nodes (λ n. length (links_in h.links n)) 0 0 h.nodes) s l₁ in
-    else_leaves (over_limit h.ynd) AtLimit s (or_else (maps_cut h.ynd.heightmap_count h.junctions) (refuse WrongSize s) l₀)
+    else_leaves (over_limit h.ynd) AtLimit s
+    (or_else (maps_cut h.ynd.heightmap_count h.junctions) (refuse WrongSize s) l₀)
     (else_leaves (maps_cut h.ynd.heightmap_count h.junctions) WrongSize s l₀
     (after_leaves (check_nodes (λ n. length (links_in h.links n)) 0 0 h.nodes) s l₁
     (after_leaves (check_junctions (λ j. length (values_in h.heights j)) 0 0 h.junctions) s l₂
@@ -122,7 +137,8 @@ module _ (m : Memory) (h : AsRead m) where
   unfolding cell_of junctions_of
   values_room = omega (arith, h.values_fit, values_same hs js)
 
-  room_enough : room_check (held_counts (held m)) (length m.nodes) (length m.links) (length m.junctions) (length m.heights) (length m.refs) ≡ Ok tt
+  room_enough : room_check (held_counts (held m)) (length m.nodes) (length m.links) (length m.junctions)
+      (length m.heights) (length m.refs) ≡ Ok tt
   unfolding held room_check
   room_enough =
       rw (
@@ -130,7 +146,8 @@ module _ (m : Memory) (h : AsRead m) where
         le-ltb (length m.links) (length (joined (links_in ls) ns)) links_room,
         le-ltb (length m.junctions) (length js) (omega (arith, length-take m.ynd.junction_count m.junctions)),
         le-ltb (length m.heights) (length (joined (values_in hs) js)) values_room,
-        le-ltb (length m.refs) (length (take m.ynd.ref_count m.refs)) (omega (arith, length-take m.ynd.ref_count m.refs)),
+        le-ltb (length m.refs) (length (take m.ynd.ref_count m.refs))
+            (omega (arith, length-take m.ynd.ref_count m.refs)),
       )
       refl
 
@@ -145,19 +162,31 @@ module _ (m : Memory) (h : AsRead m) where
 
   -- what an accepted writing is followed by
   wrote : (s : List ℕ) (n : ℕ) → (write_call m s).answer ≡ Ok n
-      → write_read_of m s ≡ record { answer = Ok n; memory = (read_of (written (held m)) [] m).memory; section = (write_call m s).section }
+      → write_read_of m s ≡ record {
+        answer = Ok n;
+        memory = (read_of (written (held m)) [] m).memory;
+        section =
+            (write_call m s).section;
+      }
   unfolding write_call
   wrote s n e =
       tested_first m s n e
-      ∙ ap (λ (c : Answer). if_read n (write_call m s).section c (read_of (written (held m)) [] m).memory m s) back_done
+      ∙ ap (λ (c : Answer). if_read n (write_call m s).section c (read_of (written (held m)) [] m).memory m s)
+      back_done
 
   -- write-then-read answers what writing answers, and leaves the section that writing leaves
-  pub as_writing : (s : List ℕ) → ((write_read_of m s).answer ≡ (write_call m s).answer) × ((write_read_of m s).section ≡ (write_call m s).section)
+  pub as_writing : (s : List ℕ) → ((write_read_of m s).answer ≡ (write_call m s).answer)
+      × ((write_read_of m s).section ≡ (write_call m s).section)
   unfolding write_read_of
   as_writing s = go (write_call m s).answer refl
     where
-      go : (a : Result ℕ Refusal) → (write_call m s).answer ≡ a → ((write_read_of m s).answer ≡ (write_call m s).answer) × ((write_read_of m s).section ≡ (write_call m s).section)
+      go : (a : Result ℕ Refusal) → (write_call m s).answer ≡ a
+          → ((write_read_of m s).answer ≡ (write_call m s).answer)
+          × ((write_read_of m s).section ≡ (write_call m s).section)
       go (Err cause) e =
-          let same = ap (λ (x : Result ℕ Refusal). if_written x (write_call m s).section m s) e in
-          (ap (λ (b : Both). b.answer) same ∙ sym e, ap (λ (b : Both). b.section) same ∙ sym (refused_leaves m s cause e))
+          let same = ap (λ (x : Result ℕ Refusal). if_written x (write_call m s).section m s) e in (
+            ap (λ (b : Both). b.answer) same ∙ sym e,
+            ap (λ (b : Both). b.section) same
+                ∙ sym (refused_leaves m s cause e),
+          )
       go (Ok n) e = (ap (λ (b : Both). b.answer) (wrote s n e) ∙ sym e, ap (λ (b : Both). b.section) (wrote s n e))

@@ -18,7 +18,8 @@ use Rattle.records.specs.Bytes.{byte_at}
 use Rattle.records.specs.Put.{joined}
 use Rattle.records.specs.Records.{node_at, link_at, junction_at, junction_bytes, ref_at}
 use Rattle.records.proofs.LittleEndian.{Stands, stands_taken}
-use Rattle.records.proofs.RecordBack.{NodeFits, node_back, LinkFits, link_back, link_length_law, JunctionFits, junction_back, junction_length, ref_back, ref_length}
+use Rattle.records.proofs.RecordBack.{NodeFits, node_back, LinkFits, link_back, link_length_law, JunctionFits}
+use Rattle.records.proofs.RecordBack.{junction_back, junction_length, ref_back, ref_length}
 use Rattle.cells.specs.Lists.{up_to, every}
 use Rattle.cells.specs.NodeWords.{area_of, number_of}
 use Rattle.cells.specs.Words.{to_node, to_link, to_junction, to_ref}
@@ -26,11 +27,14 @@ use Rattle.cells.specs.CellOf.{link_of, ref_of, body_of, node_with, junction_wit
 use Rattle.cells.specs.Words.{path_node}
 use Rattle.cells.specs.NodeAccess.{changed}
 use Rattle.cells.specs.CellOf.{marks_of}
-use Rattle.cells.specs.FileCell.{file_link_of, file_ref_of, file_body, file_node_of, file_junction_of, file_nodes, file_junctions, file_refs}
-use Rattle.cells.proofs.WritingBack.KeptCells.{kept_step, kept_link, kept_body, kept_node, is_byte, kept_junction, kept_ref}
+use Rattle.cells.specs.FileCell.{file_link_of, file_ref_of, file_body, file_node_of, file_junction_of, file_nodes}
+use Rattle.cells.specs.FileCell.{file_junctions, file_refs}
+use Rattle.cells.proofs.WritingBack.KeptCells.{kept_step, kept_link, kept_body, kept_node, is_byte, kept_junction}
+use Rattle.cells.proofs.WritingBack.KeptCells.{kept_ref}
 use Rattle.cells.specs.Entries.{links_in, values_in, stored_start, file_node, file_link, file_junction}
 use Rattle.cells.specs.WriteChecks.{accepted, start_over, check_nodes, check_junctions}
-use Rattle.cells.specs.Blocks.{link_record, ref_record, junction_record, node_record, refs_block, heights_block, junctions_block, links_block, nodes_block}
+use Rattle.cells.specs.Blocks.{link_record, ref_record, junction_record, node_record, refs_block, heights_block}
+use Rattle.cells.specs.Blocks.{junctions_block, links_block, nodes_block}
 use Rattle.cells.proofs.Sequences.Tests.{and_left, and_right, by_test, every_at, true_false}
 use Rattle.cells.proofs.Reading.FileRead.{up_to_same}
 use Rattle.cells.proofs.Writing.Starts.{start_some}
@@ -44,49 +48,69 @@ unfolding up_to
 up_to_first f zero = refl
 up_to_first {A = A} f (suc n) = ap (λ (l : List A). l ++ (f (suc n) ∷ [])) (up_to_first f n)
 
-pub up_to_all : {A B : Type 0} (f : A → B) (xs : List A) (z : A) → up_to (λ i. f (get_or xs i z)) (length xs) ≡ map f xs
+pub up_to_all : {A B : Type 0} (f : A → B) (xs : List A) (z : A) → up_to (λ i. f (get_or xs i z)) (length xs)
+    ≡ map f xs
 unfolding up_to
 up_to_all f [] z = refl
-up_to_all {B = B} f (x ∷ xs) z = up_to_first (λ i. f (get_or (x ∷ xs) i z)) (length xs) ∙ ap (λ (l : List B). f x ∷ l) (up_to_all f xs z)
+up_to_all {B = B} f (x ∷ xs) z = up_to_first (λ i. f (get_or (x ∷ xs) i z)) (length xs)
+    ∙ ap (λ (l : List B). f x ∷ l) (up_to_all f xs z)
 
 -- what a test says of the entry at a place
-kept_at : {A B : Type 0} (t : B → Bool) (f : A → B) (xs : List A) (i : ℕ) (z : A) → every t (map f xs) ≡ true → i < length xs → t (f (get_or xs i z)) ≡ true
+kept_at : {A B : Type 0} (t : B → Bool) (f : A → B) (xs : List A) (i : ℕ) (z : A) → every t (map f xs) ≡ true → i
+    < length xs → t (f (get_or xs i z)) ≡ true
 kept_at {B = B} t f xs i z h lt =
-    ap t (sym (get_or-map f xs i z)) ∙ every_at t (map f xs) i (f z) h (let q : i < length (map f xs) = omega (arith, length-map xs f) in q)
+    ap t (sym (get_or-map f xs i z)) ∙ every_at t (map f xs) i (f z) h
+    (let q : i < length (map f xs) = omega (arith, length-map xs f) in q)
 
 -- ---- what an accepted check says of each entry
 
-pub nodes_ok : {B : Type 0} (f : List ℕ → List B) (place before : ℕ) (ns : List (List ℕ)) (i : ℕ) → accepted (check_nodes (λ n. length (f n)) place before ns) ≡ true → i < length ns
-    → (length (f (get_or ns i [])) ≤ 31) × (stored_start (before + length (joined f (take i ns))) (length (f (get_or ns i []))) ≤ 65535)
+pub nodes_ok : {B : Type 0} (f : List ℕ → List B) (place before : ℕ) (ns : List (List ℕ)) (i : ℕ)
+    → accepted (check_nodes (λ n. length (f n)) place before ns) ≡ true → i < length ns
+    → (length (f (get_or ns i [])) ≤ 31)
+    × (stored_start (before + length (joined f (take i ns))) (length (f (get_or ns i []))) ≤ 65535)
 unfolding check_nodes joined
 nodes_ok f place before [] i e lt = absurd (omega arith)
 nodes_ok f place before (n ∷ ns) i e lt =
     by_test (ltb 31 (length (f n))) (λ t. true_false (sym (rw t at e))) (λ u.
-    by_test (start_over before (length (f n))) (λ t. true_false (sym (rw (u, t) at e))) (λ v. go i (λ j d q. nodes_ok f (place + 1) (before + length (f n)) ns j d q) lt (ltb-false _ _ u) (ltb-false _ _ v) (rw (u, v) at e)))
+    by_test (start_over before (length (f n))) (λ t. true_false (sym (rw (u, t) at e)))
+    (λ v. go i (λ j d q. nodes_ok f (place + 1) (before + length (f n)) ns j d q) lt (ltb-false _ _ u)
+    (ltb-false _ _ v) (rw (u, v) at e)))
   where
     go : (i : ℕ)
-        → ((j : ℕ) → accepted (check_nodes (λ n. length (f n)) (place + 1) (before + length (f n)) ns) ≡ true → j < length ns
-        → (length (f (get_or ns j [])) ≤ 31) × (stored_start (before + length (f n) + length (joined f (take j ns))) (length (f (get_or ns j []))) ≤ 65535))
-        → i < suc (length ns) → length (f n) ≤ 31 → stored_start before (length (f n)) ≤ 65535 → accepted (check_nodes (λ n. length (f n)) (place + 1) (before + length (f n)) ns) ≡ true
-        → (length (f (get_or (n ∷ ns) i [])) ≤ 31) × (stored_start (before + length (joined f (take i (n ∷ ns)))) (length (f (get_or (n ∷ ns) i []))) ≤ 65535)
+        → ((j : ℕ) → accepted (check_nodes (λ n. length (f n)) (place + 1) (before + length (f n)) ns) ≡ true → j
+        < length ns
+        → (length (f (get_or ns j [])) ≤ 31)
+        × (stored_start (before + length (f n) + length (joined f (take j ns))) (length (f (get_or ns j [])))
+        ≤ 65535))
+        → i < suc (length ns) → length (f n) ≤ 31 → stored_start before (length (f n)) ≤ 65535
+        → accepted (check_nodes (λ n. length (f n)) (place + 1) (before + length (f n)) ns) ≡ true
+        → (length (f (get_or (n ∷ ns) i [])) ≤ 31)
+        × (stored_start (before + length (joined f (take i (n ∷ ns)))) (length (f (get_or (n ∷ ns) i [])))
+        ≤ 65535)
     go zero ih lt few low d =
         let z : before + 0 ≡ before = omega arith in
         (few, omega (arith, low, ap (λ (b : ℕ). stored_start b (length (f n))) z))
     go (suc i) ih lt few low d =
         let r = ih i d (omega arith) in
-        let z : before + length (f n ++ joined f (take i ns)) ≡ before + length (f n) + length (joined f (take i ns)) = omega (arith, length-append (f n) (joined f (take i ns))) in
+        let z : before + length (f n ++ joined f (take i ns)) ≡ before + length (f n)
+        + length (joined f (take i ns)) = omega (arith, length-append (f n) (joined f (take i ns))) in
         (r.0, omega (arith, r.1, ap (λ (b : ℕ). stored_start b (length (f (get_or ns i [])))) z))
 
-pub junctions_ok : {B : Type 0} (f : List ℕ → List B) (place before : ℕ) (ns : List (List ℕ)) (i : ℕ) → accepted (check_junctions (λ n. length (f n)) place before ns) ≡ true → i < length ns
+pub junctions_ok : {B : Type 0} (f : List ℕ → List B) (place before : ℕ) (ns : List (List ℕ)) (i : ℕ)
+    → accepted (check_junctions (λ n. length (f n)) place before ns) ≡ true → i < length ns
     → before + length (joined f (take i ns)) ≤ 65535
 unfolding check_junctions joined
 junctions_ok f place before [] i e lt = absurd (omega arith)
 junctions_ok f place before (n ∷ ns) i e lt =
-    by_test (ltb 65535 before) (λ t. true_false (sym (rw t at e))) (λ v. go i (λ j d q. junctions_ok f (place + 1) (before + length (f n)) ns j d q) lt (ltb-false _ _ v) (rw v at e))
+    by_test (ltb 65535 before) (λ t. true_false (sym (rw t at e)))
+    (λ v. go i (λ j d q. junctions_ok f (place + 1) (before + length (f n)) ns j d q) lt (ltb-false _ _ v)
+    (rw v at e))
   where
     go : (i : ℕ)
-        → ((j : ℕ) → accepted (check_junctions (λ n. length (f n)) (place + 1) (before + length (f n)) ns) ≡ true → j < length ns → before + length (f n) + length (joined f (take j ns)) ≤ 65535)
-        → i < suc (length ns) → before ≤ 65535 → accepted (check_junctions (λ n. length (f n)) (place + 1) (before + length (f n)) ns) ≡ true
+        → ((j : ℕ) → accepted (check_junctions (λ n. length (f n)) (place + 1) (before + length (f n)) ns) ≡ true
+        → j < length ns → before + length (f n) + length (joined f (take j ns)) ≤ 65535)
+        → i < suc (length ns) → before ≤ 65535
+        → accepted (check_junctions (λ n. length (f n)) (place + 1) (before + length (f n)) ns) ≡ true
         → before + length (joined f (take i (n ∷ ns))) ≤ 65535
     go zero ih lt low d = omega arith
     go (suc i) ih lt low d =
@@ -99,14 +123,23 @@ module _ {A B : Type 0} (f : A → List B) (xs : List A) (i : ℕ) (a : A) (z : 
   abbrev from : ℕ
   from = length (joined f (take i xs))
 
-  pub part_at : (k : ℕ) → k < length (f (get_or xs i a)) → get_or (joined f xs) (from + k) z ≡ get_or (f (get_or xs i a)) k z
+  pub part_at : (k : ℕ) → k < length (f (get_or xs i a)) → get_or (joined f xs) (from + k) z
+      ≡ get_or (f (get_or xs i a)) k z
   part_at k h =
-      sym (get_or-drop from (joined f xs) k z) ∙ sym (get_or-take (length (f (get_or xs i a))) (drop from (joined f xs)) k z h) ∙ ap (λ (l : List B). get_or l k z) (part_back f xs i a lt)
+      sym (get_or-drop from (joined f xs) k z)
+      ∙ sym (get_or-take (length (f (get_or xs i a))) (drop from (joined f xs)) k z h)
+      ∙ ap (λ (l : List B). get_or l k z) (part_back f xs i a lt)
 
   pub part_in : (k : ℕ) → k < length (f (get_or xs i a)) → from + k < length (joined f xs)
   part_in k h =
       let e = ap length (part_back f xs i a lt) in
-      omega (arith, e, length-take (length (f (get_or xs i a))) (drop from (joined f xs)), length-drop from (joined f xs))
+      omega (
+        arith,
+        e,
+        length-take (length (f (get_or xs i a))) (drop from (joined f xs)),
+        length-drop from
+            (joined f xs),
+      )
 
 -- the bytes of entry i, of entries of one width
 pub stands_at : (s b : List ℕ) (w i : ℕ) → length b ≡ w → take w (drop (w * i) s) ≡ b → Stands s (i * w) b
@@ -133,48 +166,73 @@ module _ (links nodes : List (List ℕ)) where
 
   link_in : (w : List ℕ) → LinkFits (file_link (to_link w))
   unfolding file_link to_link
-  link_in w = record { area_id = omega arith; node_id = omega arith; flags0 = omega arith; flags1 = omega arith; flags2 = omega arith; link_length = omega arith }
+  link_in w = record {
+    area_id = omega arith;
+    node_id = omega arith;
+    flags0 = omega arith;
+    flags1 = omega arith;
+    flags2 = omega arith;
+    link_length = omega arith;
+  }
 
-  link_entry_law : (q : ℕ) → q < length all → kept_link (link_of (get_or all q [])) ≡ true → file_link_of (link_at (links_block links nodes) (q * 8)) ≡ link_of (get_or all q [])
+  link_entry_law : (q : ℕ) → q < length all → kept_link (link_of (get_or all q [])) ≡ true
+      → file_link_of (link_at (links_block links nodes) (q * 8)) ≡ link_of (get_or all q [])
   unfolding file_link to_link
   link_entry_law q lt t =
       let w = get_or all q [] in
       let area : get_or w 0 0 < 65536 = ltb-true _ _ (and_left _ _ t) in
       let number : get_or w 1 0 < 65536 = ltb-true _ _ (and_right (ltb (get_or w 0 0) 65536) _ t) in
-      ap file_link_of (link_back (file_link (to_link w)) (link_in w) (links_block links nodes) (q * 8) (stands_at (links_block links nodes) (link_record w) 8 q (link_length_law (file_link (to_link w)))
-      (ap (λ (l : List ℕ). take 8 (drop (8 * q) l)) (joined_joined link_record (links_in links) nodes) ∙ joined_at link_record 8 (λ x. link_length_law (file_link (to_link x))) all q [] lt)))
+      ap file_link_of (link_back (file_link (to_link w)) (link_in w) (links_block links nodes) (q * 8)
+      (stands_at (links_block links nodes) (link_record w) 8 q (link_length_law (file_link (to_link w)))
+      (ap (λ (l : List ℕ). take 8 (drop (8 * q) l)) (joined_joined link_record (links_in links) nodes)
+      ∙ joined_at link_record 8 (λ x. link_length_law (file_link (to_link x))) all q [] lt)))
       ∙ (λ k. record {
         area = mod-eq_of_lt area k;
         number = mod-eq_of_lt number k;
-        body = record { flags0 = get_or w 2 0 % 256; flags1 = get_or w 2 0 / 256 % 256; flags2 = get_or w 3 0 % 256; len = get_or w 3 0 / 256 % 256 };
+        body = record {
+          flags0 = get_or w 2 0 % 256;
+          flags1 = get_or w 2 0 / 256 % 256;
+          flags2 = get_or w 3 0 % 256;
+          len = get_or w 3 0 / 256 % 256;
+        };
       })
 
   -- a node's own links
   links_entry : (i : ℕ) → i < length nodes → every kept_link (map link_of (links_in links (get_or nodes i []))) ≡ true
-      → up_to (λ k. file_link_of (link_at (links_block links nodes) ((length (joined (links_in links) (take i nodes)) + k) * 8))) (length (links_in links (get_or nodes i []))) ≡ map link_of (links_in links (get_or nodes i []))
+      → up_to (λ k. file_link_of (link_at (links_block links nodes)
+      ((length (joined (links_in links) (take i nodes)) + k) * 8)))
+      (length (links_in links (get_or nodes i []))) ≡ map link_of (links_in links (get_or nodes i []))
   links_entry i lt t =
       let own = links_in links (get_or nodes i []) in
       let at : ℕ → ℕ = λ k. length (joined (links_in links) (take i nodes)) + k in
-      up_to_same (λ k. file_link_of (link_at (links_block links nodes) (at k * 8))) (λ k. link_of (get_or own k [])) (length own)
+      up_to_same (λ k. file_link_of (link_at (links_block links nodes) (at k * 8))) (λ k. link_of (get_or own k []))
+      (length own)
       (λ k h.
       let e : get_or all (at k) [] ≡ get_or own k [] = part_at (links_in links) nodes i [] [] lt k h in
-      link_entry_law (at k) (part_in (links_in links) nodes i [] [] lt k h) (ap (λ (w : List ℕ). kept_link (link_of w)) e ∙ kept_at kept_link link_of own k [] t h) ∙ ap link_of e)
+      link_entry_law (at k) (part_in (links_in links) nodes i [] [] lt k h)
+      (ap (λ (w : List ℕ). kept_link (link_of w)) e ∙ kept_at kept_link link_of own k [] t h) ∙ ap link_of e)
       ∙ up_to_all link_of own []
 
   -- a node without links has none to look up, so that its start does not matter
-  links_stored_law : (i : ℕ) → i < length nodes → every kept_link (map link_of (links_in links (get_or nodes i []))) ≡ true
-      → up_to (λ k. file_link_of (link_at (links_block links nodes) ((stored_start (length (joined (links_in links) (take i nodes))) (length (links_in links (get_or nodes i []))) + k) * 8))) (length (links_in links (get_or nodes i [])))
+  links_stored_law : (i : ℕ) → i < length nodes → every kept_link (map link_of (links_in links (get_or nodes i [])))
+      ≡ true
+      → up_to (λ k. file_link_of (link_at (links_block links nodes)
+      ((stored_start (length (joined (links_in links) (take i nodes)))
+      (length (links_in links (get_or nodes i []))) + k) * 8))) (length (links_in links (get_or nodes i [])))
       ≡ map link_of (links_in links (get_or nodes i []))
   links_stored_law i lt t =
       let count = length (links_in links (get_or nodes i [])) in
       let before = length (joined (links_in links) (take i nodes)) in
-      up_to_same (λ k. file_link_of (link_at (links_block links nodes) ((stored_start before count + k) * 8))) (λ k. file_link_of (link_at (links_block links nodes) ((before + k) * 8))) count
-      (λ k h. ap (λ (b : ℕ). file_link_of (link_at (links_block links nodes) ((b + k) * 8))) (start_some before count (omega arith)))
+      up_to_same (λ k. file_link_of (link_at (links_block links nodes) ((stored_start before count + k) * 8)))
+      (λ k. file_link_of (link_at (links_block links nodes) ((before + k) * 8))) count
+      (λ k h. ap (λ (b : ℕ). file_link_of (link_at (links_block links nodes) ((b + k) * 8)))
+      (start_some before count (omega arith)))
       ∙ links_entry i lt t
 
 -- ---- nodes
 
-body_back : (start count : ℕ) (w : List ℕ) → kept_body (body_of w) ≡ true → file_body (file_node start count (to_node w)) ≡ body_of w
+body_back : (start count : ℕ) (w : List ℕ) → kept_body (body_of w) ≡ true
+    → file_body (file_node start count (to_node w)) ≡ body_of w
 unfolding file_node to_node body_of path_node changed
 body_back start count w t =
     let t₁ = and_right (kept_step 2 (get_or w 2 0)) _ t in
@@ -182,14 +240,21 @@ body_back start count w t =
     let f = get_or w 6 0 / 256 % 256 in
     let e : f % 8 ≡ f = eqb-true (f % 8) f (and_right (kept_step 5 (get_or w 4 0)) _ t₂) in
     λ i. record {
-      position = record { x = step_back 2 (get_or w 2 0) (and_left _ _ t) i; y = step_back 2 (get_or w 3 0) (and_left _ _ t₁) i; z = step_back 5 (get_or w 4 0) (and_left _ _ t₂) i };
-      marks = marks_of (changed (to_node w) (to_node w).position (to_node w).flags0 (to_node w).flags1 (to_node w).flags2 (to_node w).flags3 (to_node w).flags4 ((low count f ∙ e) i) 0 0);
+      position = record {
+        x = step_back 2 (get_or w 2 0) (and_left _ _ t) i;
+        y = step_back 2 (get_or w 3 0)
+            (and_left _ _ t₁) i;
+        z = step_back 5 (get_or w 4 0) (and_left _ _ t₂) i;
+      };
+      marks = marks_of (changed (to_node w) (to_node w).position (to_node w).flags0 (to_node w).flags1
+          (to_node w).flags2 (to_node w).flags3 (to_node w).flags4 ((low count f ∙ e) i) 0 0);
     }
   where
     low : (c f : ℕ) → (c * 8 + f % 8) % 8 ≡ f % 8
     low c f = omega arith
 
-pub node_in : (start count : ℕ) (w : List ℕ) → start < 65536 → count ≤ 31 → NodeFits (file_node start count (to_node w))
+pub node_in : (start count : ℕ) (w : List ℕ) → start < 65536 → count ≤ 31
+    → NodeFits (file_node start count (to_node w))
 unfolding file_node to_node
 node_in start count w h few = record {
   unused0 = omega arith;
@@ -214,10 +279,12 @@ node_in start count w h few = record {
 
 -- where the record says that the links of node i start
 abbrev pub start_of : List (List ℕ) → List (List ℕ) → ℕ → ℕ
-start_of links nodes i = stored_start (length (joined (links_in links) (take i nodes))) (length (links_in links (get_or nodes i [])))
+start_of links nodes i = stored_start (length (joined (links_in links) (take i nodes)))
+    (length (links_in links (get_or nodes i [])))
 
 -- the record of node i, read back
-pub node_record_law : (links nodes : List (List ℕ)) → accepted (check_nodes (λ n. length (links_in links n)) 0 0 nodes) ≡ true
+pub node_record_law : (links nodes : List (List ℕ))
+    → accepted (check_nodes (λ n. length (links_in links n)) 0 0 nodes) ≡ true
     → (i : ℕ) → i < length nodes
     → node_at (nodes_block links nodes) (i * 40)
     ≡ file_node (start_of links nodes i) (length (links_in links (get_or nodes i []))) (to_node (get_or nodes i []))
@@ -227,31 +294,41 @@ node_record_law links nodes ok i lt =
     let before = length (joined (links_in links) (take i nodes)) in
     let block = nodes_block links nodes in
     let f = file_node (stored_start before count) count (to_node w) in
-    let from : stored_start (0 + before) count ≡ stored_start before count = ap (λ (b : ℕ). stored_start b count) (zero-add before) in
+    let from : stored_start (0 + before) count
+    ≡ stored_start before count = ap (λ (b : ℕ). stored_start b count) (zero-add before) in
     let c = nodes_ok (links_in links) 0 0 nodes i ok lt in
     node_back f (node_in (stored_start before count) count w (omega (arith, c.1, from)) c.0) block (i * 40)
     (stands_at block (node_record links before w) 40 i (record_length links before w)
-    (laid_at (links_in links) (node_record links) 40 (record_length links) 0 nodes i [] lt ∙ ap (λ (b : ℕ). node_record links b w) (zero-add before)))
+    (laid_at (links_in links) (node_record links) 40 (record_length links) 0 nodes i [] lt
+    ∙ ap (λ (b : ℕ). node_record links b w) (zero-add before)))
 
-module _ (links nodes : List (List ℕ)) (ok : accepted (check_nodes (λ n. length (links_in links n)) 0 0 nodes) ≡ true) (t : every kept_node (map (node_with (map link_of links)) nodes) ≡ true) where
+module _ (links nodes : List (List ℕ))
+    (ok : accepted (check_nodes (λ n. length (links_in links n)) 0 0 nodes) ≡ true)
+    (t : every kept_node (map (node_with (map link_of links)) nodes) ≡ true) where
   abbrev block : List ℕ
   block = nodes_block links nodes
 
-  node_entry_law : (i : ℕ) → i < length nodes → file_node_of (links_block links nodes) (node_at block (i * 40)) ≡ node_with (map link_of links) (get_or nodes i [])
+  node_entry_law : (i : ℕ) → i < length nodes → file_node_of (links_block links nodes) (node_at block (i * 40))
+      ≡ node_with (map link_of links) (get_or nodes i [])
   unfolding file_node to_node area_of number_of links_in
   node_entry_law i lt =
       let w = get_or nodes i [] in
       let count = length (links_in links w) in
       let start = start_of links nodes i in
-      let k : kept_node (node_with (map link_of links) w) ≡ true = kept_at kept_node (node_with (map link_of links)) nodes i [] t lt in
-      let same : take (get_or w 6 0 / 65536 % 256) (drop (get_or w 7 0) (map link_of links)) ≡ map link_of (links_in links w) =
-      ap (take (get_or w 6 0 / 65536 % 256)) (drop-map link_of (get_or w 7 0) links) ∙ take-map link_of (get_or w 6 0 / 65536 % 256) (drop (get_or w 7 0) links) in
-      let kl : every kept_link (map link_of (links_in links w)) ≡ true = ap (every kept_link) (sym same) ∙ and_right (kept_body (body_of w)) _ k in
+      let k : kept_node (node_with (map link_of links) w)
+      ≡ true = kept_at kept_node (node_with (map link_of links)) nodes i [] t lt in
+      let same : take (get_or w 6 0 / 65536 % 256) (drop (get_or w 7 0) (map link_of links))
+      ≡ map link_of (links_in links w) =
+      ap (take (get_or w 6 0 / 65536 % 256)) (drop-map link_of (get_or w 7 0) links)
+      ∙ take-map link_of (get_or w 6 0 / 65536 % 256) (drop (get_or w 7 0) links) in
+      let kl : every kept_link (map link_of (links_in links w)) ≡ true = ap (every kept_link) (sym same)
+      ∙ and_right (kept_body (body_of w)) _ k in
       ap (file_node_of (links_block links nodes)) (node_record_law links nodes ok i lt)
       ∙ (λ j. record {
         area = get_or w 0 0 % 65536;
         number = get_or w 0 0 / 65536 % 65536;
-        links = (ap (up_to (λ q. file_link_of (link_at (links_block links nodes) ((start + q) * 8)))) (high count (get_or w 6 0 / 256 % 256)) ∙ links_stored_law links nodes i lt kl ∙ sym same) j;
+        links = (ap (up_to (λ q. file_link_of (link_at (links_block links nodes) ((start + q) * 8))))
+            (high count (get_or w 6 0 / 256 % 256)) ∙ links_stored_law links nodes i lt kl ∙ sym same) j;
         body = body_back start count w (and_left _ _ k) j;
       })
 
@@ -260,7 +337,8 @@ module _ (links nodes : List (List ℕ)) (ok : accepted (check_nodes (λ n. leng
   nodes_back =
       let n : length block / 40 ≡ length nodes = omega (arith, nodes_length links nodes) in
       ap (up_to (λ i. file_node_of (links_block links nodes) (node_at block (i * 40)))) n
-      ∙ up_to_same (λ i. file_node_of (links_block links nodes) (node_at block (i * 40))) (λ i. node_with (map link_of links) (get_or nodes i [])) (length nodes) node_entry_law
+      ∙ up_to_same (λ i. file_node_of (links_block links nodes) (node_at block (i * 40)))
+      (λ i. node_with (map link_of links) (get_or nodes i [])) (length nodes) node_entry_law
       ∙ up_to_all (node_with (map link_of links)) nodes []
 
 -- ---- junctions
@@ -277,34 +355,47 @@ junction_in_law start w h = record {
   heightmap_dim_y = omega arith;
 }
 
-module _ (heights : List ℕ) (js : List (List ℕ)) (ok : accepted (check_junctions (λ j. length (values_in heights j)) 0 0 js) ≡ true) (t : every kept_junction (map (junction_with heights) js) ≡ true) where
+module _ (heights : List ℕ) (js : List (List ℕ))
+    (ok : accepted (check_junctions (λ j. length (values_in heights j)) 0 0 js) ≡ true)
+    (t : every kept_junction (map (junction_with heights) js) ≡ true) where
   values_entry : (i : ℕ) → i < length js → every is_byte (values_in heights (get_or js i [])) ≡ true
-      → up_to (λ k. byte_at (heights_block heights js) (length (joined (values_in heights) (take i js)) + k)) (length (values_in heights (get_or js i []))) ≡ values_in heights (get_or js i [])
+      → up_to (λ k. byte_at (heights_block heights js) (length (joined (values_in heights) (take i js)) + k))
+      (length (values_in heights (get_or js i []))) ≡ values_in heights (get_or js i [])
   values_entry i lt v =
       let own = values_in heights (get_or js i []) in
       let start = length (joined (values_in heights) (take i js)) in
       up_to_same (λ k. byte_at (heights_block heights js) (start + k)) (λ k. get_or own k 0) (length own)
       (λ k h.
       let small : get_or own k 0 < 256 = ltb-true _ _ (every_at is_byte own k 0 v h) in
-      ap (λ (x : ℕ). x % 256) (part_at (values_in heights) js i [] 0 lt k h) ∙ (let e : get_or own k 0 % 256 ≡ get_or own k 0 = omega arith in e))
+      ap (λ (x : ℕ). x % 256) (part_at (values_in heights) js i [] 0 lt k h)
+      ∙ (let e : get_or own k 0 % 256 ≡ get_or own k 0 = omega arith in e))
       ∙ up_to_all (λ x. x) own 0 ∙ map-id own
 
-  junction_entry_law : (i : ℕ) → i < length js → file_junction_of (heights_block heights js) (junction_at (junctions_block heights js) (i * 12)) ≡ junction_with heights (get_or js i [])
+  junction_entry_law : (i : ℕ) → i < length js
+      → file_junction_of (heights_block heights js) (junction_at (junctions_block heights js) (i * 12))
+      ≡ junction_with heights (get_or js i [])
   unfolding file_junction to_junction values_in
   junction_entry_law i lt =
       let w = get_or js i [] in
       let own = values_in heights w in
       let start = length (joined (values_in heights) (take i js)) in
       let low : 0 + start ≤ 65535 = junctions_ok (values_in heights) 0 0 js i ok lt in
-      let k : kept_junction (junction_with heights w) ≡ true = kept_at kept_junction (junction_with heights) js i [] t lt in
+      let k : kept_junction (junction_with heights w)
+      ≡ true = kept_at kept_junction (junction_with heights) js i [] t lt in
       let k₁ = and_right (kept_step 2 (get_or w 0 0)) _ k in
       let k₂ = and_right (kept_step 2 (get_or w 1 0)) _ k₁ in
       let k₃ = and_right (kept_step 5 (get_or w 2 0)) _ k₂ in
       let k₄ = and_right (kept_step 5 (get_or w 3 0)) _ k₃ in
       let size = get_or w 4 0 % 256 * (get_or w 4 0 / 256 % 256) in
       let full : length own ≡ size = eqb-true (length own) size (and_left _ _ k₄) in
-      let bytes = laid_at (values_in heights) junction_record 12 (λ s j. junction_length (file_junction s (to_junction j))) 0 js i [] lt ∙ ap (λ (s : ℕ). junction_bytes (file_junction s (to_junction w))) (zero-add start) in
-      ap (file_junction_of (heights_block heights js)) (junction_back (file_junction start (to_junction w)) (junction_in_law start w (omega (arith, low))) (junctions_block heights js) (i * 12) (stands_at (junctions_block heights js) (junction_record start w) 12 i (junction_length (file_junction start (to_junction w))) bytes))
+      let bytes = laid_at (values_in heights) junction_record 12
+      (λ s j. junction_length (file_junction s (to_junction j))) 0 js i [] lt
+      ∙ ap (λ (s : ℕ). junction_bytes (file_junction s (to_junction w))) (zero-add start) in
+      ap (file_junction_of (heights_block heights js))
+      (junction_back (file_junction start (to_junction w)) (junction_in_law start w (omega (arith, low)))
+      (junctions_block heights js) (i * 12)
+      (stands_at (junctions_block heights js) (junction_record start w) 12 i
+      (junction_length (file_junction start (to_junction w))) bytes))
       ∙ (λ j. record {
         x = step_back 2 (get_or w 0 0) (and_left _ _ k) j;
         y = step_back 2 (get_or w 1 0) (and_left _ _ k₁) j;
@@ -312,23 +403,27 @@ module _ (heights : List ℕ) (js : List (List ℕ)) (ok : accepted (check_junct
         high = step_back 5 (get_or w 3 0) (and_left _ _ k₃) j;
         width = get_or w 4 0 % 256;
         height = get_or w 4 0 / 256 % 256;
-        values = (ap (up_to (λ q. byte_at (heights_block heights js) (start + q))) (sym full) ∙ values_entry i lt (and_right (eqb (length own) size) _ k₄)) j;
+        values = (ap (up_to (λ q. byte_at (heights_block heights js) (start + q))) (sym full)
+            ∙ values_entry i lt (and_right (eqb (length own) size) _ k₄)) j;
       })
 
-  pub junctions_back : file_junctions (junctions_block heights js) (heights_block heights js) ≡ map (junction_with heights) js
+  pub junctions_back : file_junctions (junctions_block heights js) (heights_block heights js)
+      ≡ map (junction_with heights) js
   unfolding file_junctions
   junctions_back =
       let h = heights_block heights js in
       let b = junctions_block heights js in
       let n : length b / 12 ≡ length js = omega (arith, junctions_length heights js) in
       ap (up_to (λ i. file_junction_of h (junction_at b (i * 12)))) n
-      ∙ up_to_same (λ i. file_junction_of h (junction_at b (i * 12))) (λ i. junction_with heights (get_or js i [])) (length js) junction_entry_law
+      ∙ up_to_same (λ i. file_junction_of h (junction_at b (i * 12))) (λ i. junction_with heights (get_or js i []))
+      (length js) junction_entry_law
       ∙ up_to_all (junction_with heights) js []
 
 -- ---- refs
 
 module _ (refs : List (List ℕ)) (t : every kept_ref (map ref_of refs) ≡ true) where
-  ref_entry_law : (i : ℕ) → i < length refs → file_ref_of (ref_at (refs_block refs) (i * 8)) ≡ ref_of (get_or refs i [])
+  ref_entry_law : (i : ℕ) → i < length refs → file_ref_of (ref_at (refs_block refs) (i * 8))
+      ≡ ref_of (get_or refs i [])
   unfolding to_ref
   ref_entry_law i lt =
       let w = get_or refs i [] in
@@ -336,7 +431,9 @@ module _ (refs : List (List ℕ)) (t : every kept_ref (map ref_of refs) ≡ true
       let k₁ = and_right (ltb (get_or w 0 0) 65536) _ k in
       let k₂ = and_right (ltb (get_or w 1 0) 65536) _ k₁ in
       let k₃ = and_right (ltb (get_or w 2 0) 65536) _ k₂ in
-      ap file_ref_of (ref_back (to_ref w) (ref_fits_law w) (refs_block refs) (i * 8) (stands_at (refs_block refs) (ref_record w) 8 i (ref_length (to_ref w)) (joined_at ref_record 8 (λ x. ref_length (to_ref x)) refs i [] lt)))
+      ap file_ref_of (ref_back (to_ref w) (ref_fits_law w) (refs_block refs) (i * 8)
+      (stands_at (refs_block refs) (ref_record w) 8 i (ref_length (to_ref w))
+      (joined_at ref_record 8 (λ x. ref_length (to_ref x)) refs i [] lt)))
       ∙ (λ j. record {
         area = mod-eq_of_lt (ltb-true (get_or w 0 0) 65536 (and_left _ _ k)) j;
         number = mod-eq_of_lt (ltb-true (get_or w 1 0) 65536 (and_left _ _ k₁)) j;

@@ -1,4 +1,5 @@
--- The root and the five arrays, found in the section that a cell was written as. No law needs a bound on what memory holds.
+-- The root and the five arrays, found in the section that a cell was written as. No law needs a bound on what
+-- memory holds.
 use Prim.Native.Nat.{ℕ, zero, suc, ◌+◌, ◌*◌, ◌/◌, ◌%◌, ◌≤◌, ◌<◌}
 use native.Mathlib.Omega.{arith}
 use mathlib.Core.Path.{◌≡◌, refl, sym, ap, ◌∙◌}
@@ -19,7 +20,8 @@ use Rattle.records.proofs.SectionBack as section
 use Rattle.cells.specs.Checks.{root_read}
 use Rattle.cells.specs.Memory.{Memory}
 use Rattle.cells.specs.Entries.{links_in}
-use Rattle.cells.specs.Blocks.{refs_block, heights_block, junctions_block, links_block, nodes_block, arrays, blocks, root_for, written}
+use Rattle.cells.specs.Blocks.{refs_block, heights_block, junctions_block, links_block, nodes_block, arrays, blocks}
+use Rattle.cells.specs.Blocks.{root_for, written}
 use Rattle.cells.proofs.Reading.Undrawn.{root_drawn}
 use Rattle.cells.proofs.Writing.BlockLaws.{nodes_length, links_length, junctions_length, refs_length}
 use Rattle.std.specs.Prelude.{Option, Some}
@@ -78,11 +80,14 @@ same_bytes : (r : Root) → root_bytes r ≡ root_bytes (stored_root r)
 unfolding root_bytes
 same_bytes r = λ i.
     bytes_cut r.vft i ++ bytes32 1 ++ bytes64 pages_address
-    ++ bytes64 r.nodes ++ bytes32 r.node_count ++ bytes_cut r.vehicle_node_count i ++ bytes_cut r.ped_node_count i ++ bytes_cut (get_or r.unknowns 0 0) i
+    ++ bytes64 r.nodes ++ bytes32 r.node_count ++ bytes_cut r.vehicle_node_count i ++ bytes_cut r.ped_node_count i
+    ++ bytes_cut (get_or r.unknowns 0 0) i
     ++ bytes64 r.links ++ bytes32 r.link_count ++ bytes_cut (get_or r.unknowns 1 0) i
-    ++ bytes64 r.junctions ++ bytes64 r.heightmap ++ bytes_cut (get_or r.unknowns 2 0) i ++ bytes_cut (get_or r.unknowns 3 0) i
+    ++ bytes64 r.junctions ++ bytes64 r.heightmap ++ bytes_cut (get_or r.unknowns 2 0) i
+    ++ bytes_cut (get_or r.unknowns 3 0) i
     ++ bytes64 r.refs ++ bytes16 r.ref_count ++ bytes16 r.ref_count ++ bytes_cut (get_or r.unknowns 4 0) i
-    ++ bytes32 r.junction_count ++ bytes32 r.heightmap_count ++ bytes_cut (get_or r.unknowns 5 0) i ++ bytes_cut (get_or r.unknowns 6 0) i
+    ++ bytes32 r.junction_count ++ bytes32 r.heightmap_count ++ bytes_cut (get_or r.unknowns 5 0) i
+    ++ bytes_cut (get_or r.unknowns 6 0) i
 
 same_section : (r : Root) (bs : List (List ℕ)) → section_bytes r bs ≡ section_bytes (stored_root r) bs
 unfolding section_bytes header_bytes
@@ -134,7 +139,8 @@ module _ (h : Memory) (few : length h.refs ≤ 65535) (small : length (written h
   unfolding written
   size_in i b e = omega (arith, section.block_inside root (blocks h) few_bytes i, ap length e, small)
 
-  block_here : (i count width : ℕ) (b : List ℕ) → get_or (blocks h) i [] ≡ b → length b ≡ count * width → Here (address (offset header_size sizes i)) count width (written h) b
+  block_here : (i count width : ℕ) (b : List ℕ) → get_or (blocks h) i [] ≡ b → length b ≡ count * width
+      → Here (address (offset header_size sizes i)) count width (written h) b
   unfolding written
   block_here i count width b e long = record {
     part = section.block_part root (blocks h) few_bytes i;
@@ -170,19 +176,24 @@ module _ (h : Memory) (few : length h.refs ≤ 65535) (small : length (written h
 
   pub root_read_law : root_read (written h) ≡ stored_root root
   unfolding written
-  root_read_law = root_drawn (written h) (omega (arith, long_enough h)) ∙ ap root_of (same_section root (blocks h) ∙ sym (append-nil (section_bytes (stored_root root) (blocks h)))) ∙ section.root_in (stored_root root) (blocks h) [] root_in
+  root_read_law = root_drawn (written h) (omega (arith, long_enough h))
+      ∙ ap root_of (same_section root (blocks h) ∙ sym (append-nil (section_bytes (stored_root root) (blocks h))))
+      ∙ section.root_in (stored_root root) (blocks h) [] root_in
 
   pub nodes_here : Here root.nodes root.node_count 40 (written h) (nodes_block h.links h.nodes)
   unfolding root_for places_of arrays
-  nodes_here = block_here 4 (length h.nodes) 40 (nodes_block h.links h.nodes) refl (omega (arith, nodes_length h.links h.nodes))
+  nodes_here = block_here 4 (length h.nodes) 40 (nodes_block h.links h.nodes) refl
+      (omega (arith, nodes_length h.links h.nodes))
 
   pub links_here : Here root.links root.link_count 8 (written h) (links_block h.links h.nodes)
   unfolding root_for places_of arrays
-  links_here = block_here 3 (length (joined (links_in h.links) h.nodes)) 8 (links_block h.links h.nodes) refl (omega (arith, links_length h.links h.nodes))
+  links_here = block_here 3 (length (joined (links_in h.links) h.nodes)) 8 (links_block h.links h.nodes) refl
+      (omega (arith, links_length h.links h.nodes))
 
   pub junctions_here : Here root.junctions root.junction_count 12 (written h) (junctions_block h.heights h.junctions)
   unfolding root_for places_of arrays
-  junctions_here = block_here 2 (length h.junctions) 12 (junctions_block h.heights h.junctions) refl (omega (arith, junctions_length h.heights h.junctions))
+  junctions_here = block_here 2 (length h.junctions) 12 (junctions_block h.heights h.junctions) refl
+      (omega (arith, junctions_length h.heights h.junctions))
 
   pub heights_here : Here root.heightmap root.heightmap_count 1 (written h) (heights_block h.heights h.junctions)
   unfolding root_for places_of arrays

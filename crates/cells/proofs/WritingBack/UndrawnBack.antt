@@ -40,7 +40,8 @@ use Rattle.cells.specs.declared.count.Counts.{Counts}
 
 -- 2 and 1, then what follows, as they stood before T-02: 1 is fewer than 112 bytes
 abbrev sizes_before : ℕ → ℕ → Bool → Answer
-sizes_before s g few = decided (when (ltb 16777216 s) SystemTooLong ∷ when (ltb 16777216 g) GraphicsTooLong ∷ when few SystemTooShort ∷ [])
+sizes_before s g few = decided (when (ltb 16777216 s) SystemTooLong ∷ when (ltb 16777216 g) GraphicsTooLong
+    ∷ when few SystemTooShort ∷ [])
 
 abbrev read_with : Bool → List ℕ → List ℕ → Memory → Left
 read_with few s g m =
@@ -77,7 +78,8 @@ module _ (nodes links junctions : List (List ℕ)) (heights : List ℕ) (refs : 
 
   -- its root: the default words, and no array
   pub undrawn_root : root_of (written (held undrawn)) ≡ new_root
-  unfolding new_ynd new_root held written section_bytes header_bytes root_bytes root_for places_of offset address start_of
+  unfolding new_ynd new_root held written section_bytes header_bytes root_bytes root_for places_of offset address
+      start_of
       gap_for arrays joined laid number_at number_bytes root_of unknowns_of
   undrawn_root = refl
 

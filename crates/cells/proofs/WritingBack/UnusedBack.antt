@@ -43,7 +43,8 @@ unused_read s g m e = ap (λ (c : Cell). map unused_of c.nodes) (read_cell s g m
 -- an accepted renumbering moves them with their node, to the place that it tells
 pub unused_moved : (m : Memory) (places : List ℕ) (scratch : ℕ) → (renumber m scratch places).answer ≡ Ok tt
     → (p : ℕ) → p < length (cell_of m).nodes
-    → unused_of (held-cell.node_at (cell_of (renumber m scratch places).memory).nodes (get_or (renumber m scratch places).places p 0))
+    → unused_of (held-cell.node_at (cell_of (renumber m scratch places).memory).nodes
+    (get_or (renumber m scratch places).places p 0))
     ≡ unused_of (held-cell.node_at (cell_of m).nodes p)
 unused_moved m places scratch e p lt =
     (λ i. unused_of (held-cell.node_at (done_call m places scratch e i).nodes (places_tell m places scratch e p lt i)))
@@ -69,13 +70,16 @@ pub unused_stored : (s g : List ℕ) (m : Memory) → (read_of s g m).answer ≡
     → unused_in (take n (write_call (read_of s g m).memory section).section) [] ≡ unused_in s g
 unused_stored s g m e section n w =
     let t = take n (write_call (read_of s g m).memory section).section in
-    sym (file_unused_law t []) ∙ ap (λ (c : Cell). map unused_of c.nodes) (cell_stored s g m e section n w) ∙ file_unused_law s g
+    sym (file_unused_law t []) ∙ ap (λ (c : Cell). map unused_of c.nodes) (cell_stored s g m e section n w)
+    ∙ file_unused_law s g
 
 -- and reading what was written, into any memory, gives them back
 pub unused_back : (s g : List ℕ) (m : Memory) → (read_of s g m).answer ≡ Ok tt
     → (section : List ℕ) (n : ℕ) → (write_call (read_of s g m).memory section).answer ≡ Ok n
     → (lent : Memory) → (read_of (take n (write_call (read_of s g m).memory section).section) [] lent).answer ≡ Ok tt
-    → map unused_of (cell_of (read_of (take n (write_call (read_of s g m).memory section).section) [] lent).memory).nodes
+    → map unused_of (cell_of (read_of (take n (write_call (read_of s g m).memory section).section) []
+    lent).memory).nodes
     ≡ unused_in s g
 unused_back s g m e section n w lent r =
-    unused_read (take n (write_call (read_of s g m).memory section).section) [] lent r ∙ unused_stored s g m e section n w
+    unused_read (take n (write_call (read_of s g m).memory section).section) [] lent r
+    ∙ unused_stored s g m e section n w

@@ -20,7 +20,8 @@ use Rattle.cells.specs.FileCell.{cell_from, cell_by, file_cell}
 use Rattle.cells.proofs.WritingBack.KeptCells.{kept_node, kept_junction, kept_ref, is_word, kept_root, kept}
 use Rattle.cells.specs.Entries.{links_in, values_in}
 use Rattle.cells.specs.WriteChecks.{maps_cut, accepted, check_nodes, check_junctions}
-use Rattle.cells.specs.Blocks.{refs_block, heights_block, junctions_block, links_block, nodes_block, blocks, root_for, written}
+use Rattle.cells.specs.Blocks.{refs_block, heights_block, junctions_block, links_block, nodes_block, blocks}
+use Rattle.cells.specs.Blocks.{root_for, written}
 use Rattle.cells.specs.Write.{WriteLeft, left, refuse, or_else, after, held, stored, write_held, write_call}
 use Rattle.cells.specs.WriteCounts.{Cut}
 use Rattle.cells.specs.WriteRead.{if_read, if_written, write_read_of}
@@ -30,7 +31,8 @@ use Rattle.cells.proofs.Reading.Fits.{whole as whole_lists}
 use Rattle.cells.proofs.Reading.ReadLaws.{small}
 use Rattle.cells.proofs.Reading.FileRead.{read_cell}
 use Rattle.cells.proofs.WritingBack.BlocksBack.{nodes_back, junctions_back, refs_back}
-use Rattle.cells.proofs.WritingBack.SectionBack.{seven_of, stored_root, array_back, root_read_law, nodes_here, links_here, junctions_here, heights_here, refs_here}
+use Rattle.cells.proofs.WritingBack.SectionBack.{seven_of, stored_root, array_back, root_read_law, nodes_here}
+use Rattle.cells.proofs.WritingBack.SectionBack.{links_here, junctions_here, heights_here, refs_here}
 use Rattle.std.specs.Prelude.{Result, Ok, Err}
 use Rattle.numbers.specs.Refusals.{Answer}
 use Rattle.numbers.specs.declared.refusal.Refusal.{Refusal}
@@ -39,10 +41,10 @@ use Rattle.numbers.specs.declared.refusal.Lent.TheVariants as lent
 
 -- ---- the section that was written, read
 
-whole : (n : ℕ) → is_word n ≡ true → n % 4294967296 ≡ n
+pub whole : (n : ℕ) → is_word n ≡ true → n % 4294967296 ≡ n
 whole n t = let h : n < 4294967296 = ltb-true n 4294967296 t in omega arith
 
-seven_back : (u : List ℕ) → length u ≡ 7 → every is_word u ≡ true → seven_of u ≡ u
+pub seven_back : (u : List ℕ) → length u ≡ 7 → every is_word u ≡ true → seven_of u ≡ u
 unfolding every
 seven_back [] e t = absurd (omega arith)
 seven_back (a ∷ []) e t = absurd (omega arith)
@@ -58,7 +60,9 @@ seven_back (a ∷ b ∷ c ∷ d ∷ f ∷ g ∷ h ∷ []) e t =
     let t₄ = and_right (is_word d) _ t₃ in
     let t₅ = and_right (is_word f) _ t₄ in
     let t₆ = and_right (is_word g) _ t₅ in
-    λ i. whole a (and_left _ _ t) i ∷ whole b (and_left _ _ t₁) i ∷ whole c (and_left _ _ t₂) i ∷ whole d (and_left _ _ t₃) i ∷ whole f (and_left _ _ t₄) i ∷ whole g (and_left _ _ t₅) i ∷ whole h (and_left _ _ t₆) i ∷ []
+    λ i. whole a (and_left _ _ t) i ∷ whole b (and_left _ _ t₁) i ∷ whole c (and_left _ _ t₂) i ∷ whole d
+    (and_left _ _ t₃) i ∷ whole f (and_left _ _ t₄) i ∷ whole g (and_left _ _ t₅) i ∷ whole h (and_left _ _ t₆) i
+    ∷ []
 seven_back (a ∷ b ∷ c ∷ d ∷ f ∷ g ∷ h ∷ k ∷ l) e t = absurd (omega arith)
 
 -- what an accepted writing of h says
@@ -72,7 +76,7 @@ pub record Told (h : Memory) : Type 0 where
   pub values_lent : h.ynd.heightmap_count ≤ length h.heights
 
 -- the cell whose lists are h, each whole
-abbrev whole_of : Memory → Cell
+abbrev pub whole_of : Memory → Cell
 whole_of h = record {
   nodes = map (node_with (map link_of h.links)) h.nodes;
   junctions = map (junction_with h.heights) h.junctions;
@@ -83,70 +87,86 @@ whole_of h = record {
   words = h.ynd.unknowns;
 }
 
-module _ (h : Memory) (told : Told h) (small : length (written h) ≤ 16777216) (t : kept (whole_of h) ≡ true) where
-  t_nodes : every kept_node (whole_of h).nodes ≡ true
-  unfolding kept
-  t_nodes = and_left _ _ t
-
-  t_junctions : every kept_junction (whole_of h).junctions ≡ true
-  unfolding kept
-  t_junctions = and_left _ _ (and_right (every kept_node (whole_of h).nodes) _ t)
-
-  t_refs : every kept_ref (whole_of h).refs ≡ true
-  unfolding kept
-  t_refs = and_left _ _ (and_right (every kept_junction (whole_of h).junctions) _ (and_right (every kept_node (whole_of h).nodes) _ t))
-
-  t_root : kept_root (whole_of h) ≡ true
-  unfolding kept
-  t_root = and_right (every kept_ref (whole_of h).refs) _ (and_right (every kept_junction (whole_of h).junctions) _ (and_right (every kept_node (whole_of h).nodes) _ t))
-
+module _ (h : Memory) (told : Told h) (small : length (written h) ≤ 16777216) where
   abbrev root : Root
   root = root_for h (map length (blocks h))
 
-  from_blocks : cell_from (stored_root root) (nodes_block h.links h.nodes) (links_block h.links h.nodes) (junctions_block h.heights h.junctions) (heights_block h.heights h.junctions) (refs_block h.refs) ≡ whole_of h
-  unfolding cell_from root_for
-  from_blocks =
-      let t₁ = and_right (is_word h.ynd.vehicle_node_count) _ t_root in
-      let t₂ = and_right (is_word h.ynd.ped_node_count) _ t₁ in
-      let t₃ = and_right (is_word h.ynd.vft) _ t₂ in
-      λ i. record {
-        nodes = nodes_back h.links h.nodes told.nodes_told t_nodes i;
-        junctions = junctions_back h.heights h.junctions told.junctions_told t_junctions i;
-        refs = refs_back h.refs t_refs i;
-        vehicles = whole h.ynd.vehicle_node_count (and_left _ _ t_root) i;
-        peds = whole h.ynd.ped_node_count (and_left _ _ t₁) i;
-        vft = whole h.ynd.vft (and_left _ _ t₂) i;
-        words = seven_back h.ynd.unknowns (eqb-true (length h.ynd.unknowns) 7 (and_left _ _ t₃)) (and_right (eqb (length h.ynd.unknowns) 7) _ t₃) i;
-      }
-
-  pub section_back : file_cell (written h) [] ≡ whole_of h
+  -- the section holds the blocks
+  pub blocks_back : file_cell (written h) []
+      ≡ cell_from (stored_root root) (nodes_block h.links h.nodes) (links_block h.links h.nodes)
+      (junctions_block h.heights h.junctions) (heights_block h.heights h.junctions) (refs_block h.refs)
   unfolding file_cell cell_by
-  section_back =
+  blocks_back =
       let r = told.refs_told in
       let w = written h in
       ap (λ (r : Root). cell_by r w []) (root_read_law h r small)
       ∙ (λ i. cell_from (stored_root root)
       (array_back root.nodes root.node_count 40 w (nodes_block h.links h.nodes) (nodes_here h r small) i)
       (array_back root.links root.link_count 8 w (links_block h.links h.nodes) (links_here h r small) i)
-      (array_back root.junctions root.junction_count 12 w (junctions_block h.heights h.junctions) (junctions_here h r small) i)
-      (array_back root.heightmap root.heightmap_count 1 w (heights_block h.heights h.junctions) (heights_here h r small) i)
+      (array_back root.junctions root.junction_count 12 w (junctions_block h.heights h.junctions)
+      (junctions_here h r small) i)
+      (array_back root.heightmap root.heightmap_count 1 w (heights_block h.heights h.junctions)
+      (heights_here h r small) i)
       (array_back root.refs root.ref_count 8 w (refs_block h.refs) (refs_here h r small) i))
-      ∙ from_blocks
+
+  module _ (t : kept (whole_of h) ≡ true) where
+    t_nodes : every kept_node (whole_of h).nodes ≡ true
+    unfolding kept
+    t_nodes = and_left _ _ t
+
+    t_junctions : every kept_junction (whole_of h).junctions ≡ true
+    unfolding kept
+    t_junctions = and_left _ _ (and_right (every kept_node (whole_of h).nodes) _ t)
+
+    t_refs : every kept_ref (whole_of h).refs ≡ true
+    unfolding kept
+    t_refs = and_left _ _ (and_right (every kept_junction (whole_of h).junctions) _
+        (and_right (every kept_node (whole_of h).nodes) _ t))
+
+    t_root : kept_root (whole_of h) ≡ true
+    unfolding kept
+    t_root = and_right (every kept_ref (whole_of h).refs) _
+        (and_right (every kept_junction (whole_of h).junctions) _
+        (and_right (every kept_node (whole_of h).nodes) _ t))
+
+    from_blocks : cell_from (stored_root root) (nodes_block h.links h.nodes) (links_block h.links h.nodes)
+        (junctions_block h.heights h.junctions) (heights_block h.heights h.junctions) (refs_block h.refs) ≡ whole_of h
+    unfolding cell_from root_for
+    from_blocks =
+        let t₁ = and_right (is_word h.ynd.vehicle_node_count) _ t_root in
+        let t₂ = and_right (is_word h.ynd.ped_node_count) _ t₁ in
+        let t₃ = and_right (is_word h.ynd.vft) _ t₂ in
+        λ i. record {
+          nodes = nodes_back h.links h.nodes told.nodes_told t_nodes i;
+          junctions = junctions_back h.heights h.junctions told.junctions_told t_junctions i;
+          refs = refs_back h.refs t_refs i;
+          vehicles = whole h.ynd.vehicle_node_count (and_left _ _ t_root) i;
+          peds = whole h.ynd.ped_node_count (and_left _ _ t₁) i;
+          vft = whole h.ynd.vft (and_left _ _ t₂) i;
+          words = seven_back h.ynd.unknowns (eqb-true (length h.ynd.unknowns) 7 (and_left _ _ t₃))
+              (and_right (eqb (length h.ynd.unknowns) 7) _ t₃) i;
+        }
+
+    pub section_back : file_cell (written h) [] ≡ whole_of h
+    section_back = blocks_back ∙ from_blocks
 
 -- ---- what an accepted call says
 
 not_wrote : {P : Type 0} {a : Refusal} {n : ℕ} → ◌≡◌ {A = Result ℕ Refusal} (Err a) (Ok n) → P
 not_wrote e = cc
 
-after_told : (c : Result ℕ Refusal) (s : List ℕ) (next : WriteLeft) (n : ℕ) → (after c s next).answer ≡ Ok n → (accepted c ≡ true) × (after c s next ≡ next)
+after_told : (c : Result ℕ Refusal) (s : List ℕ) (next : WriteLeft) (n : ℕ) → (after c s next).answer ≡ Ok n
+    → (accepted c ≡ true) × (after c s next ≡ next)
 after_told (Err a) s next n e = not_wrote e
 after_told (Ok k) s next n e = (refl, refl)
 
-list_told : (c : Answer) (s : List ℕ) (next : WriteLeft) (n : ℕ) → (after c s next).answer ≡ Ok n → (c ≡ Ok tt) × (after c s next ≡ next)
+list_told : (c : Answer) (s : List ℕ) (next : WriteLeft) (n : ℕ) → (after c s next).answer ≡ Ok n → (c ≡ Ok tt)
+    × (after c s next ≡ next)
 list_told (Err a) s next n e = not_wrote e
 list_told (Ok tt) s next n e = (refl, refl)
 
-else_told : (b : Bool) (cause : Refusal) (s : List ℕ) (next : WriteLeft) (n : ℕ) → (or_else b (refuse cause s) next).answer ≡ Ok n → (b ≡ false) × (or_else b (refuse cause s) next ≡ next)
+else_told : (b : Bool) (cause : Refusal) (s : List ℕ) (next : WriteLeft) (n : ℕ)
+    → (or_else b (refuse cause s) next).answer ≡ Ok n → (b ≡ false) × (or_else b (refuse cause s) next ≡ next)
 else_told true cause s next n e = not_wrote e
 else_told false cause s next n e = (refl, refl)
 
@@ -155,12 +175,14 @@ pub record Held (h : Memory) (l : WriteLeft) (n : ℕ) : Type 0 where
   pub told : Told h
   pub bytes : take n l.section ≡ written h
 
-stored_told_law : (h : Memory) (s : List ℕ) (n : ℕ) → (stored h s).answer ≡ Ok n → take n (stored h s).section ≡ written h
+stored_told_law : (h : Memory) (s : List ℕ) (n : ℕ) → (stored h s).answer ≡ Ok n → take n (stored h s).section
+    ≡ written h
 unfolding stored
 stored_told_law h s n e =
     let next = left (Ok (length (written h))) (written h ++ drop (length (written h)) s) in
     let r = else_told (ltb (length s) (length (written h))) (TooShort lent.Section) s next n e in
-    let same : ◌≡◌ {A = Result ℕ Refusal} (Ok (length (written h))) (Ok n) = ap (λ (l : WriteLeft). l.answer) (sym r.1) ∙ e in
+    let same : ◌≡◌ {A = Result ℕ Refusal} (Ok (length (written h))) (Ok n) = ap (λ (l : WriteLeft). l.answer)
+    (sym r.1) ∙ e in
     let long : length (written h) ≡ n = cc in
     ap (λ (l : WriteLeft). take n l.section) r.1
     ∙ ap (λ (k : ℕ). take k (written h ++ drop (length (written h)) s)) (sym long)
@@ -170,7 +192,11 @@ stored_told_law h s n e =
 pub held_cut : (m : Memory) → Cut (held m)
 unfolding held
 held_cut m =
-    record { nodes_cut = few m.ynd.node_count m.nodes; junctions_cut = few m.ynd.junction_count m.junctions; refs_cut = few m.ynd.ref_count m.refs }
+    record {
+      nodes_cut = few m.ynd.node_count m.nodes;
+      junctions_cut = few m.ynd.junction_count m.junctions;
+      refs_cut = few m.ynd.ref_count m.refs;
+    }
   where
     few : (n : ℕ) (l : List (List ℕ)) → length (take n l) ≤ n
     few n l = omega (arith, length-take n l)
@@ -213,7 +239,8 @@ held_told h cut lack lent s n e₀ =
         maps_told = r₅.0;
         values_lent = lent r₄.0;
       };
-      bytes = ap (λ (l : WriteLeft). take n l.section) (r₀.1 ∙ r₅.1 ∙ r₁.1 ∙ r₂.1 ∙ r₃.1 ∙ r₄.1) ∙ stored_told_law h s n e₄;
+      bytes = ap (λ (l : WriteLeft). take n l.section) (r₀.1 ∙ r₅.1 ∙ r₁.1 ∙ r₂.1 ∙ r₃.1 ∙ r₄.1)
+          ∙ stored_told_law h s n e₄;
     }
 
 pub write_told : (m : Memory) (s : List ℕ) (n : ℕ) → (write_call m s).answer ≡ Ok n → Held (held m) (write_call m s) n
@@ -226,7 +253,9 @@ unfolding read_of
 read_few s g m e = go (sizes_check (length s) (length g)) refl e
   where
     go : (c : Answer) → sizes_check (length s) (length g) ≡ c
-        → (unless c m (if_found (arrays_found (root_read s) (length s) (length g)) m λ n l j h r. read_arrays (root_read s) (bytes_of n s g) (bytes_of l s g) (bytes_of j s g) (bytes_of h s g) (bytes_of r s g) m)).answer ≡ Ok tt
+        → (unless c m (if_found (arrays_found (root_read s) (length s) (length g)) m λ n l j h r. read_arrays
+        (root_read s) (bytes_of n s g) (bytes_of l s g) (bytes_of j s g) (bytes_of h s g)
+        (bytes_of r s g) m)).answer ≡ Ok tt
         → length s ≤ 16777216
     go (Err a) d t = cc
     go (Ok tt) d t = (small (length s) (length g) d).0
@@ -236,18 +265,23 @@ unfolding held cell_of nodes_of junctions_of refs_of
 whole_held m = refl
 
 -- write-then-read, accepted or not, leaves a cell that storing keeps
-pub write_read_same : (m : Memory) (s : List ℕ) → kept (cell_of m) ≡ true → cell_of (write_read_of m s).memory ≡ cell_of m
+pub write_read_same : (m : Memory) (s : List ℕ) → kept (cell_of m) ≡ true → cell_of (write_read_of m s).memory
+    ≡ cell_of m
 unfolding write_read_of
 write_read_same m s k = go (write_call m s).answer refl
   where
     t : List ℕ
     t = (write_call m s).section
 
-    reading : (n : ℕ) → take n t ≡ written (held m) → Told (held m) → (c : Answer) → (read_of (take n t) [] m).answer ≡ c → cell_of (if_read n t c (read_of (take n t) [] m).memory m s).memory ≡ cell_of m
+    reading : (n : ℕ) → take n t ≡ written (held m) → Told (held m) → (c : Answer)
+        → (read_of (take n t) [] m).answer ≡ c
+        → cell_of (if_read n t c (read_of (take n t) [] m).memory m s).memory ≡ cell_of m
     reading n b told (Err x) e = refl
     reading n b told (Ok tt) e =
         read_cell (take n t) [] m e ∙ ap (λ (w : List ℕ). file_cell w []) b
-        ∙ section_back (held m) told (let q : length (written (held m)) ≤ 16777216 = omega (arith, read_few (take n t) [] m e, ap length b) in q) (ap kept (whole_held m) ∙ k)
+        ∙ section_back (held m) told
+        (let q : length (written (held m)) ≤ 16777216 = omega (arith, read_few (take n t) [] m e, ap length b) in
+        q) (ap kept (whole_held m) ∙ k)
         ∙ whole_held m
 
     go : (a : Result ℕ Refusal) → (write_call m s).answer ≡ a → cell_of (if_written a t m s).memory ≡ cell_of m

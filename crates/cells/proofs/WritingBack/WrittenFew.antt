@@ -11,7 +11,8 @@ use Rattle.records.proofs.Laid.{gap_small, section_length}
 use Rattle.cells.specs.Memory.{Memory}
 use Rattle.cells.specs.Entries.{links_in, values_in}
 use Rattle.cells.specs.WriteChecks.{accepted, check_nodes, check_junctions}
-use Rattle.cells.specs.Blocks.{refs_block, heights_block, junctions_block, links_block, nodes_block, arrays, blocks, root_for, written}
+use Rattle.cells.specs.Blocks.{refs_block, heights_block, junctions_block, links_block, nodes_block, arrays, blocks}
+use Rattle.cells.specs.Blocks.{root_for, written}
 use Rattle.cells.proofs.Sequences.Tests.{true_false}
 use Rattle.cells.proofs.Writing.Ranges.{value_count_law, value_small}
 use Rattle.cells.proofs.Writing.BlockLaws.{nodes_length, links_length, junctions_length, refs_length}
@@ -29,22 +30,29 @@ total_most n a b c d e =
     let n₄ = end_of n₃ d in
     omega (arith, gap_small n a, gap_small n₁ b, gap_small n₂ c, gap_small n₃ d, gap_small n₄ e)
 
-links_most : (links nodes : List (List ℕ)) → accepted (check_nodes (λ n. length (links_in links n)) 0 0 nodes) ≡ true → length (joined (links_in links) nodes) ≤ 65566
+links_most : (links nodes : List (List ℕ)) → accepted (check_nodes (λ n. length (links_in links n)) 0 0 nodes)
+    ≡ true → length (joined (links_in links) nodes) ≤ 65566
 links_most links nodes t = go (check_nodes (λ n. length (links_in links n)) 0 0 nodes) refl t
   where
-    go : (c : Result ℕ Refusal) → check_nodes (λ n. length (links_in links n)) 0 0 nodes ≡ c → accepted c ≡ true → length (joined (links_in links) nodes) ≤ 65566
+    go : (c : Result ℕ Refusal) → check_nodes (λ n. length (links_in links n)) 0 0 nodes ≡ c → accepted c ≡ true
+        → length (joined (links_in links) nodes) ≤ 65566
     go (Err cause) e u = true_false (sym u)
-    go (Ok n) e u = let r = nodes_total (links_in links) (λ n. length (links_in links n)) (λ x. refl) 0 0 nodes n (omega arith) e in omega (arith, r.0, r.1)
+    go (Ok n) e u = let r = nodes_total (links_in links) (λ n. length (links_in links n)) (λ x. refl) 0 0 nodes n
+        (omega arith) e in omega (arith, r.0, r.1)
 
-values_most : (heights : List ℕ) (js : List (List ℕ)) → accepted (check_junctions (λ j. length (values_in heights j)) 0 0 js) ≡ true → length (joined (values_in heights) js) ≤ 130560
+values_most : (heights : List ℕ) (js : List (List ℕ))
+    → accepted (check_junctions (λ j. length (values_in heights j)) 0 0 js) ≡ true
+    → length (joined (values_in heights) js) ≤ 130560
 values_most heights js t = go (check_junctions (λ j. length (values_in heights j)) 0 0 js) refl t
   where
     small : (j : List ℕ) → length (values_in heights j) ≤ 65025
     small j = omega (arith, value_count_law heights j, value_small (length heights) j)
 
-    go : (c : Result ℕ Refusal) → check_junctions (λ j. length (values_in heights j)) 0 0 js ≡ c → accepted c ≡ true → length (joined (values_in heights) js) ≤ 130560
+    go : (c : Result ℕ Refusal) → check_junctions (λ j. length (values_in heights j)) 0 0 js ≡ c → accepted c ≡ true
+        → length (joined (values_in heights) js) ≤ 130560
     go (Err cause) e u = true_false (sym u)
-    go (Ok n) e u = let r = junctions_total (values_in heights) (λ j. length (values_in heights j)) (λ x. refl) small 0 0 js n (omega arith) e in omega (arith, r.0, r.1)
+    go (Ok n) e u = let r = junctions_total (values_in heights) (λ j. length (values_in heights j)) (λ x. refl)
+        small 0 0 js n (omega arith) e in omega (arith, r.0, r.1)
 
 pub written_few : (h : Memory) → Told h → length (written h) ≤ 16777216
 unfolding written arrays

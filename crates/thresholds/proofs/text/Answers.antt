@@ -13,5 +13,6 @@ loop-k-preserved c =
     record {
       within = omega arith;
       long = omega (arith, ap length grown, length-append l.bytes.items line, nine, l.invariant.long);
-      lines = lines_kept l.k l.bytes.items _ line grown l.invariant.long nine l.invariant.lines c.threshold_line-line.ensures;
+      lines = lines_kept l.k l.bytes.items _ line grown l.invariant.long nine l.invariant.lines
+          c.threshold_line-line.ensures;
     }

@@ -6,5 +6,7 @@ use Rattle.cells.proofs.blocks.put_heights.Given as goal
 
 abbrev pub invariant-loop-w : goal.invariant-loop-w
 invariant-loop-w l =
-    (l.p + length (joined (values_in l.heights) (drop l.w-index l.junctions)) ≡ l.at + length (joined (values_in l.heights) l.junctions))
-    × (put l.section l.p (joined (values_in l.heights) (drop l.w-index l.junctions)) ≡ put l.initial.section l.at (joined (values_in l.heights) l.junctions))
+    (l.p + length (joined (values_in l.heights) (drop l.w-index l.junctions)) ≡ l.at
+    + length (joined (values_in l.heights) l.junctions))
+    × (put l.section l.p (joined (values_in l.heights) (drop l.w-index l.junctions))
+    ≡ put l.initial.section l.at (joined (values_in l.heights) l.junctions))

@@ -8,5 +8,7 @@ use Rattle.cells.proofs.blocks.put_junctions.Given as goal
 
 abbrev pub invariant-loop-w : goal.invariant-loop-w
 invariant-loop-w l =
-    (l.p ≡ l.at + 12 * l.w-index) × (accepted (check_junctions (values_within (length l.heights)) l.w-index l.before (drop l.w-index l.junctions)) ≡ true)
-    × (put l.section l.p (laid (values_in l.heights) junction_record l.before (drop l.w-index l.junctions)) ≡ put l.initial.section l.at (junctions_block l.heights l.junctions))
+    (l.p ≡ l.at + 12 * l.w-index) × (accepted (check_junctions (values_within (length l.heights)) l.w-index l.before
+    (drop l.w-index l.junctions)) ≡ true)
+    × (put l.section l.p (laid (values_in l.heights) junction_record l.before (drop l.w-index l.junctions))
+    ≡ put l.initial.section l.at (junctions_block l.heights l.junctions))

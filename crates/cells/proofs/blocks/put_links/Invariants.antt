@@ -6,5 +6,7 @@ use Rattle.cells.proofs.blocks.put_links.Given as goal
 
 abbrev pub invariant-loop-w : goal.invariant-loop-w
 invariant-loop-w l =
-    (l.p + length (joined (links_records l.links) (drop l.w-index l.nodes)) ≡ l.at + length (joined (links_records l.links) l.nodes))
-    × (put l.section l.p (joined (links_records l.links) (drop l.w-index l.nodes)) ≡ put l.initial.section l.at (joined (links_records l.links) l.nodes))
+    (l.p + length (joined (links_records l.links) (drop l.w-index l.nodes)) ≡ l.at
+    + length (joined (links_records l.links) l.nodes))
+    × (put l.section l.p (joined (links_records l.links) (drop l.w-index l.nodes))
+    ≡ put l.initial.section l.at (joined (links_records l.links) l.nodes))

@@ -8,6 +8,8 @@ use Rattle.cells.proofs.blocks.put_nodes.Given as goal
 
 abbrev pub invariant-loop-w : goal.invariant-loop-w
 invariant-loop-w l =
-    (l.p ≡ l.at + 40 * l.w-index) × (accepted (check_nodes (links_within (length l.links)) l.w-index l.before (drop l.w-index l.nodes)) ≡ true)
-    × (put l.section l.p (laid (links_in l.links) (node_record l.links) l.before (drop l.w-index l.nodes)) ≡ put l.initial.section l.at (nodes_block l.links l.nodes))
+    (l.p ≡ l.at + 40 * l.w-index) × (accepted (check_nodes (links_within (length l.links)) l.w-index l.before
+    (drop l.w-index l.nodes)) ≡ true)
+    × (put l.section l.p (laid (links_in l.links) (node_record l.links) l.before (drop l.w-index l.nodes))
+    ≡ put l.initial.section l.at (nodes_block l.links l.nodes))
     × (l.before ≤ 65566)

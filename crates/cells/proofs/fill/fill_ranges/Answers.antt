@@ -16,6 +16,8 @@ loop-i-preserved g c =
     record {
       held = omega (arith, k, sum_next (R.count r) l.i);
       few = omega arith;
-      entries = rw l.invariant.entries (fill_turn (λ i. R.entry_at r i (sum_to (R.count r) i)) c.args.entries.now l.i c.entry.result (omega arith) (c.entry.ensures ∙ ap (R.entry_at r l.i) l.invariant.held));
-      parts = c.fill_part.ensures ∙ rw (k, l.invariant.parts) (join_turn (R.part r) (R.count r) (g.met.R.Ranged.long r) c.args.parts.now l.i l.held l.invariant.held);
+      entries = rw l.invariant.entries (fill_turn (λ i. R.entry_at r i (sum_to (R.count r) i)) c.args.entries.now
+          l.i c.entry.result (omega arith) (c.entry.ensures ∙ ap (R.entry_at r l.i) l.invariant.held));
+      parts = c.fill_part.ensures ∙ rw (k, l.invariant.parts) (join_turn (R.part r) (R.count r)
+          (g.met.R.Ranged.long r) c.args.parts.now l.i l.held l.invariant.held);
     }

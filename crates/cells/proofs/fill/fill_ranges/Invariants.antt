@@ -8,6 +8,7 @@ invariant-loop-i g l =
     record {
       held : l.held ≡ sum_to (g.R.Ranged.count r) l.i;
       few : l.held ≤ l.i * 65535;
-      entries : l.entries ≡ up_to (λ i. g.R.Ranged.entry_at r i (sum_to (g.R.Ranged.count r) i)) l.i ++ drop l.i l.initial.entries;
+      entries : l.entries ≡ up_to (λ i. g.R.Ranged.entry_at r i (sum_to (g.R.Ranged.count r) i)) l.i
+          ++ drop l.i l.initial.entries;
       parts : l.parts ≡ join_to (g.R.Ranged.part r) l.i ++ drop l.held l.initial.parts;
     }

@@ -16,5 +16,6 @@ returns c =
     let now : Bor (List ℕ) → List ℕ = λ (w : Bor (List ℕ)). w.now in
     let m : c.map.result ≡ option_map (λ w. word (now w)) c.find.result = search rules in
     m ∙ mapped_twice word now c.find.result
-    ∙ ap (option_map word) (find_from_yields_List (λ w. ref_matches a.own a.area_id a.node_id (ref_of w)) _ _ c.find.result c.find.ensures.ran (YieldsList-from_slice a.refs.now cc) (λ x b q k. search (rules, tests)))
+    ∙ ap (option_map word) (find_from_yields_List (λ w. ref_matches a.own a.area_id a.node_id (ref_of w)) _ _
+    c.find.result c.find.ensures.ran (YieldsList-from_slice a.refs.now cc) (λ x b q k. search (rules, tests)))
     ∙ ref_found a.own a.area_id a.node_id a.refs.now

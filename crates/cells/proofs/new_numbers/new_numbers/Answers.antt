@@ -11,5 +11,6 @@ pub returns : goal.returns
 returns c =
     let a = c.args in
     let long : length (take 65536 a.table.now) ≡ 65536 = length-take-le 65536 a.table.now (omega arith) in
-    call_done a.n a.nodes.now a.table.now a.places.now c.put_numbers.new.table c.fill_places.new.places (omega arith) (omega arith) (omega arith) (omega arith)
+    call_done a.n a.nodes.now a.table.now a.places.now c.put_numbers.new.table c.fill_places.new.places
+    (omega arith) (omega arith) (omega arith) (omega arith)
     (omega arith) c.put_numbers.ensures c.fill_places.ensures

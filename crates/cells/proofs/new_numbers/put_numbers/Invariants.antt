@@ -4,4 +4,5 @@ use Rattle.cells.proofs.Renumbering.NumberTable.{so_far}
 use Rattle.cells.proofs.new_numbers.put_numbers.Given as goal
 
 abbrev pub invariant-loop-w : goal.invariant-loop-w
-invariant-loop-w l = (k : ℕ) → k < 65536 → get_or l.table k 0 ≡ so_far (map is_ped l.nodes) l.nodes (length l.yielded) k
+invariant-loop-w l = (k : ℕ) → k < 65536 → get_or l.table k 0
+    ≡ so_far (map is_ped l.nodes) l.nodes (length l.yielded) k

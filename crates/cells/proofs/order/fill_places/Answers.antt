@@ -5,7 +5,12 @@ use Rattle.cells.proofs.order.fill_places.Goals.{then-is_ped, else-is_ped}
 
 pub loop-i-init : goal.loop-i-init
 loop-i-init c =
-    record { few_vehicles = omega arith; few_peds = omega arith; placing = placing_starts c.args.nodes.now c.args.places.now c.args.first c.requires.2 }
+    record {
+      few_vehicles = omega arith;
+      few_peds = omega arith;
+      placing = placing_starts c.args.nodes.now
+          c.args.places.now c.args.first c.requires.2;
+    }
 
 pub loop-i-preserved : goal.loop-i-preserved
 loop-i-preserved c =
@@ -15,14 +20,19 @@ loop-i-preserved c =
       | then-is_ped w ↦ record {
         few_vehicles = omega arith;
         few_peds = omega arith;
-        placing = placed w.places-is w.v-is w.p-is (turn_ped a.nodes.now a.places.now l.places l.i l.v l.p (omega arith) (omega arith) l.invariant.placing (search rules));
+        placing = placed w.places-is w.v-is w.p-is
+            (turn_ped a.nodes.now a.places.now l.places l.i l.v l.p (omega arith) (omega arith) l.invariant.placing
+            (search rules));
       }
       | else-is_ped w ↦ record {
         few_vehicles = omega arith;
         few_peds = omega arith;
-        placing = placed w.places-is w.v-is w.p-is (turn_vehicle a.nodes.now a.places.now l.places l.i l.v l.p (omega arith) (omega arith) l.invariant.placing (search rules));
+        placing = placed w.places-is w.v-is w.p-is
+            (turn_vehicle a.nodes.now a.places.now l.places l.i l.v l.p (omega arith) (omega arith)
+            l.invariant.placing (search rules));
       }
     ]
 
 pub returns : goal.returns
-returns c = all_placed c.args.nodes.now c.args.places.now c.loop-i.places c.loop-i.i _ _ (omega arith) (omega arith) c.loop-i.invariant.placing
+returns c = all_placed c.args.nodes.now c.args.places.now c.loop-i.places c.loop-i.i _ _ (omega arith) (omega arith)
+    c.loop-i.invariant.placing

@@ -11,7 +11,8 @@ loop-i-preserved c =
       inside = omega arith;
       nodes_long = omega arith;
       to_long = omega arith;
-      moving = exchanged n l.i t c.args.nodes.now c.args.to.now l.nodes l.to (omega arith) (omega arith) (omega arith) refl l.invariant.moving (λ d. c.if-t-i.false (sym d))
+      moving = exchanged n l.i t c.args.nodes.now c.args.to.now l.nodes l.to (omega arith) (omega arith)
+          (omega arith) refl l.invariant.moving (λ d. c.if-t-i.false (sym d))
           c.swap.ensures.after c.swap-else-t-i.ensures.after;
     }
 

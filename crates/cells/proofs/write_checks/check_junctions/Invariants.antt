@@ -6,4 +6,5 @@ use Rattle.cells.proofs.write_checks.check_junctions.Given as goal
 abbrev pub invariant-loop-i : goal.invariant-loop-i
 invariant-loop-i l =
     (l.before ≤ 131070)
-    × (check_junctions (values_within l.pool) l.i l.before (drop l.i l.junctions) ≡ check_junctions (values_within l.pool) 0 0 l.junctions)
+    × (check_junctions (values_within l.pool) l.i l.before (drop l.i l.junctions)
+    ≡ check_junctions (values_within l.pool) 0 0 l.junctions)

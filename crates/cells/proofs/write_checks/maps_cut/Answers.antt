@@ -13,9 +13,11 @@ cut pool j = ltb (values_within pool j) (value_count j)
 
 as_any : (pool : ℕ) (js : List (List ℕ)) → list_any (cut pool) js ≡ maps_cut pool js
 unfolding maps_cut
-as_any pool js = same_from_clauses (list_any (cut pool)) (maps_cut pool) (λ j b. cut pool j || b) refl (λ _ _. refl) (λ _ _. refl) js
+as_any pool js = same_from_clauses (list_any (cut pool)) (maps_cut pool) (λ j b. cut pool j || b) refl (λ _ _. refl)
+    (λ _ _. refl) js
 
 pub returns : goal.returns
 returns c =
-    any_from_yields_List (cut c.args.pool) _ _ c.any.result c.any.ensures.ran (YieldsList-from_slice c.args.junctions.now cc) (λ x b q k. search (rules, tests))
+    any_from_yields_List (cut c.args.pool) _ _ c.any.result c.any.ensures.ran
+    (YieldsList-from_slice c.args.junctions.now cc) (λ x b q k. search (rules, tests))
     ∙ as_any c.args.pool c.args.junctions.now

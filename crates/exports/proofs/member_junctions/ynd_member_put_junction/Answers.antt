@@ -4,6 +4,6 @@ use Rattle.exports.proofs.member_junctions.ynd_member_put_junction.Goals as goal
 
 -- the entry stands under a λ, where `search` does not rewrite
 pub returns : goal.returns
-returns c nodes links refs heights hn hl hh hr =
+returns c u =
     rw (sym c.from.ensures, c.answer.ensures.number, c.answer.ensures.place)
-    (ap edit_told (c.put_junction_member-r.ensures nodes links refs heights hn hl hh hr))
+    (ap edit_told (c.put_junction_member-r.ensures u))

@@ -4,6 +4,6 @@ use Rattle.exports.proofs.member_nodes.ynd_member_put_node.Goals as goal
 
 -- the entry stands under a λ, where `search` does not rewrite
 pub returns : goal.returns
-returns c links junctions refs heights hl hj hh hr =
+returns c u =
     rw (sym c.from.ensures, c.answer.ensures.number, c.answer.ensures.place)
-    (ap edit_told (c.put_node_member-r.ensures links junctions refs heights hl hj hh hr))
+    (ap edit_told (c.put_node_member-r.ensures u))

@@ -22,8 +22,14 @@ truncating_f32_to_u64-requires c =
 
 pub overflow_cast-result : goal.overflow_cast-result
 unfolding of_bits
-overflow_cast-result c = record { fits = omega (arith, c.truncating_f32_to_u64.ensures, less_than 31 (q c.args.x)
-    (lit< tt) c.if-q.false) }
+overflow_cast-result c = record {
+  fits = omega (
+    arith,
+    c.truncating_f32_to_u64.ensures,
+    less_than 31 (q c.args.x)
+        (lit< tt) c.if-q.false,
+  );
+}
 
 pub returns-then-q : goal.returns-then-q
 unfolding of_bits
@@ -31,8 +37,13 @@ returns-then-q c = omega (arith, cell c.args.x, at_least 31 (q c.args.x) (lit< t
 
 pub returns-then-q-2 : goal.returns-then-q-2
 unfolding of_bits
-returns-then-q-2 c = omega (arith, c.truncating_f32_to_u64.ensures, cell c.args.x, less_than 31 (q c.args.x)
-    (lit< tt) c.if-q.false)
+returns-then-q-2 c = omega (
+  arith,
+  c.truncating_f32_to_u64.ensures,
+  cell c.args.x,
+  less_than 31 (q c.args.x)
+      (lit< tt) c.if-q.false,
+)
 
 pub returns-else-q-2 : goal.returns-else-q-2
 unfolding of_bits

@@ -15,11 +15,13 @@ pattern : (a b : Vec3) → T (not (is_nan (squared a b))) → T (lt (squared a b
     → to_bits binary32 (squared a b) < 0x477e_0100
 pattern a b n t =
     lt_bits (to_bits binary32 (squared a b)) 0x477e_0100
-        (dot_pattern (sub binary32 b.x a.x) (sub binary32 b.y a.y) (sub binary32 b.z a.z) n) (lit≤ tt)
+    (dot_pattern (sub binary32 b.x a.x) (sub binary32 b.y a.y) (sub binary32 b.z a.z) n) (lit≤ tt)
     (subst (λ (x : Float). T (lt x (of_bits binary32 0x477e_0100))) (sym (back a b)) t)
 
 pub length_under-requires : goal.length_under-requires
 length_under-requires c =
-    let args = c.args in
-    (pattern args.a args.b (below_no_nan (squared args.a args.b) (of_bits binary32 0x477e_0100) c.if-s.true)
-        (subst T (sym c.if-s.true) tt), sym (back args.a args.b))
+    let args = c.args in (
+      pattern args.a args.b (below_no_nan (squared args.a args.b) (of_bits binary32 0x477e_0100) c.if-s.true)
+          (subst T (sym c.if-s.true) tt),
+      sym (back args.a args.b),
+    )

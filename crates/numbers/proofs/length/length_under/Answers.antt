@@ -15,9 +15,9 @@ returns-then-above-k c =
     let d = c.wrapping_sub_u32-above.result in
     let wrapped : (d + (0x4800_0000 + 64 * (k * k))) % 4294967296 ≡ scaled c.args.b
     = subst (λ (x : Float). (d + (0x4800_0000 + 64 * (k * k))) % 4294967296 ≡ to_bits binary32 (raised x))
-        c.requires.1 c.wrapping_sub_u32-above.ensures.value in
+    c.requires.1 c.wrapping_sub_u32-above.ensures.value in
     let small : k * k ≤ 65025 = mul-le-mul c.estimate-k.ensures c.estimate-k.ensures in
     let e : d + (0x4800_0000 + 64 * (k * k)) ≡ scaled c.args.b = omega arith in
     between_is k c.args.b (omega arith) (omega arith)
     (from_square k c.args.b (omega arith) (omega arith))
-        (to_square k c.args.b (omega arith) (omega arith) (omega arith))
+    (to_square k c.args.b (omega arith) (omega arith) (omega arith))

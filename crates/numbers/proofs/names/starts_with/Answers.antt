@@ -8,7 +8,7 @@ returns-then-word-s c =
     let s = c.args.s.now in
     let word = c.args.word.now in
     let yes : c.all.result ≡ true → (k : ℕ) → k < length word → to_ascii_lowercase (get_or s k 0)
-        ≡ get_or word k 0 = λ e k l. search rules in
+    ≡ get_or word k 0 = λ e k l. search rules in
     let no : c.all.result ≡ false → (k : ℕ) × (k < length word)
-        × (to_ascii_lowercase (get_or s k 0) ≡ get_or word k 0 → ⊥) = λ e. search rules in
+    × (to_ascii_lowercase (get_or s k 0) ≡ get_or word k 0 → ⊥) = λ e. search rules in
     starts_decided c.all.result s word c.if-word-s.true yes no

@@ -10,5 +10,15 @@ loop-lo-init c =
     let K : 0 < k = omega arith in
     let h : k < 256 = omega arith in
     let t = turning k j K h d.0 in
-    record { some = K; small = h; digits = d.0; j_in = d.1; from = omega arith; order = omega arith; to = omega
-        arith; under = t.from; at = t.to }
+    record {
+      some = K;
+      small = h;
+      digits = d.0;
+      j_in = d.1;
+      from = omega arith;
+      order = omega arith;
+      to = omega
+          arith;
+      under = t.from;
+      at = t.to;
+    }

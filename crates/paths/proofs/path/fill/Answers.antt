@@ -1,15 +1,5 @@
-use native.Mathlib.Omega.{arith}
-use Rattle.paths.proofs.FillLaws.{fill_byte, fill_turn, fill_choices, fill_places}
+use Rattle.paths.proofs.FillLaws.{fill_turn, fill_choices, fill_places}
 use Rattle.paths.proofs.path.fill.Goals as goal
-
-pub overflow_cast-choices : goal.overflow_cast-choices
-overflow_cast-choices c =
-    let a = c.args in
-    omega (
-      arith,
-      c.by_of.ensures,
-      fill_byte _ _ _ _ c.requires.1 _ _ _ _ c.loop-i.invariant c.loop-i-test.true,
-    )
 
 pub loop-i-preserved : goal.loop-i-preserved
 loop-i-preserved c =

@@ -15,7 +15,8 @@ returns-in-Ok c =
     let a = c.args in
     let r = c.in-Ok.round in
     let f = c.read_version-read in
-    let zeros = choices_lent_law _ (c.as_mut_slice.ensures.value ∙ c.in_ok-choices.ensures.items_if_clones_equal (λ y h. h)) in
+    let zeros = choices_lent_law _ (c.as_mut_slice.ensures.value ∙ c.in_ok-choices.ensures.items_if_clones_equal
+    (λ y h. h)) in
     let is = c.in-Ok.ensures ∙ ap (version_read a.file.now) zeros in
     let long : length f.new.choices ≡ c.in_ok-choices.choices.len
     = omega (arith, f.auto.choices, c.as_mut_slice.ensures.len) in
@@ -30,9 +31,11 @@ returns-in-Ok c =
 pub returns : goal.returns
 returns c =
     let a = c.args in
-    let zeros = choices_lent_law _ (c.as_mut_slice.ensures.value ∙ c.in_ok-choices.ensures.items_if_clones_equal (λ y h. h)) in
+    let zeros = choices_lent_law _ (c.as_mut_slice.ensures.value ∙ c.in_ok-choices.ensures.items_if_clones_equal
+    (λ y h. h)) in
     let is = c.in-Err.ensures ∙ ap (version_read a.file.now) zeros in
     IfOk-weaker c.refused.result _ _
     (λ text said js hs rs.
-    file_refused (memory a.ynd a.nodes.now a.links.now js hs rs) c.in-Err.refusal _ _ _ (said ∙ ap refused_of c.number.ensures) is)
+    file_refused (memory a.ynd a.nodes.now a.links.now js hs rs) c.in-Err.refusal _ _ _
+    (said ∙ ap refused_of c.number.ensures) is)
     c.refused.ensures

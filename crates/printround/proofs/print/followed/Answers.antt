@@ -14,7 +14,8 @@ pub returns-in-Ok : goal.returns-in-Ok
 returns-in-Ok c =
     let a = c.args in
     let f = c.follow_version-walked in
-    let zeros = visited_lent_law _ (c.as_mut_slice.ensures.value ∙ c.in_ok-visited.ensures.items_if_clones_equal (λ y h. h)) in
+    let zeros = visited_lent_law _ (c.as_mut_slice.ensures.value ∙ c.in_ok-visited.ensures.items_if_clones_equal
+    (λ y h. h)) in
     let long : length f.new.visited ≡ c.in_ok-visited.visited.len
     = omega (arith, f.auto.visited, c.as_mut_slice.ensures.len) in
     let shown = c.as_slice.ensures.value ∙ c.truncate.ensures.items
@@ -22,7 +23,8 @@ returns-in-Ok c =
     IfOk-weaker c.round.result _ _
     (λ text said js hs rs.
     let m = memory a.ynd a.nodes.now a.links.now js hs rs in
-    ended a.ynd a.nodes.now a.links.now js hs rs a.round_file.count c.in-Ok.walk.end c.in-Ok.walk.count f.new.visited _ _ _ said
+    ended a.ynd a.nodes.now a.links.now js hs rs a.round_file.count c.in-Ok.walk.end c.in-Ok.walk.count
+    f.new.visited _ _ _ said
     shown
     (c.in-Ok.ensures js hs rs ∙ ap (follow_version m a.round_file.version a.round_file.start a.choices.now) zeros))
     c.round.ensures
@@ -30,7 +32,8 @@ returns-in-Ok c =
 pub returns : goal.returns
 returns c =
     let a = c.args in
-    let zeros = visited_lent_law _ (c.as_mut_slice.ensures.value ∙ c.in_ok-visited.ensures.items_if_clones_equal (λ y h. h)) in
+    let zeros = visited_lent_law _ (c.as_mut_slice.ensures.value ∙ c.in_ok-visited.ensures.items_if_clones_equal
+    (λ y h. h)) in
     IfOk-weaker c.refused.result _ _
     (λ text said js hs rs.
     let m = memory a.ynd a.nodes.now a.links.now js hs rs in

@@ -17,7 +17,8 @@ returns-in-Ok c =
     let a = c.args in
     let o = c.cell_read-read in
     let zeros = memory_lent _ _ _ _ _
-    (c.as_mut_slice.ensures.value ∙ c.in_ok-nodes.ensures.items_if_clones_equal (λ y h. each_same _ y h.whole)) (c.as_mut_slice-2.ensures.value ∙ c.in_ok-links.ensures.items_if_clones_equal (λ y h. each_same _ y h.whole))
+    (c.as_mut_slice.ensures.value ∙ c.in_ok-nodes.ensures.items_if_clones_equal (λ y h. each_same _ y h.whole))
+    (c.as_mut_slice-2.ensures.value ∙ c.in_ok-links.ensures.items_if_clones_equal (λ y h. each_same _ y h.whole))
     (c.as_mut_slice-3.ensures.value ∙ c.in_ok-junctions.ensures.items_if_clones_equal (λ y h. each_same _ y h.whole))
     (c.as_mut_slice-4.ensures.value ∙ c.in_ok-heights.ensures.items_if_clones_equal (λ y h. h))
     (c.as_mut_slice-5.ensures.value ∙ c.in_ok-refs.ensures.items_if_clones_equal (λ y h. each_same _ y h.whole)) in
@@ -30,7 +31,8 @@ returns-in-Ok c =
     let v = version_read a.file.now choices_lent in
     IfOk-weaker c.file_read.result _ _
     (λ text said.
-    section_held a.section.now a.file.now _ c.in-Ok.ynd o.new.nodes o.new.links o.new.junctions o.new.heights o.new.refs
+    section_held a.section.now a.file.now _ c.in-Ok.ynd o.new.nodes o.new.links o.new.junctions o.new.heights
+    o.new.refs
     (said o.new.junctions o.new.heights o.new.refs
     ∙ (λ i. file_of (memory c.in-Ok.ynd (n i) (l i) o.new.junctions o.new.heights o.new.refs) v))
     (c.in-Ok.ensures ∙ ap (read_of a.section.now []) zeros))
@@ -41,12 +43,14 @@ returns c =
     let a = c.args in
     let o = c.cell_read-read in
     let zeros = memory_lent _ _ _ _ _
-    (c.as_mut_slice.ensures.value ∙ c.in_ok-nodes.ensures.items_if_clones_equal (λ y h. each_same _ y h.whole)) (c.as_mut_slice-2.ensures.value ∙ c.in_ok-links.ensures.items_if_clones_equal (λ y h. each_same _ y h.whole))
+    (c.as_mut_slice.ensures.value ∙ c.in_ok-nodes.ensures.items_if_clones_equal (λ y h. each_same _ y h.whole))
+    (c.as_mut_slice-2.ensures.value ∙ c.in_ok-links.ensures.items_if_clones_equal (λ y h. each_same _ y h.whole))
     (c.as_mut_slice-3.ensures.value ∙ c.in_ok-junctions.ensures.items_if_clones_equal (λ y h. each_same _ y h.whole))
     (c.as_mut_slice-4.ensures.value ∙ c.in_ok-heights.ensures.items_if_clones_equal (λ y h. h))
     (c.as_mut_slice-5.ensures.value ∙ c.in_ok-refs.ensures.items_if_clones_equal (λ y h. each_same _ y h.whole)) in
     IfOk-weaker c.refused.result _ _
     (λ text said.
     section_refused a.section.now a.file.now _ c.in-Err.refusal o.new.nodes o.new.links o.new.junctions
-    o.new.heights o.new.refs (said ∙ ap refused_of c.number.ensures) (c.in-Err.ensures ∙ ap (read_of a.section.now []) zeros))
+    o.new.heights o.new.refs (said ∙ ap refused_of c.number.ensures)
+    (c.in-Err.ensures ∙ ap (read_of a.section.now []) zeros))
     c.refused.ensures

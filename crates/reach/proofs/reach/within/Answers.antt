@@ -13,14 +13,17 @@ use Rattle.reach.proofs.reach.within.Goals as goal
 pub returns-then-not-has_room : goal.returns-then-not-has_room
 returns-then-not-has_room c =
     let p = c.new-point in
-    let cut = cut_nodes _ _ _ _ (distances_from p.result) _ c.ranges.x c.ranges.y c.if-nodes-n.false p.ensures.0 p.ensures.1 in
-    within_short _ _ _ _ (sym c.over_limit.ensures ∙ c.if-over_limit.false) c.if-nodes-n.false _ _ cut c.args.radius c.args.places.now
+    let cut = cut_nodes _ _ _ _ (distances_from p.result) _ c.ranges.x c.ranges.y c.if-nodes-n.false p.ensures.0
+    p.ensures.1 in
+    within_short _ _ _ _ (sym c.over_limit.ensures ∙ c.if-over_limit.false) c.if-nodes-n.false _ _ cut c.args.radius
+    c.args.places.now
     (sym c.has_room.ensures ∙ c.if-not-has_room.true)
 
 pub fill_within-count-requires : goal.fill_within-count-requires
 fill_within-count-requires c =
     let p = c.new-point in
-    let cut = cut_nodes _ _ _ _ (distances_from p.result) _ c.ranges.x c.ranges.y c.if-nodes-n.false p.ensures.0 p.ensures.1 in
+    let cut = cut_nodes _ _ _ _ (distances_from p.result) _ c.ranges.x c.ranges.y c.if-nodes-n.false p.ensures.0
+    p.ensures.1 in
     let limits = keeps-limits _ (sym c.over_limit.ensures ∙ c.if-over_limit.false) in
     (omega (arith, cut.long, limits.0), leb-true _ _ (sym c.has_room.ensures ∙ c.if-not-has_room.false))
 
@@ -32,7 +35,8 @@ sort-requires c =
     let n = length p.result.nodes.now in
     let cut = cut_nodes _ _ _ _ d _ c.ranges.x c.ranges.y c.if-nodes-n.false p.ensures.0 p.ensures.1 in
     let limits = keeps-limits _ (sym c.over_limit.ensures ∙ c.if-over_limit.false) in
-    part_held (within d c.args.radius n) _ _ _ f.ensures.0 f.ensures.1 d c.args.radius n n refl (omega arith) (omega (arith, cut.long, limits.0))
+    part_held (within d c.args.radius n) _ _ _ f.ensures.0 f.ensures.1 d c.args.radius n n refl (omega arith)
+    (omega (arith, cut.long, limits.0))
 
 pub returns : goal.returns
 returns c =
@@ -41,6 +45,7 @@ returns c =
     let d = distances_from p.result in
     let W = within d c.args.radius (length p.result.nodes.now) in
     let cut = cut_nodes _ _ _ _ d _ c.ranges.x c.ranges.y c.if-nodes-n.false p.ensures.0 p.ensures.1 in
-    within_fits _ _ _ _ (sym c.over_limit.ensures ∙ c.if-over_limit.false) c.if-nodes-n.false _ _ cut c.args.radius c.args.places.now
+    within_fits _ _ _ _ (sym c.over_limit.ensures ∙ c.if-over_limit.false) c.if-nodes-n.false _ _ cut c.args.radius
+    c.args.places.now
     (sym c.has_room.ensures ∙ c.if-not-has_room.false) _ _ f.ensures.0
     (part_sorted W _ _ _ f.ensures.0 f.ensures.1 d c.sort.new.places c.sort.ensures)

@@ -33,7 +33,7 @@ returns-clause-section_after c =
     let zeros : c.fill.new.self ≡ z
     = c.fill.ensures.after (λ y h. h) ∙ ap (λ (k : ℕ). replicate k 0) (part_long l.section 112 1040 (omega arith)) in
     let both = then s l.section _ 0 112 w z root (put_part l.section 112 1152 z c.fill.new.self zeros refl)
-        (omega (arith, long)) (omega arith) in
+    (omega (arith, long)) (omega arith) in
     ap (λ (x : List ℕ). set x 120 128) both ∙ set_inside s (w ++ z) 120 128 (omega (arith, all))
     ∙ ap (put s 0) (set-append_right w z 112 120 128 long (omega arith) ∙ ap (λ (x : List ℕ). w ++ x) page_block)
     ∙ sym (put_fits s 0 (header_bytes r) (omega (arith, header_length r)))

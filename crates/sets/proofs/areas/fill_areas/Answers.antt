@@ -14,16 +14,16 @@ loop-i-preserved c =
     let now = c.loop-i.areas in
     let lt : i < length ws = c.loop-i-test.true in
     let room : i < length now = omega (arith, c.loop-i.auto.areas, c.requires.0) in (
-      (λ k. c.loop-i.invariant.0 k + c.word_at-start.ensures.0 k) ∙ sym (start_next 15 ws i lt),
+      (λ k. c.loop-i.invariant.0 k + c.size_in-start.ensures.0 k) ∙ sym (start_next 15 ws i lt),
       omega (
         arith,
         part_inside c.requires.1 i lt,
-        c.word_at-start.ensures.0,
+        c.size_in-start.ensures.0,
         c.loop-i.invariant.0,
       ),
       below_more _ _
           (λ j h. let ne : j ≢ i = omega arith in rw get_or-set_other (c.loop-i.invariant.2 j h))
           (rw get_or-set_same (c.own_area.ensures
-          ∙ area_seen ws nodes i c.loop-i.start c.word_at.result lt c.requires.1 c.loop-i.invariant.0
-          c.word_at.ensures.0)),
+          ∙ area_seen ws nodes i c.loop-i.start c.count_in.result lt c.requires.1 c.loop-i.invariant.0
+          c.count_in.ensures.0)),
     )

@@ -1,16 +1,25 @@
-use Rattle.std.proofs.Common.{◌≤◌, length, rules}
-use Rattle.sets.proofs.RoomLaws.{few_members}
-use Rattle.sets.proofs.CrossCases.{starts, walking}
+use Rattle.std.proofs.Common.{refl, arith}
+use Rattle.sets.proofs.CrossCases.{starts, lent_by, start_small, walked}
+use Rattle.sets.specs.CellSet.{cell_set}
+use Rattle.sets.specs.Crossing.{location}
 use Rattle.sets.proofs.crossing.walk_started.Goals as goal
 
-pub slice_bounds-set-end : goal.slice_bounds-set-end
-slice_bounds-set-end c =
+pub new-set-requires : goal.new-set-requires
+new-set-requires c =
     let a = c.args in
-    let h : length a.members.now ≤ 9 = few_members _ (starts a.members.now a.nodes.now a.links.now _ c.requires).over in
-    search rules
+    let s = starts a.members.now a.nodes.now a.links.now _ c.requires in
+    (lent_by _ _ _ _ _ s refl, s.links_hold)
 
-pub invariant_of-set : goal.invariant_of-set
-invariant_of-set c =
+pub overflow_cast-start-2 : goal.overflow_cast-start-2
+overflow_cast-start-2 c =
     let a = c.args in
-    let w = walking _ _ _ _ _ (starts a.members.now a.nodes.now a.links.now _ c.requires) c.fill_areas.ensures in
-    record { lent = w.lent; links_hold = w.links_hold }
+    let small = start_small (starts a.members.now a.nodes.now a.links.now (location a.member a.place) c.requires) in
+    omega (arith, small)
+
+pub returns : goal.returns
+returns c = λ js hs rs.
+    let a = c.args in
+    let s = c.new-set.ensures in
+    walked (cell_set a.members.now a.nodes.now a.links.now js hs rs) a.choices.now (location a.member a.place)
+    a.visited.now
+    c.requires _ _ (rw (s.0, s.1, s.2) at c.walk_from.ensures)

@@ -10,17 +10,20 @@ use Rattle.sets.proofs.MemberEditLaws.{not_edited, stays, leaves}
 use Rattle.sets.proofs.edit_counts.put_words_member.Goals as goal
 
 pub returns-in_err-p : goal.returns-in_err-p
-returns-in_err-p c nodes links junctions refs heights hn hl hj hh hr =
-    not_edited _ _ _ _ refl (asks c.held-lens.ensures (apart _ hn) (apart _ hl) (apart _ hj) (apart _ hh) (apart _ hr))
+returns-in_err-p c u =
+    not_edited _ _ _ _ refl (asks c.held-lens.ensures (apart _ u.nodes_lie) (apart _ u.links_lie)
+    (apart _ u.junctions_lie) (apart _ u.heights_lie) (apart _ u.refs_lie))
     c.open_member.ensures.value c.in_err-p.was c.from_residual.ensures.1
 
 pub returns : goal.returns
-returns c nodes links junctions refs heights hn hl hj hh hr =
+returns c u =
     let q = c.in_ok-p.p in
-    let m = part_memory q.ynd q.a q.e (cell_set c.args.members.now nodes links junctions heights refs) in
+    let m = part_memory q.ynd q.a q.e (cell_set c.args.members.now u.nodes u.links u.junctions u.heights u.refs) in
     leaves
-    (opens _ (asks c.held-lens.ensures (apart _ hn) (apart _ hl) (apart _ hj) (apart _ hh) (apart _ hr)) c.open_member.ensures.value c.in_ok-p.was)
+    (opens _ (asks c.held-lens.ensures (apart _ u.nodes_lie) (apart _ u.links_lie) (apart _ u.junctions_lie)
+    (apart _ u.heights_lie) (apart _ u.refs_lie)) c.open_member.ensures.value c.in_ok-p.was)
     c.told-members (put_words_kept _ _ _ _) stays stays stays stays stays _ refl
-    (ap (λ (v : Ynd). done (memory v m.nodes m.links m.junctions m.heights m.refs)) (words_put _ _ _ _ _ _ _ _ _ c.set_vft-a.ensures
+    (ap (λ (v : Ynd). done (memory v m.nodes m.links m.junctions m.heights m.refs))
+    (words_put _ _ _ _ _ _ _ _ _ c.set_vft-a.ensures
     c.set_vehicle_node_count-b.ensures c.set_ped_node_count-c.ensures c.set_unknowns-next.ensures))
     c.store_ynd.ensures

@@ -8,13 +8,15 @@ use Rattle.sets.proofs.MemberEditLaws.{not_edited, stays, stored, wrote}
 use Rattle.sets.proofs.edit_junctions.put_height_member.Goals as goal
 
 pub returns-in_err-p : goal.returns-in_err-p
-returns-in_err-p c nodes links refs hn hl hr =
-    not_edited _ _ _ _ refl (asks c.held-lens.ensures (apart _ hn) (apart _ hl) (lent _) (lent _) (apart _ hr))
+returns-in_err-p c u =
+    not_edited _ _ _ _ refl (asks c.held-lens.ensures (apart _ u.nodes_lie) (apart _ u.links_lie) (lent _) (lent _)
+    (apart _ u.refs_lie))
     c.open_member.ensures.value c.in_err-p.was c.from_residual.ensures.1
 
 pub returns : goal.returns
-returns c nodes links refs hn hl hr =
+returns c u =
     stored
-    (opens _ (asks c.held-lens.ensures (apart _ hn) (apart _ hl) (lent _) (lent _) (apart _ hr)) c.open_member.ensures.value c.in_ok-p.was)
+    (opens _ (asks c.held-lens.ensures (apart _ u.nodes_lie) (apart _ u.links_lie) (lent _) (lent _)
+    (apart _ u.refs_lie)) c.open_member.ensures.value c.in_ok-p.was)
     c.told-members (put_height_kept _ _ _) stays stays stays (wrote c.put_height.auto.heights) stays
     (ap (heights_left (memory _ _ _ _ [] _)) c.put_height.ensures)

@@ -8,13 +8,15 @@ use Rattle.sets.proofs.MemberEditLaws.{not_edited, stays, stored, wrote}
 use Rattle.sets.proofs.edit_links.put_link_member.Goals as goal
 
 pub returns-in_err-p : goal.returns-in_err-p
-returns-in_err-p c junctions refs heights hj hh hr =
-    not_edited _ _ _ _ refl (asks c.held-lens.ensures (lent _) (lent _) (apart _ hj) (apart _ hh) (apart _ hr))
+returns-in_err-p c u =
+    not_edited _ _ _ _ refl (asks c.held-lens.ensures (lent _) (lent _) (apart _ u.junctions_lie)
+    (apart _ u.heights_lie) (apart _ u.refs_lie))
     c.open_member.ensures.value c.in_err-p.was c.from_residual.ensures.1
 
 pub returns : goal.returns
-returns c junctions refs heights hj hh hr =
+returns c u =
     stored
-    (opens _ (asks c.held-lens.ensures (lent _) (lent _) (apart _ hj) (apart _ hh) (apart _ hr)) c.open_member.ensures.value c.in_ok-p.was)
+    (opens _ (asks c.held-lens.ensures (lent _) (lent _) (apart _ u.junctions_lie) (apart _ u.heights_lie)
+    (apart _ u.refs_lie)) c.open_member.ensures.value c.in_ok-p.was)
     c.told-members (put_link_kept _ _ _) stays (wrote c.put_link.auto.links) stays stays stays
     (ap (links_left (memory _ _ [] _ _ _)) c.put_link.ensures)

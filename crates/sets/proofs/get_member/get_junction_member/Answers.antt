@@ -2,12 +2,14 @@ use Rattle.sets.proofs.MemberAskLaws.{answered, apart, asks, lent, not_asked, op
 use Rattle.sets.proofs.get_member.get_junction_member.Goals as goal
 
 pub returns-in_err-p : goal.returns-in_err-p
-returns-in_err-p c nodes links refs heights hn hl hh hr =
-    not_asked _ (asks c.held-lens.ensures (apart _ hn) (apart _ hl) (lent _) (apart _ hh) (apart _ hr))
+returns-in_err-p c u =
+    not_asked _ (asks c.held-lens.ensures (apart _ u.nodes_lie) (apart _ u.links_lie) (lent _)
+    (apart _ u.heights_lie) (apart _ u.refs_lie))
     c.open_member.ensures.value _ c.in_err-p.was c.from_residual.ensures.1
 
 pub returns : goal.returns
-returns c nodes links refs heights hn hl hh hr =
+returns c u =
     answered _ _
-    (opens _ (asks c.held-lens.ensures (apart _ hn) (apart _ hl) (lent _) (apart _ hh) (apart _ hr)) c.open_member.ensures.value c.in_ok-p.was)
+    (opens _ (asks c.held-lens.ensures (apart _ u.nodes_lie) (apart _ u.links_lie) (lent _) (apart _ u.heights_lie)
+    (apart _ u.refs_lie)) c.open_member.ensures.value c.in_ok-p.was)
     c.get_junction.ensures

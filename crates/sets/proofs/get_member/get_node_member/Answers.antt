@@ -2,12 +2,14 @@ use Rattle.sets.proofs.MemberAskLaws.{answered, apart, asks, lent, not_asked, op
 use Rattle.sets.proofs.get_member.get_node_member.Goals as goal
 
 pub returns-in_err-p : goal.returns-in_err-p
-returns-in_err-p c links junctions refs heights hl hj hh hr =
-    not_asked _ (asks c.held-lens.ensures (lent _) (apart _ hl) (apart _ hj) (apart _ hh) (apart _ hr))
+returns-in_err-p c u =
+    not_asked _ (asks c.held-lens.ensures (lent _) (apart _ u.links_lie) (apart _ u.junctions_lie)
+    (apart _ u.heights_lie) (apart _ u.refs_lie))
     c.open_member.ensures.value _ c.in_err-p.was c.from_residual.ensures.1
 
 pub returns : goal.returns
-returns c links junctions refs heights hl hj hh hr =
+returns c u =
     answered _ _
-    (opens _ (asks c.held-lens.ensures (lent _) (apart _ hl) (apart _ hj) (apart _ hh) (apart _ hr)) c.open_member.ensures.value c.in_ok-p.was)
+    (opens _ (asks c.held-lens.ensures (lent _) (apart _ u.links_lie) (apart _ u.junctions_lie)
+    (apart _ u.heights_lie) (apart _ u.refs_lie)) c.open_member.ensures.value c.in_ok-p.was)
     c.get_node.ensures

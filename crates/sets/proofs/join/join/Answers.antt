@@ -15,7 +15,8 @@ append-requires c =
     let y = cell_set a.members.now a.nodes.now a.links.now a.junctions.now a.heights.now a.refs.now in
     let m = memory a.ynd a.new_nodes.now a.new_links.now a.new_junctions.now a.new_heights.now a.new_refs.now in
     append_fits a.count y m a.sizes c.own_area-area.ensures c.min-held.ensures c.lengths-lens.ensures
-    c.lengths-haves.ensures c.join_answer.ensures c.in_ok-join_answer.was c.starts_of-at.ensures c.counts-counts.ensures
+    c.lengths-haves.ensures c.join_answer.ensures c.in_ok-join_answer.was c.starts_of-at.ensures
+    c.counts-counts.ensures
 
 pub returns : goal.returns
 returns c =
@@ -23,6 +24,7 @@ returns c =
     let y = cell_set a.members.now a.nodes.now a.links.now a.junctions.now a.heights.now a.refs.now in
     let m = memory a.ynd a.new_nodes.now a.new_links.now a.new_junctions.now a.new_heights.now a.new_refs.now in
     let h = joined a.count y m a.sizes c.own_area-area.ensures c.min-held.ensures c.lengths-lens.ensures
-    c.lengths-haves.ensures c.join_answer.ensures c.in_ok-join_answer.was c.starts_of-at.ensures c.counts-counts.ensures
+    c.lengths-haves.ensures c.join_answer.ensures c.in_ok-join_answer.was c.starts_of-at.ensures
+    c.counts-counts.ensures
     c.entry_words.ensures.0 c.append.ensures.value in
     search (rules, h)

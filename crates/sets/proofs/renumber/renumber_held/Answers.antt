@@ -9,15 +9,22 @@ use Rattle.sets.proofs.renumber.renumber_held.Goals as goal
 
 pub numbers_at-requires : goal.numbers_at-requires
 numbers_at-requires c =
-    omega (arith, ap (λ (z : Counts). z.nodes) c.requires.4, start_inside c.requires.5.nodes_hold c.args.j c.requires.0)
+    omega (
+      arith,
+      ap (λ (z : Counts). z.nodes) c.requires.4,
+      start_inside c.requires.5.nodes_hold c.args.j
+          c.requires.0,
+    )
 
 pub returns-in_err-numbers_at-clause-called : goal.returns-in_err-numbers_at-clause-called
 returns-in_err-numbers_at-clause-called c =
-    (refused_at _ _ c.args.p c.requires _ _ _ _ _ c.numbers_at.ensures c.in_err-numbers_at.was c.from_residual.ensures.1).0
+    (refused_at _ _ c.args.p c.requires _ _ _ _ _ c.numbers_at.ensures c.in_err-numbers_at.was
+    c.from_residual.ensures.1).0
 
 pub returns-in_err-numbers_at-clause-scratch_left : goal.returns-in_err-numbers_at-clause-scratch_left
 returns-in_err-numbers_at-clause-scratch_left c =
-    (refused_at _ _ c.args.p c.requires _ _ _ _ _ c.numbers_at.ensures c.in_err-numbers_at.was c.from_residual.ensures.1).1
+    (refused_at _ _ c.args.p c.requires _ _ _ _ _ c.numbers_at.ensures c.in_err-numbers_at.was
+    c.from_residual.ensures.1).1
 
 pub correct_others-requires : goal.correct_others-requires
 correct_others-requires c =
@@ -44,13 +51,15 @@ pub returns-in_err-next-clause-called : goal.returns-in_err-next-clause-called
 returns-in_err-next-clause-called c =
     let t = tells _ _ c.args.p c.requires _ _ _ _ _ c.numbers_at.ensures c.in_ok-numbers_at.was in
     never_refused _ _ c.args.p c.requires _ _ _ _ _ c.numbers_at.ensures c.in_ok-numbers_at.was _
-    (c.correct_others.ensures _ t) _ _ _ _ _ c.renumber_part.ensures.called c.renumber_part.ensures.before _ c.in_err-next.was
+    (c.correct_others.ensures _ t) _ _ _ _ _ c.renumber_part.ensures.called c.renumber_part.ensures.before _
+    c.in_err-next.was
 
 pub returns-in_err-next-clause-scratch_left : goal.returns-in_err-next-clause-scratch_left
 returns-in_err-next-clause-scratch_left c =
     let t = tells _ _ c.args.p c.requires _ _ _ _ _ c.numbers_at.ensures c.in_ok-numbers_at.was in
     never_refused _ _ c.args.p c.requires _ _ _ _ _ c.numbers_at.ensures c.in_ok-numbers_at.was _
-    (c.correct_others.ensures _ t) _ _ _ _ _ c.renumber_part.ensures.called c.renumber_part.ensures.before _ c.in_err-next.was
+    (c.correct_others.ensures _ t) _ _ _ _ _ c.renumber_part.ensures.called c.renumber_part.ensures.before _
+    c.in_err-next.was
 
 pub returns-clause-called : goal.returns-clause-called
 returns-clause-called c =

@@ -9,5 +9,6 @@ use Rattle.sets.proofs.room.any_over.Goals as goal
 pub returns : goal.returns
 returns c =
     let ws = c.args.members.now in
-    any_from_yields_List (λ w. over_limit (ynd_of w)) _ _ _ c.any.ensures.ran (YieldsList-from_slice ws cc) (λ x b q h. search (rules, tests))
+    any_from_yields_List (λ w. over_limit (ynd_of w)) _ _ _ c.any.ensures.ran (YieldsList-from_slice ws cc)
+    (λ x b q h. search (rules, tests))
     ∙ any_bare ws

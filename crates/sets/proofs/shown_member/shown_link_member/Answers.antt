@@ -2,12 +2,14 @@ use Rattle.sets.proofs.MemberAskLaws.{answered, apart, asks, lent, not_asked, op
 use Rattle.sets.proofs.shown_member.shown_link_member.Goals as goal
 
 pub returns-in_err-p : goal.returns-in_err-p
-returns-in_err-p c junctions refs heights hj hh hr =
-    not_asked _ (asks c.held-lens.ensures (lent _) (lent _) (apart _ hj) (apart _ hh) (apart _ hr))
+returns-in_err-p c u =
+    not_asked _ (asks c.held-lens.ensures (lent _) (lent _) (apart _ u.junctions_lie) (apart _ u.heights_lie)
+    (apart _ u.refs_lie))
     c.open_member.ensures.value _ c.in_err-p.was c.from_residual.ensures.1
 
 pub returns : goal.returns
-returns c junctions refs heights hj hh hr =
+returns c u =
     answered _ _
-    (opens _ (asks c.held-lens.ensures (lent _) (lent _) (apart _ hj) (apart _ hh) (apart _ hr)) c.open_member.ensures.value c.in_ok-p.was)
+    (opens _ (asks c.held-lens.ensures (lent _) (lent _) (apart _ u.junctions_lie) (apart _ u.heights_lie)
+    (apart _ u.refs_lie)) c.open_member.ensures.value c.in_ok-p.was)
     (c.shown_link.ensures _ _ _)

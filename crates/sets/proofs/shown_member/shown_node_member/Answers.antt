@@ -2,12 +2,13 @@ use Rattle.sets.proofs.MemberAskLaws.{answered, apart, asks, lent, not_asked, op
 use Rattle.sets.proofs.shown_member.shown_node_member.Goals as goal
 
 pub returns-in_err-p : goal.returns-in_err-p
-returns-in_err-p c heights hh =
-    not_asked _ (asks c.held-lens.ensures (lent _) (lent _) (lent _) (apart _ hh) (lent _))
+returns-in_err-p c u =
+    not_asked _ (asks c.held-lens.ensures (lent _) (lent _) (lent _) (apart _ u.heights_lie) (lent _))
     c.open_member.ensures.value _ c.in_err-p.was c.from_residual.ensures.1
 
 pub returns : goal.returns
-returns c heights hh =
+returns c u =
     answered _ _
-    (opens _ (asks c.held-lens.ensures (lent _) (lent _) (lent _) (apart _ hh) (lent _)) c.open_member.ensures.value c.in_ok-p.was)
+    (opens _ (asks c.held-lens.ensures (lent _) (lent _) (lent _) (apart _ u.heights_lie) (lent _))
+    c.open_member.ensures.value c.in_ok-p.was)
     (c.shown_node.ensures _)

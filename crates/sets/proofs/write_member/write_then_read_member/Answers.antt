@@ -18,7 +18,8 @@ returns-in_err-r c =
     let x = c.args in
     let y = cell_set x.members.now x.nodes.now x.links.now x.junctions.now x.heights.now x.refs.now in
     let k = opens _ (all_lent {y = y} c.lengths-lens.ensures) c.open_member.ensures.value c.in_ok-p.was in
-    let h = write_read_out x.section.now k c.write_read_part.ensures.value c.in_err-r.was c.from_residual-in_err-r.ensures.1 in
+    let h = write_read_out x.section.now k c.write_read_part.ensures.value c.in_err-r.was
+    c.from_residual-in_err-r.ensures.1 in
     search (rules, h)
 
 pub returns : goal.returns

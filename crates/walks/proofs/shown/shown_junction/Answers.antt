@@ -4,4 +4,5 @@ use Rattle.walks.proofs.shown.shown_junction.Goals as goal
 
 pub returns : goal.returns
 returns c = λ ns ls hs rs.
-    junction_answered _ _ c.if-ynd-place.false (sym c.over_limit.ensures ∙ c.if-over_limit.false) c.if-junctions-ynd.false _ c.seen_junction.ensures
+    junction_answered _ _ c.if-ynd-place.false (sym c.over_limit.ensures ∙ c.if-over_limit.false)
+    c.if-junctions-ynd.false _ c.from.ensures

@@ -16,7 +16,8 @@ bounds-places-count c =
     omega (
       arith,
       room_near (distances_from s) c.args.radius c.loop-i.i _ _ c.distance_up_to.ensures c.beyond-limit.ensures
-          (length s.nodes.now) (length c.args.places.now) c.if-distance_up_to-limit.true c.loop-i-test.true c.requires.1,
+          (length s.nodes.now) (length c.args.places.now) c.if-distance_up_to-limit.true c.loop-i-test.true
+          c.requires.1,
     )
 
 pub loop-i-preserved : goal.loop-i-preserved
@@ -32,9 +33,17 @@ loop-i-preserved c =
     elim c.if-distance_up_to-limit.branch [
       | then-distance_up_to-limit w ↦
           let near = w.if-distance_up_to-limit.true in
-          let room = room_near d radius k.i _ _ r l (length s.nodes.now) (length before) near c.loop-i-test.true c.requires.1 in (
-            omega (arith, w.count-is, ap length (listed_near d radius k.i _ _ r l near), length-append (within d radius k.i) (k.i ∷ [])),
-            w.places-is ∙ filled_near d radius k.i _ _ r l before k.places k.count near k.invariant.0 (omega arith) k.invariant.1
+          let room = room_near d radius k.i _ _ r l (length s.nodes.now) (length before) near c.loop-i-test.true
+          c.requires.1 in (
+            omega (
+              arith,
+              w.count-is,
+              ap length (listed_near d radius k.i _ _ r l near),
+              length-append
+                  (within d radius k.i) (k.i ∷ []),
+            ),
+            w.places-is ∙ filled_near d radius k.i _ _ r l before k.places k.count near k.invariant.0 (omega arith)
+                k.invariant.1
                 ∙ (λ j. within d radius (k.i + 1) ++ drop (sym w.count-is j) before),
           )
       | else-distance_up_to-limit w ↦

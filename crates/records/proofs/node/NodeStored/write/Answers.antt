@@ -18,4 +18,4 @@ returns c =
     next c.write-5.ensures (next c.write-6.ensures (next c.write-7.ensures (next c.write-8.ensures (
     next c.write-9.ensures (next x (next y (next c.write-12.ensures (next c.write-13.ensures (next z (
     next c.write-15.ensures (next c.write-16.ensures (next c.write-17.ensures
-        (next c.write-18.ensures done))))))))))))))))))
+    (next c.write-18.ensures done))))))))))))))))))

@@ -13,7 +13,9 @@ returns c =
     let s = a.self.now in
     let own = c.own_entries-links in
     let nodes = c.own_entries in
-    let f = λ (links : List (List ℕ)). words_meet s.set.areas.now s.member (numbers_in (length s.nodes.now) s.nodes.now) a.i links in
-    all_from_yields_List (f own.result.now) _ _ _ c.all.ensures.ran (YieldsList-from_slice nodes.result.now cc) (λ x b q h. search (rules, tests))
+    let f = λ (links : List (List ℕ)). words_meet s.set.areas.now s.member
+    (numbers_in (length s.numbers.nodes.now) s.numbers.nodes.now) a.i links in
+    all_from_yields_List (f own.result.now) _ _ _ c.all.ensures.ran (YieldsList-from_slice nodes.result.now cc)
+    (λ x b q h. search (rules, tests))
     ∙ all_is_every (f own.result.now) nodes.result.now
     ∙ (λ j. every (f (own.ensures.value j)) (nodes.ensures.value j))

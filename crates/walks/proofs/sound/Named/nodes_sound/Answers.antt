@@ -9,6 +9,7 @@ use Rattle.walks.proofs.sound.Named.nodes_sound.Goals as goal
 pub returns : goal.returns
 returns c =
     let s = c.args.self.now in
-    let test = word_sound (all_numbers s.nodes.now) s.own c.args.links.now in
-    all_from_yields_List test _ _ c.all.result c.all.ensures.ran (YieldsList-from_slice s.nodes.now cc) (λ x b q k. search (rules, tests))
-    ∙ all_is_every test s.nodes.now
+    let test = word_sound (all_numbers s.numbers.nodes.now) s.own c.args.links.now in
+    all_from_yields_List test _ _ c.all.result c.all.ensures.ran (YieldsList-from_slice s.numbers.nodes.now cc)
+    (λ x b q k. search (rules, tests))
+    ∙ all_is_every test s.numbers.nodes.now

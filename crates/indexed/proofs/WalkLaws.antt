@@ -1,0 +1,85 @@
+-- What the call answers, by what it asks before the walk.
+use Rattle.std.proofs.Common.{◌≡◌, ℕ, ◌+◌, ◌<◌, ◌≤◌, Bool, true, false, List, [], get_or, length, take}
+use Rattle.std.proofs.Common.{◌∷◌, refl, sym, ap, ◌∙◌, arith}
+use lib.ListN.{drop}
+use lib.Seq.{length-take-le, get_or-take}
+use borrow.Author.Tests.{le-ltb, lt-leb}
+use lib.Dec.{leb, ltb}
+use Rattle.cells.proofs.Sequences.Tests.{by_test}
+use Rattle.std.specs.Prelude.{Result, Err}
+use Rattle.numbers.specs.Refusals.{Answer, done, decided}
+use Rattle.cells.specs.declared.ynd.Ynd.{Ynd}
+use Rattle.walks.specs.PlaceCauses.{place_causes}
+use Rattle.std.specs.Result.{IsErrAnd}
+use Rattle.numbers.specs.declared.refusal.Refusal.{Refusal}
+use Rattle.cells.specs.LookupCall.{node_call}
+use Rattle.cells.specs.Memory.{Memory, over_limit}
+use Rattle.cells.specs.NodeWords.{number_of}
+use Rattle.walks.specs.Walk.{walk_in}
+use Rattle.walks.specs.WalkCall.{walk_left, walk_call}
+use Rattle.walks.specs.WalkParts.{lent_world, trail_left, stored_in}
+use Rattle.walks.specs.declared.walk.Walked.{Walked}
+use Rattle.walks.proofs.PlaceCases.{refused_before}
+use Rattle.walks.proofs.WalkCases.{ends}
+use Rattle.rounds.specs.Follow.{starting_at, follow_round}
+use Rattle.indexed.specs.FollowIndexed.{follow_round_indexed}
+use Rattle.indexed.specs.FirstPlaces.{FirstPlaces, number_at, led}
+use Rattle.indexed.specs.WalkIndexed.{indexed_causes, asked, walk_indexed}
+
+-- a refusal before the scratch is asked for
+pub refused_first : (y : Ynd) (nodes links start room : ℕ) {cause : Refusal}
+    → Err cause ≡ decided (place_causes y nodes links start) → (r : Answer) → IsErrAnd r (λ x. x ≡ cause)
+    → r ≡ asked y nodes links start room
+unfolding indexed_causes place_causes
+refused_first y nodes links start room =
+    refused_before y nodes links start (drop 4 (indexed_causes y nodes links start room))
+
+module _ (m : Memory) (bs : List ℕ) (start room : ℕ) (visited : List ℕ) where
+  pub walked_then : done ≡ asked m.ynd (length m.nodes) (length m.links) start room
+      → start < m.ynd.node_count → over_limit m.ynd ≡ false
+      → m.ynd.node_count ≤ length m.nodes → m.ynd.link_count ≤ length m.links
+      → (a : Result Walked Refusal) (v : List ℕ)
+      → trail_left a v ≡ stored_in (λ q. q) (walk_in (lent_world m.ynd m.nodes m.links) bs start) visited
+      → walk_left a v ≡ walk_indexed m room bs start visited
+  unfolding walk_indexed place_causes
+  walked_then e inside within nodes links a v t =
+      let place : done ≡ decided (place_causes m.ynd (length m.nodes) (length m.links) start)
+      = rw (lt-leb _ _ inside, within, le-ltb _ _ nodes, le-ltb _ _ links) refl in
+      rw (sym e) (ends m bs start visited place a v t)
+
+-- with a scratch that is long enough the call is `walk`, refusals included
+pub as_walk : (m : Memory) (room : ℕ) (bs : List ℕ) (start : ℕ) (visited : List ℕ) → 65536 ≤ room
+    → walk_indexed m room bs start visited ≡ walk_call m bs start visited
+unfolding walk_indexed indexed_causes walk_call
+as_walk m room bs start visited h =
+    by_test (leb m.ynd.node_count start) (λ t. rw t) (λ f₀.
+    by_test (over_limit m.ynd) (λ t. rw (f₀, t)) (λ f₁.
+    by_test (ltb (length m.nodes) m.ynd.node_count) (λ t. rw (f₀, f₁, t)) (λ f₂.
+    by_test (ltb (length m.links) m.ynd.link_count) (λ t. rw (f₀, f₁, f₂, t)) (λ f₃.
+    rw (f₀, f₁, f₂, f₃, le-ltb _ _ h)))))
+
+-- with such a scratch the round is `follow_round`'s
+pub as_round : (m : Memory) (room start : ℕ) (bs visited : List ℕ) → 65536 ≤ room
+    → follow_round_indexed m room start bs visited ≡ follow_round m start bs visited
+unfolding follow_round_indexed follow_round
+as_round m room start bs visited h =
+    λ i. starting_at (node_call m.ynd m.nodes start) (λ p. as_walk m room bs p visited h i) visited
+
+-- the first n nodes are all that the scratch leads to
+pub places_front : (nodes : List (List ℕ)) (n : ℕ) → n ≤ length nodes → (s : List ℕ)
+    → FirstPlaces (take n nodes) 0 (length (take n nodes)) s → FirstPlaces nodes 0 n s
+places_front nodes n fits s h =
+    let long : length (take n nodes) ≡ n = length-take-le n nodes fits in
+    let same = λ (j : ℕ) (lt : j < n). ap number_of (get_or-take n nodes j [] lt) in
+    let led_same = λ (j : ℕ) (lt : j < n). ap (λ (k : ℕ). get_or s k 0) (same j lt) in
+    record {
+      has_it = λ j a b.
+          let le = h.not_behind j a (omega (arith, long)) in
+          let to : led nodes s j < n = omega (arith, le, led_same j b) in
+          ap (number_at nodes) (sym (led_same j b)) ∙ sym (same (led (take n nodes) s j) (omega (arith, le)))
+          ∙ h.has_it j a (omega (arith, long)) ∙ same j b;
+      not_behind = λ j a b. omega (arith, sym (led_same j b), h.not_behind j a (omega (arith, long)));
+    }
+
+-- for the function
+pub ruleset call_laws = (length-take-le, places_front)

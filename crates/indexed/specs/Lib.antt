@@ -1,0 +1,3 @@
+pub mod WalkIndexed
+pub mod FirstPlaces
+pub mod FollowIndexed
