@@ -1,16 +1,16 @@
 # The tool for people, bofrashem. Included by the repository's Makefile, at whose root these run.
 #   make tool            target/tool/bofrashem, its man page and completions (cargo, Debian's packages, the archive)
-#   make tool-test       its tests, its tests through pipes, a short run over damaged files
+#   make tool-test       its tests: cargo's, through pipes, in a browser, a short run over damaged files
 #   make tool-fuzz       damaged files for TOOL_FUZZ_SECONDS
 #   make tool-bench      how long it takes on a large yard and on many files
 #   make tool-pictures   docs/pictures, made anew by a headless Chromium
-# `make run` shows it too, where it can be built. Nothing here installs anything: what is missing is named.
+# `make run` shows it, and `make test` tries it, where it can be built. Nothing here installs anything: what is missing
+# is named.
 TOOL = tools/bofrashem
 TOOL_FUZZ_SECONDS ?= 60
 CARGO_FLAGS ?=
-TOOL_SET = $(if $(wildcard bindings/rust/src/yard.rs),--features set)
 TOOL_CARGO = cd $(TOOL) && YND_ARCHIVE=$(abspath $(YND_ARCHIVE)) cargo
-TOOL_MAKE = $(TOOL_SET) --offline --release $(CARGO_FLAGS)
+TOOL_MAKE = --offline --release $(CARGO_FLAGS)
 BOFRASHEM = target/tool/bofrashem
 
 .PHONY: tool tool-at-hand tool-test tool-fuzz tool-bench tool-pictures tool-shown
@@ -31,6 +31,7 @@ tool-test: tool
 	$(TOOL_CARGO) test -q $(TOOL_MAKE)
 	$(TOOL)/tests/pipe.sh $(BOFRASHEM) samples crates/printround/out/printround
 	$(TOOL)/tests/page.sh $(BOFRASHEM) samples
+	$(TOOL)/tests/pictures.sh $(BOFRASHEM) samples docs/pictures
 
 # An hour: make tool-fuzz TOOL_FUZZ_SECONDS=3600
 tool-fuzz: tool

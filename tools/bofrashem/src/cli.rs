@@ -1,11 +1,13 @@
 //! The command line.
+use crate::yards::{Pair, Yards};
 use clap::{Args, Parser, Subcommand, ValueEnum};
 use std::path::PathBuf;
 
 /// Look at path node yards: read, checked, walked and renumbered by proved calls.
 ///
-/// A yard is a system section, or the engine's own .ynd container (RSC7). FILE may be - for standard input, once a
-/// command. Nodes are named by place, counted from 0, as the library does; --numbers names them by number instead.
+/// A yard is a system section, or the engine's own .ynd container (RSC7), or two sections: FILE --graphics FILE2, each
+/// --graphics behind the FILE that it belongs to. FILE may be - for standard input, once a command. Nodes are named by
+/// place, counted from 0, as the library does; --numbers names them by number instead.
 ///
 /// Exit status: 0 accepted; 1 refused, unsound, different, or a file that can't be read or written; 2 a command line
 /// that can't be understood.
@@ -36,7 +38,6 @@ pub enum Command {
     Convert(Rewrite),
     Diff(Diff),
     Draw(Draw),
-    #[cfg(feature = "set")]
     Set(Set),
     Completions(Completions),
     /// The man page, on standard output
@@ -51,7 +52,7 @@ pub struct Yard {
     pub file: PathBuf,
 
     /// The graphics section, where the yard is two sections in two files
-    #[arg(long, value_name = "FILE")]
+    #[arg(long, value_name = "FILE2")]
     pub graphics: Option<PathBuf>,
 }
 
@@ -65,9 +66,8 @@ pub struct Info {
 /// One line for each file that is refused or unsound, and then exit status 1
 #[derive(Args)]
 pub struct Check {
-    /// System sections or .ynd containers
-    #[arg(value_name = "FILE", required = true)]
-    pub files: Vec<PathBuf>,
+    #[command(flatten)]
+    pub yards: Yards,
 }
 
 /// A walk from a node; each choice takes a link by its place among the node's links
@@ -218,13 +218,8 @@ pub struct Rewrite {
 /// What a walker could tell apart in two yards; exit status 1 if anything
 #[derive(Args)]
 pub struct Diff {
-    /// A system section or a .ynd container
-    #[arg(value_name = "A")]
-    pub a: PathBuf,
-
-    /// Another one
-    #[arg(value_name = "B")]
-    pub b: PathBuf,
+    #[command(flatten)]
+    pub yards: Pair,
 
     /// At most so many lines
     #[arg(long, default_value_t = 40, value_name = "LINES")]
@@ -259,12 +254,10 @@ pub struct Draw {
 }
 
 /// A set of up to nine cells: its members, whether it is sound, and walks that cross from cell to cell
-#[cfg(feature = "set")]
 #[derive(Args)]
 pub struct Set {
-    /// System sections or .ynd containers, which join in this order
-    #[arg(value_name = "FILE", required = true)]
-    pub files: Vec<PathBuf>,
+    #[command(flatten)]
+    pub yards: Yards,
 
     /// Walk from a node of a member, both counted from 0; then the choices
     #[arg(long, num_args = 2.., value_names = ["MEMBER", "PLACE", "CHOICES"])]

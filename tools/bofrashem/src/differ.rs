@@ -40,7 +40,7 @@ struct Compared {
 }
 
 pub fn diff(args: &cli::Diff, input: &mut Input, json: bool) -> Result<Told, Trouble> {
-    let (a, b) = (input.open_file(&args.a)?, input.open_file(&args.b)?);
+    let (a, b) = (input.open(&args.yards.a)?, input.open(&args.yards.b)?);
     let sound = a.cell.is_sound() && b.cell.is_sound();
     let (left, right) = (side(&a, sound)?, side(&b, sound)?);
     let by_place = left.cell.nodes().len() == right.cell.nodes().len();
@@ -237,23 +237,20 @@ fn unseen(a: &Opened, b: &Opened, (left, right): (&Side, &Side), pairs: &[(usize
     }
 }
 
+/// A difference: "place 3 | 5: street: 0 | 7".
+fn line(d: &Difference) -> String {
+    let place = |p: Option<usize>| p.map_or("-".into(), |p| format!("{p}"));
+    let names = if d.a == d.b { place(d.a) } else { format!("{} | {}", place(d.a), place(d.b)) };
+    let sides = match (d.left.is_empty(), d.right.is_empty()) {
+        (_, true) => d.left.clone(),
+        (true, _) => d.right.clone(),
+        _ => format!("{} | {}", d.left, d.right),
+    };
+    format!("place {names}: {}: {sides}\n", d.what)
+}
+
 fn text(args: &cli::Diff, Compared { found, unseen, by_place, .. }: &Compared) -> String {
-    let mut t = String::new();
-    for d in found.iter().take(args.most) {
-        let place = |p: Option<usize>| p.map_or("-".into(), |p| format!("{p}"));
-        let names = if d.a == d.b {
-            format!("place {}", place(d.a))
-        } else {
-            format!("place {} | {}", place(d.a), place(d.b))
-        };
-        let sides = match (d.left.is_empty(), d.right.is_empty()) {
-            (_, true) => d.left.clone(),
-            (true, _) => d.right.clone(),
-            _ => format!("{} | {}", d.left, d.right),
-        };
-        // a String takes every byte
-        let _ = writeln!(t, "{names}: {}: {sides}", d.what);
-    }
+    let mut t: String = found.iter().take(args.most).map(line).collect();
     if found.len() > args.most {
         let _ = writeln!(t, ".. and {} more", found.len() - args.most);
     }

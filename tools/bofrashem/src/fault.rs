@@ -10,6 +10,8 @@ use std::path::Path;
 pub enum Fault {
     /// A call refused the input.
     Refused(Refusal),
+    /// The same, and what the command knows of its place.
+    RefusedAt(Refusal, &'static str),
     /// The container could not be opened.
     Container(Bad),
     /// The system did not hand over a file.
@@ -42,7 +44,7 @@ impl Fault {
 
     fn kind(&self) -> &'static str {
         match self {
-            Fault::Refused(_) => "refused",
+            Fault::Refused(_) | Fault::RefusedAt(..) => "refused",
             Fault::Container(_) => "container",
             Fault::Unread(_) => "unread",
             Fault::Unwritten(_) => "unwritten",
@@ -55,7 +57,7 @@ impl Fault {
     /// The words, without number and place.
     fn words(&self) -> String {
         match self {
-            Fault::Refused(r) => refusal_words(*r),
+            Fault::Refused(r) | Fault::RefusedAt(r, _) => refusal_words(*r),
             Fault::Container(bad) => bad.to_string(),
             Fault::Unread(e) => format!("can't be read: {e}"),
             Fault::Unwritten(e) => format!("can't be written: {e}"),
@@ -65,7 +67,8 @@ impl Fault {
 
     pub fn text(&self) -> String {
         match self {
-            Fault::Refused(r) => refusal_text(*r),
+            Fault::Refused(r) => refusal_text(*r, place_words(*r)),
+            Fault::RefusedAt(r, at) => refusal_text(*r, Some(at.to_string())),
             Fault::Container(bad) => format!("container: {bad}"),
             other => other.words(),
         }
@@ -73,7 +76,8 @@ impl Fault {
 
     pub fn value(&self) -> Value {
         match self {
-            Fault::Refused(r) => refusal_value(*r),
+            Fault::Refused(r) => refusal_value(*r, place_words(*r)),
+            Fault::RefusedAt(r, at) => refusal_value(*r, Some(at.to_string())),
             other => json!({ "kind": other.kind(), "text": other.words() }),
         }
     }
@@ -93,6 +97,17 @@ impl Trouble {
             Some(file) => format!("bofrashem: {file}: {}", self.fault.text()),
             None => format!("bofrashem: {}", self.fault.text()),
         }
+    }
+
+    /// The file that it is about, where that is not the yard's first: its graphics section.
+    pub fn other(&self, yard: &Path) -> Option<&str> {
+        self.file.as_deref().filter(|file| *file != shown(yard))
+    }
+
+    /// The words for a line that begins with a yard's name.
+    pub fn beside(&self, yard: &Path) -> String {
+        let text = self.fault.text();
+        self.other(yard).map_or(text.clone(), |other| format!("{other}: {text}"))
     }
 
     pub fn value(&self) -> Value {
@@ -118,15 +133,15 @@ fn refusal_words(r: Refusal) -> String {
 }
 
 /// Number, place and words, and what the place is.
-fn refusal_text(r: Refusal) -> String {
-    match place_words(r) {
-        Some(place) => format!("{r} ({place})"),
+fn refusal_text(r: Refusal, at: Option<String>) -> String {
+    match at {
+        Some(at) => format!("{r} ({at})"),
         None => r.to_string(),
     }
 }
 
-fn refusal_value(r: Refusal) -> Value {
-    let (text, at) = (refusal_words(r), place_words(r));
+fn refusal_value(r: Refusal, at: Option<String>) -> Value {
+    let text = refusal_words(r);
     json!({ "kind": "refused", "number": r.number(), "place": r.place(), "text": text, "at": at })
 }
 

@@ -154,7 +154,7 @@ fn value(opened: &Opened, i: &Info) -> Value {
 enum Verdict {
     Good,
     Unsound(Option<sound::Reason>),
-    Bad(Fault),
+    Bad(Trouble),
 }
 
 impl Verdict {
@@ -163,7 +163,7 @@ impl Verdict {
             Verdict::Good => return None,
             Verdict::Unsound(Some(reason)) => format!("unsound: {reason}"),
             Verdict::Unsound(None) => "unsound".into(),
-            Verdict::Bad(fault) => fault.text(),
+            Verdict::Bad(trouble) => trouble.beside(file),
         };
         Some(format!("{}: {said}\n", shown(file)))
     }
@@ -174,8 +174,11 @@ impl Verdict {
             Verdict::Unsound(reason) => {
                 json!({ "ok": false, "kind": "unsound", "unsound_because": reason.map(|r| r.value()) })
             }
-            Verdict::Bad(fault) => {
-                let mut v = fault.value();
+            Verdict::Bad(trouble) => {
+                let mut v = trouble.fault.value();
+                if let Some(other) = trouble.other(file) {
+                    v["text"] = json!(format!("{other}: {}", v["text"].as_str().unwrap_or_default()));
+                }
                 v["ok"] = json!(false);
                 v
             }
@@ -185,12 +188,12 @@ impl Verdict {
     }
 }
 
-fn verdict(file: &Path, input: &mut Input) -> Result<Verdict, Trouble> {
-    match input.open_file(file) {
+fn verdict(yard: &cli::Yard, input: &mut Input) -> Result<Verdict, Trouble> {
+    match input.open(yard) {
         Ok(opened) if opened.cell.is_sound() => Ok(Verdict::Good),
         Ok(opened) => Ok(Verdict::Unsound(sound::reason(&opened.cell))),
         Err(trouble) if matches!(trouble.fault, Fault::Usage(_)) => Err(trouble),
-        Err(trouble) => Ok(Verdict::Bad(trouble.fault)),
+        Err(trouble) => Ok(Verdict::Bad(trouble)),
     }
 }
 
@@ -198,27 +201,27 @@ fn verdict(file: &Path, input: &mut Input) -> Result<Verdict, Trouble> {
 const MANY: usize = 20;
 
 pub fn check(args: &cli::Check, input: &mut Input, json: bool, terminal: bool) -> Result<Told, Trouble> {
-    let files = &args.files;
-    let bar = if terminal && files.len() >= MANY {
-        indicatif::ProgressBar::new(files.len() as u64)
+    let yards = &args.yards.0;
+    let bar = if terminal && yards.len() >= MANY {
+        indicatif::ProgressBar::new(yards.len() as u64)
     } else {
         indicatif::ProgressBar::hidden()
     };
     let (mut lines, mut values, mut bad) = (String::new(), Vec::new(), 0);
-    for file in files {
-        let v = verdict(file, input)?;
-        if let Some(line) = v.line(file) {
+    for yard in yards {
+        let v = verdict(yard, input)?;
+        if let Some(line) = v.line(&yard.file) {
             bad += 1;
             lines += &line;
         }
         if json {
-            values.push(v.value(file));
+            values.push(v.value(&yard.file));
         }
         bar.inc(1);
     }
     bar.finish_and_clear();
-    let told = Told::either(json, lines, json!({ "checked": files.len(), "bad": bad, "files": values }));
+    let told = Told::either(json, lines, json!({ "checked": yards.len(), "bad": bad, "files": values }));
     let told =
-        if terminal { told.note(format!("{} files, {bad} refused or unsound", files.len())) } else { told };
+        if terminal { told.note(format!("{} yards, {bad} refused or unsound", yards.len())) } else { told };
     Ok(told.status((bad > 0) as i32))
 }

@@ -85,10 +85,6 @@ impl<'a> Input<'a> {
         sections.read()
     }
 
-    pub fn open_file(&mut self, file: &Path) -> Result<Opened, Trouble> {
-        self.sections(file, None)?.read()
-    }
-
     /// A round file of either version, and its bytes.
     pub fn round(&mut self, file: &Path) -> Result<(VersionedRound, Vec<u8>), Trouble> {
         let bytes = self.bytes(file, ROUND_MOST)?;

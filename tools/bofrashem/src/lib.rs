@@ -13,10 +13,10 @@ mod nodes;
 mod print;
 mod rewrite;
 mod rounds;
-#[cfg(feature = "set")]
 mod sets;
 mod sound;
 mod walks;
+mod yards;
 
 use clap::{CommandFactory, Parser};
 use cli::{Cli, Command};
@@ -67,7 +67,7 @@ impl Told {
 
 /// Runs the program on the process's own arguments and streams.
 pub fn main() -> i32 {
-    let terminal = io::stderr().is_terminal();
+    let terminal = io::stderr().is_terminal() && std::env::var_os("TERM").is_none_or(|term| term != "dumb");
     // standard error is not locked here: a progress bar writes to it
     let ended = answer(std::env::args_os(), &mut io::stdin().lock(), terminal);
     say(ended, &mut io::stdout().lock(), &mut io::stderr().lock())
@@ -94,8 +94,12 @@ where
     I: IntoIterator<Item = T>,
     T: Into<OsString> + Clone,
 {
-    let cli = match Cli::try_parse_from(args) {
+    let args: Vec<OsString> = args.into_iter().map(Into::into).collect();
+    let cli = match Cli::try_parse_from(&args) {
         Ok(cli) => cli,
+        Err(e) if e.use_stderr() && wants_json(&args) => {
+            return Ended::Trouble(Fault::Usage(usage_words(&e)).plain(), true)
+        }
         Err(e) => return Ended::Clap(e),
     };
     match command(&cli, &mut Input::new(input), terminal) {
@@ -104,6 +108,19 @@ where
         Ok(told) => Ended::Told(told),
         Err(trouble) => Ended::Trouble(trouble, cli.json),
     }
+}
+
+/// Whether a command line that can't be understood asks for JSON all the same.
+fn wants_json(args: &[OsString]) -> bool {
+    args.iter().take_while(|word| *word != "--").any(|word| word == "--json")
+}
+
+/// What clap says is wrong, in one line, without its hints.
+fn usage_words(e: &clap::Error) -> String {
+    let said = e.to_string();
+    let words = said.split("\n\n").next().unwrap_or_default();
+    let lines: Vec<&str> = words.lines().map(str::trim).collect();
+    lines.join(" ").trim_start_matches("error: ").to_string()
 }
 
 fn command(cli: &Cli, input: &mut Input, terminal: bool) -> Result<Told, Trouble> {
@@ -122,7 +139,6 @@ fn command(cli: &Cli, input: &mut Input, terminal: bool) -> Result<Told, Trouble
         Command::Convert(args) => rewrite::convert(args, input, json),
         Command::Diff(args) => differ::diff(args, input, json),
         Command::Draw(args) => draw::draw(args, input, json),
-        #[cfg(feature = "set")]
         Command::Set(args) => sets::set(args, input, json),
         Command::Completions(args) => Ok(Told::bytes(completions(args.shell))),
         Command::Man => Ok(Told::bytes(man::page(Cli::command()).into_bytes())),

@@ -1,4 +1,5 @@
 //! What is shown of a node, in words and in JSON.
+use crate::sound::is_own;
 use bofrashem::{numbers, Cell, End, Link, Node, Walk};
 use serde_json::{json, Value};
 use std::collections::HashMap;
@@ -104,8 +105,18 @@ pub enum Target {
 /// Where links lead, by a walk of one choice; asked once for each area and number, since nothing else decides it.
 pub struct Targets<'a> {
     cell: &'a Cell,
-    renumbered: Option<Renumbered>,
+    found: Found,
     known: HashMap<(u16, u16), Target>,
+}
+
+/// How the node of a number is found.
+enum Found {
+    /// By a walk in the yard itself, where numbers are places.
+    ByWalk,
+    /// By a walk in a renumbered copy, in a sound yard.
+    InCopy(Renumbered),
+    /// Among the places of all numbers, in a yard that isn't sound: by the tool itself.
+    ByIndex(HashMap<u16, usize>),
 }
 
 /// A renumbered copy: nodes' new places by their old ones, and the other way round.
@@ -120,21 +131,47 @@ impl<'a> Targets<'a> {
     /// numbers are places, leads to the same nodes (demand 3).
     pub fn new(cell: &'a Cell) -> Targets<'a> {
         let in_order = cell.nodes().iter().enumerate().all(|(place, n)| n.node_id as usize == place);
-        let renumbered = if in_order || !cell.is_sound() { None } else { renumbered(cell) };
-        Targets { cell, renumbered, known: HashMap::new() }
+        let found = match renumbered(cell) {
+            _ if in_order => Found::ByWalk,
+            Some(copy) if cell.is_sound() => Found::InCopy(copy),
+            _ => Found::ByIndex(index(cell)),
+        };
+        Targets { cell, found, known: HashMap::new() }
     }
 
     /// Link k, which is this one, of the node at a place.
     pub fn of(&mut self, place: usize, k: usize, link: &Link) -> Target {
-        let (cell, renumbered) = (self.cell, &self.renumbered);
-        *self.known.entry((link.area_id, link.node_id)).or_insert_with(|| match renumbered {
-            None => led(cell, place, k),
-            Some(r) => match led(&r.cell, r.new[place] as usize, k) {
+        let (cell, found) = (self.cell, &self.found);
+        *self.known.entry((link.area_id, link.node_id)).or_insert_with(|| match found {
+            Found::ByWalk => led(cell, place, k),
+            Found::InCopy(r) => match led(&r.cell, r.new[place] as usize, k) {
                 Target::Node(to) => Target::Node(r.old[to]),
                 other => other,
             },
+            Found::ByIndex(index) => looked_up(cell, index, link),
         })
     }
+}
+
+/// The place of each number: the place that equals it, if that node has it, else the first that has it.
+fn index(cell: &Cell) -> HashMap<u16, usize> {
+    let mut index = HashMap::new();
+    for (place, n) in cell.nodes().iter().enumerate() {
+        if n.node_id as usize == place {
+            index.insert(n.node_id, place);
+        } else {
+            index.entry(n.node_id).or_insert(place);
+        }
+    }
+    index
+}
+
+/// Where a link leads, by the index.
+fn looked_up(cell: &Cell, index: &HashMap<u16, usize>, link: &Link) -> Target {
+    if !cell.nodes().first().is_some_and(|n| is_own(n.area_id, link.area_id)) {
+        return Target::Out(link.area_id, link.node_id);
+    }
+    index.get(&link.node_id).map_or(Target::NoNode, |&to| Target::Node(to))
 }
 
 fn renumbered(cell: &Cell) -> Option<Renumbered> {
@@ -176,11 +213,47 @@ mod tests {
         }
         assert!(cell.is_sound());
         let mut targets = Targets::new(&cell);
-        assert!(targets.renumbered.is_some());
+        assert!(matches!(targets.found, Found::InCopy(_)));
         for p in 0..200 {
             for (k, link) in cell.links_of(p).unwrap().iter().enumerate() {
                 assert_eq!(targets.of(p, k, link), led(&cell, p, k));
             }
         }
+    }
+
+    /// Small cells of every kind, unsound ones too: the index finds what a walk finds.
+    #[test]
+    fn the_index_leads_where_walks_lead() {
+        let mut seed = 5u32;
+        let mut below = |n: u32| {
+            seed = seed.wrapping_mul(1_664_525).wrapping_add(1_013_904_223);
+            ((seed >> 16) % n) as usize
+        };
+        let mut kinds = [0; 3];
+        for _ in 0..20_000 {
+            let own = [5, 1029, 0][below(3)];
+            let areas = [own, own, own & !1024, own | 1024, 6];
+            let (mut cell, n) = (Cell::new(), 1 + below(5));
+            for p in 0..n {
+                cell.add_node(areas[below(5)], [0.0; 3]).unwrap();
+                let mut node = cell.nodes()[p];
+                node.node_id = below(6) as u16;
+                cell.put_node(p, node).unwrap();
+            }
+            for p in 0..n {
+                cell.add_link(p, Link::to(areas[below(5)], below(6) as u16)).unwrap();
+            }
+            let index = index(&cell);
+            for p in 0..n {
+                let walked = led(&cell, p, 0);
+                assert_eq!(looked_up(&cell, &index, &cell.links_of(p).unwrap()[0]), walked, "{cell:?}");
+                kinds[match walked {
+                    Target::Node(_) => 0,
+                    Target::Out(..) => 1,
+                    Target::NoNode => 2,
+                }] += 1;
+            }
+        }
+        assert!(kinds.iter().all(|k| *k > 5_000), "{kinds:?}");
     }
 }

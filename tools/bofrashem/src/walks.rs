@@ -74,6 +74,10 @@ fn text(cell: &Cell, walk: &Walk, choices: &[u8]) -> String {
     t
 }
 
+pub fn link_value(l: &Link) -> Value {
+    json!({ "area": l.area_id, "node": l.node_id, "flags": l.flags, "length": l.length })
+}
+
 pub fn value(cell: &Cell, walk: &Walk, choices: &[u8]) -> Value {
     let visited: Vec<Value> = walk
         .visited
@@ -83,9 +87,7 @@ pub fn value(cell: &Cell, walk: &Walk, choices: &[u8]) -> Value {
             let mut v = nodes::value(cell, place as usize);
             v["step"] = json!(k);
             v["choice"] = json!(choices.get(k));
-            v["link"] = json!(chosen(cell, place, choices, k).map(|l| {
-                json!({ "area": l.area_id, "node": l.node_id, "flags": l.flags, "length": l.length })
-            }));
+            v["link"] = json!(chosen(cell, place, choices, k).map(|l| link_value(&l)));
             v
         })
         .collect();

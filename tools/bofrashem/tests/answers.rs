@@ -1,6 +1,6 @@
 //! What the commands answer on good input.
 mod common;
-use common::{mixed, root, run, run_with, sample, Folder};
+use common::{mixed, root, run, run_with, sample, split, Folder};
 use serde_json::Value;
 
 #[test]
@@ -53,17 +53,50 @@ fn a_yard_not_drawn_yet() {
 #[test]
 fn two_sections() {
     let folder = Folder::new();
-    let bytes = std::fs::read(sample("dock.section")).unwrap();
-    // the nodes in the graphics section: their address, and their 13 records
-    let at = u64::from_le_bytes(bytes[16..24].try_into().unwrap());
-    let nodes = (at - 0x5000_0000) as usize;
-    let mut system = bytes[..nodes].to_vec();
-    system[16..24].copy_from_slice(&0x6000_0000u64.to_le_bytes());
-    let (system, graphics) = (folder.file("s", &system), folder.file("g", &bytes[nodes..nodes + 13 * 40]));
+    let (system, graphics) = split(&std::fs::read(sample("dock.section")).unwrap());
+    let (system, graphics) = (folder.file("s", &system), folder.file("g", &graphics));
     let v = run(&["info", "--json", &system, "--graphics", &graphics]).json();
     assert_eq!((v["nodes"].as_u64(), v["sound"].as_bool()), (Some(13), Some(true)));
     let alone = run(&["info", &system]);
     assert_eq!((alone.status, alone.err.contains("refused 3 0")), (1, true));
+}
+
+/// Each --graphics belongs to the file before it.
+#[test]
+fn two_sections_of_several_yards() {
+    let folder = Folder::new();
+    let (dock, hall) = (sample("dock.section"), sample("hall.section"));
+    let two = |name: &str, from: &str| {
+        let (system, graphics) = split(&std::fs::read(from).unwrap());
+        (folder.file(name, &system), folder.file(&format!("{name}.g"), &graphics))
+    };
+    let ((d, dg), (h, hg)) = (two("d", &dock), two("h", &hall));
+    let (d, dg, h, hg) = (d.as_str(), dg.as_str(), h.as_str(), hg.as_str());
+    assert_eq!(run(&["check", d, "--graphics", dg, &hall, h, "--graphics", hg]).status, 0);
+    let said = run(&["check", &hall, d, h, "--graphics", hg]);
+    assert_eq!((said.status, said.text().starts_with(&format!("{d}: refused 3 0"))), (1, true));
+    let missing = folder.path("none");
+    let said = run(&["check", d, "--graphics", &missing]);
+    assert!(said.text().starts_with(&format!("{d}: {missing}: can't be read")), "{}", said.text());
+    let v = run(&["check", "--json", d, "--graphics", &missing]).json();
+    assert!(v["files"][0]["text"].as_str().unwrap().starts_with(&missing) && v["files"][0]["file"] == d);
+
+    assert_eq!(run(&["diff", d, "--graphics", dg, &dock]).status, 0);
+    assert_eq!(run(&["diff", &dock, d, "--graphics", dg]).status, 0);
+    assert_eq!(run(&["diff", d, "--graphics", dg, h, "--graphics", hg]).status, 1);
+    assert!(run(&["diff", d, &dock, "--graphics", dg]).err.contains("refused 3 0"));
+    let piped = run_with(&std::fs::read(dg).unwrap(), &["diff", d, "--graphics", "-", &dock]);
+    assert_eq!((piped.status, piped.text().starts_with("no walker")), (0, true));
+    for wrong in [
+        vec!["check", "--graphics", dg, d],
+        vec!["check", d, "--graphics", dg, "--graphics", hg],
+        vec!["diff", "--graphics", dg, d, &dock],
+        vec!["diff", d, "--graphics", dg],
+        vec!["info", d, "--graphics", dg, "--graphics", hg],
+    ] {
+        let said = run(&wrong);
+        assert_eq!((said.status, said.out.len(), said.err.contains("--help")), (2, 0, true), "{wrong:?}");
+    }
 }
 
 #[test]
@@ -228,6 +261,27 @@ fn help_for_each_command_and_the_man_page() {
     assert_eq!(run(&[]).status, 2);
     assert_eq!(run(&["walk"]).status, 2);
     assert_eq!(run(&["nothing"]).status, 2);
+}
+
+/// Errors of the command line too are JSON where that is asked for.
+#[test]
+fn slips_in_json() {
+    let slips: [(&[&str], &str); 5] = [
+        (&["round", "--json"], "requires a subcommand"),
+        (&["--json", "fly"], "fly"),
+        (&["walk", "--json"], "<FILE> <START>"),
+        (&["walk", "x", "y", "--json"], "'y'"),
+        (&["check", "--graphics", "x", "y", "--json"], "--graphics stands behind the file"),
+    ];
+    for (words, part) in slips {
+        let said = run(words);
+        let v: Value = serde_json::from_str(&said.err).unwrap();
+        let text = v["error"]["text"].as_str().unwrap();
+        assert_eq!((said.status, said.out.len(), v["error"]["kind"].as_str()), (2, 0, Some("usage")));
+        assert!(text.contains(part) && !text.contains('\n'), "{text}");
+    }
+    // behind -- it is a file's name
+    assert!(run(&["info", "--", "--json", "x"]).err.starts_with("error: "));
 }
 
 /// Every name in an answer, whatever it is in.

@@ -1,7 +1,7 @@
 //! The container RSC7: read as the Rust reads it, written with one page.
 mod common;
 use bofrashem_tool::container::{close, open, section_size, Bad};
-use common::{run, run_with, sample, Folder};
+use common::{run, run_with, sample, split, with_graphics, Folder};
 use flate2::write::DeflateEncoder;
 use flate2::Compression;
 use std::io::Write;
@@ -73,6 +73,19 @@ fn stored_bodies_and_graphics_pages() {
     let mut file = header(1, pages(2), 0);
     file.extend(&system[..1023]);
     assert_eq!(open(&file).err(), Some(Bad::Truncated { got: 1023, want: 1024 }));
+}
+
+/// A yard whose nodes lie in graphics pages.
+#[test]
+fn a_yard_over_both_sections() {
+    let dock = std::fs::read(sample("dock.section")).unwrap();
+    let (system, graphics) = split(&dock);
+    let folder = Folder::new();
+    let file = folder.file("dock.ynd", &with_graphics(&system, &graphics));
+    let v = run(&["info", &file, "--json"]).json();
+    assert_eq!((v["system_bytes"].as_u64(), v["graphics_bytes"].as_u64()), (Some(8192), Some(8192)));
+    assert_eq!(run(&["diff", &file, &sample("dock.section")]).status, 0);
+    assert_eq!(run(&["check", &file, "--graphics", &file]).status, 2);
 }
 
 #[test]

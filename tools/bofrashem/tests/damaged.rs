@@ -1,40 +1,75 @@
 //! Input that is no yard, and yards that are damaged: every answer is an answer or a refusal in words, and nothing
 //! panics. BOFRASHEM_FUZZ_SECONDS and BOFRASHEM_FUZZ_SEED say how long and from where.
 mod common;
-use bofrashem_tool::container::close;
-use common::{mixed, rows, run, run_with, sample, Folder, Random};
+use bofrashem::{Round, VersionedRound};
+use bofrashem_tool::container::{close, is_container};
+use common::{mixed, rows, run, run_with, sample, split, with_graphics, Folder, Random};
 use std::time::{Duration, Instant};
 
-fn commands(file: &str, folder: &Folder) -> Vec<Vec<String>> {
-    let words = |line: &str| line.split(' ').map(String::from).collect::<Vec<_>>();
-    let (svg, html, out) = (folder.path("o.svg"), folder.path("o.html"), folder.path("o"));
-    vec![
-        words(&format!("info {file}")),
-        words(&format!("info --json {file}")),
-        words(&format!("check {file}")),
-        words(&format!("walk {file} 0 0 0 1 255 0")),
-        words(&format!("near {file} 0 0 300")),
-        words(&format!("way {file} 0 3")),
-        words(&format!("renumber {file} {out}")),
-        words(&format!("convert {file} {out}.ynd")),
-        words(&format!("diff {file} {file}")),
-        words(&format!("draw {file} -o {svg} --near 0 0 100")),
-        words(&format!("draw {file} -o {html} --way 0 1")),
-    ]
+/// A yard's bytes, those of its graphics section, if it has one of its own, and a round file's.
+#[derive(Clone)]
+struct Files {
+    yard: Vec<u8>,
+    graphics: Option<Vec<u8>>,
+    round: Vec<u8>,
 }
 
-/// Status 0 or 1, and words where it is 1.
-fn all_answer(bytes: &[u8], folder: &Folder) {
-    let file = folder.file("yard", bytes);
-    for line in commands(&file, folder) {
-        let words: Vec<&str> = line.iter().map(String::as_str).collect();
-        let said = run(&words);
+impl Files {
+    fn yard(yard: &[u8]) -> Files {
+        Files { yard: yard.to_vec(), graphics: None, round: std::fs::read(sample("hall.round")).unwrap() }
+    }
+}
+
+/// Command lines; "FILE" stands for the yard, with its graphics section if it has one.
+const COMMANDS: [&str; 20] = [
+    "info FILE",
+    "info --json FILE",
+    "check FILE",
+    "check FILE FILE",
+    "walk FILE 0 0 0 1 255 0",
+    "near FILE 0 0 300",
+    "way FILE 0 3",
+    "round show ROUND",
+    "round follow FILE ROUND",
+    "print FILE ROUND",
+    "print --large --json FILE ROUND",
+    "renumber FILE OUT",
+    "convert FILE OUT.ynd",
+    "diff FILE FILE",
+    "set FILE",
+    "set FILE --walk 0 0 0 1 2",
+    "draw FILE -o OUT.svg --near 0 0 100",
+    "draw FILE -o OUT.svg --round ROUND",
+    "draw FILE -o OUT.html --way 0 1 --round ROUND",
+    "draw FILE -o OUT.html --json",
+];
+
+/// Status 0 or 1, and words where it is 1. Whether the yard is read.
+fn all_answer(files: &Files, folder: &Folder) -> bool {
+    let mut yard = vec![folder.file("yard", &files.yard)];
+    if let Some(graphics) = &files.graphics {
+        yard.extend(["--graphics".into(), folder.file("graphics", graphics)]);
+    }
+    let (round, out) = (folder.file("round", &files.round), folder.path("o"));
+    let answer = |line: &str| {
+        let word = |w: &str| match w {
+            "FILE" => yard.clone(),
+            "ROUND" => vec![round.clone()],
+            w => vec![w.replace("OUT", &out)],
+        };
+        let words: Vec<String> = line.split(' ').flat_map(word).collect();
+        let said = run(&words.iter().map(String::as_str).collect::<Vec<_>>());
         let in_words = !said.err.is_empty() || !said.out.is_empty();
-        assert!(said.status == 0 || (said.status == 1 && in_words), "{line:?}: {} {}", said.status, said.err);
+        assert!(said.status == 0 || (said.status == 1 && in_words), "{line}: {} {}", said.status, said.err);
+        said.status
+    };
+    for line in COMMANDS {
+        answer(line);
     }
     // a yard is the same to itself, if it is read
-    let read = run(&["info", &file]).status == 0;
-    assert!(!read || run(&["diff", &file, &file]).status == 0);
+    let read = answer("info FILE") == 0;
+    assert!(!read || answer("diff FILE FILE") == 0);
+    read
 }
 
 #[test]
@@ -70,7 +105,7 @@ fn every_truncation_of_the_dock() {
     let folder = Folder::new();
     let dock = std::fs::read(sample("dock.section")).unwrap();
     for n in (0..dock.len()).step_by(7) {
-        all_answer(&dock[..n], &folder);
+        all_answer(&Files::yard(&dock[..n]), &folder);
     }
 }
 
@@ -109,27 +144,56 @@ fn damage(bytes: &mut Vec<u8>, random: &mut Random) {
     }
 }
 
+/// Sections, containers, yards of two sections; containers with graphics pages; the hall's round, and a long one.
+fn seeds() -> Vec<Files> {
+    let read = |name: &str| std::fs::read(sample(name)).unwrap();
+    let sections =
+        [read("dock.section"), read("hall.section"), mixed().write().unwrap(), rows(300).write().unwrap()];
+    let mut seeds = Vec::new();
+    for section in &sections {
+        let (system, graphics) = split(section);
+        seeds.push(Files::yard(section));
+        seeds.push(Files::yard(&close(section)));
+        seeds.push(Files::yard(&with_graphics(&system, &graphics)));
+        seeds.push(Files { graphics: Some(graphics), ..Files::yard(&system) });
+    }
+    let round = VersionedRound { area: Some(528), round: Round { start: 0, choices: vec![0; 900] } };
+    let round = round.to_bytes().unwrap();
+    let last = seeds[12..].iter().cloned();
+    let others: Vec<Files> = last.map(|files| Files { round: round.clone(), ..files }).collect();
+    seeds.extend(others);
+    seeds
+}
+
+/// One of the files changed, and sometimes another.
+fn damaged(mut files: Files, random: &mut Random) -> Files {
+    for _ in 0..1 + random.below(2) {
+        match (random.below(6), &mut files.graphics) {
+            (0, _) => damage(&mut files.round, random),
+            (1 | 2, Some(graphics)) => damage(graphics, random),
+            _ => damage(&mut files.yard, random),
+        }
+    }
+    // a container has its own graphics section, and --graphics beside it is a slip of the command line
+    if is_container(&files.yard) {
+        files.graphics = None;
+    }
+    files
+}
+
 #[test]
 fn damaged_yards_and_containers() {
     let number = |name: &str, or: u64| std::env::var(name).ok().and_then(|v| v.parse().ok()).unwrap_or(or);
     let (seconds, seed) = (number("BOFRASHEM_FUZZ_SECONDS", 5), number("BOFRASHEM_FUZZ_SEED", 34));
-    let read = |name: &str| std::fs::read(sample(name)).unwrap();
-    let mut seeds = vec![
-        read("dock.section"),
-        read("hall.section"),
-        mixed().write().unwrap(),
-        rows(300).write().unwrap(),
-    ];
-    seeds.extend(seeds.clone().iter().map(|s| close(s)));
-    let (folder, mut random, start, mut tried) = (Folder::new(), Random(seed), Instant::now(), 0);
+    let (seeds, folder, mut random) = (seeds(), Folder::new(), Random(seed));
+    let (start, mut tried, mut read) = (Instant::now(), 0u64, 0u64);
     while start.elapsed() < Duration::from_secs(seconds) {
-        let mut bytes = seeds[random.below(seeds.len())].clone();
-        damage(&mut bytes, &mut random);
-        all_answer(&bytes, &folder);
+        let files = damaged(seeds[random.below(seeds.len())].clone(), &mut random);
+        read += all_answer(&files, &folder) as u64;
         tried += 1;
     }
     println!(
-        "{tried} damaged files in {seconds} s from seed {seed}, {} commands each",
-        commands("", &folder).len()
+        "{tried} damaged files in {seconds} s from seed {seed}, {read} of them still read, {} commands each",
+        COMMANDS.len()
     );
 }

@@ -39,22 +39,40 @@ fn well_formed(svg: &str) {
     }
 }
 
+/// The kept pictures as pictures.txt says them: the sample's name and the words of draw.
+fn kept(folder: &Folder) -> Vec<(String, Vec<String>)> {
+    let short = folder.path("yard.round");
+    run(&["way", &sample("yard.section"), "120", "2877", "--round", &short]);
+    let list = std::fs::read_to_string(root().join("tools/bofrashem/pictures.txt")).unwrap();
+    let word = |w: &str| match w {
+        "yard.round" => short.clone(),
+        w if w.ends_with(".round") => sample(w),
+        w => w.to_string(),
+    };
+    let lines = list.lines().filter(|line| !line.starts_with('#')).map(|line| {
+        let words: Vec<&str> = line.split(' ').collect();
+        (words[0].to_string(), words[3..].iter().map(|w| word(w)).collect())
+    });
+    lines.collect()
+}
+
 #[test]
-fn the_samples_have_all_that_they_hold() {
+fn the_kept_pictures_have_all_that_the_samples_hold() {
     let folder = Folder::new();
-    for (name, nodes, lines, links, round, steps) in [
-        ("dock", 13, 11, 22, Some("dock.round"), 5),
-        ("hall", 18, 21, 42, Some("hall.round"), 8),
-        ("yard", 5000, 9850, 19700, None, 0),
-    ] {
+    let pictures = kept(&folder);
+    assert_eq!(pictures.len(), 3);
+    for (name, words) in pictures {
+        let (nodes, lines, links, steps, way) = match name.as_str() {
+            "dock" => (13, 11, 22, 5, 8),
+            "hall" => (18, 21, 42, 8, 8),
+            _ => (5000, 9850, 19700, 85, 149),
+        };
         let (yard, out) = (sample(&format!("{name}.section")), folder.path(&format!("{name}.svg")));
-        let file = round.map(sample);
-        let mut words = vec!["draw", &yard, "-o", &out, "--json", "--way", "0", "4"];
-        if let Some(file) = &file {
-            words.extend(["--round", file]);
-        }
-        let v = run(&words).json();
-        assert_eq!((v["nodes"].as_u64(), v["links"].as_u64()), (Some(nodes as u64), Some(links as u64)));
+        let mut all = vec!["draw", &yard, "-o", &out, "--json"];
+        all.extend(words.iter().map(String::as_str));
+        let v = run(&all).json();
+        let said = ["nodes", "links", "steps", "way"].map(|k| v[k].as_u64().unwrap() as usize);
+        assert_eq!(said, [nodes, links, steps, way]);
         let svg = std::fs::read_to_string(&out).unwrap();
         well_formed(&svg);
         assert_eq!((counted(&svg, "nodes", "data-count"), strokes(&svg, "node ")), (nodes, nodes));
@@ -63,14 +81,33 @@ fn the_samples_have_all_that_they_hold() {
             (links, lines)
         );
         assert_eq!(strokes(&svg, "link"), lines);
-        if steps > 0 {
-            assert_eq!(
-                (counted(&svg, "round", "data-steps"), strokes(&svg, "track round")),
-                (steps, steps - 1)
-            );
-        }
-        assert_eq!((counted(&svg, "way", "data-steps"), strokes(&svg, "track way")), (5, 4));
+        assert_eq!((counted(&svg, "round", "data-steps"), strokes(&svg, "track round")), (steps, steps - 1));
+        assert_eq!((counted(&svg, "way", "data-steps"), strokes(&svg, "track way")), (way, way - 1));
     }
+}
+
+/// What a round walks again is drawn once, so that a long one over a small yard is no large picture.
+#[test]
+fn a_long_round_is_a_small_picture() {
+    let folder = Folder::new();
+    let (round, out) = (folder.path("r"), folder.path("a.svg"));
+    let choices = vec!["0"; 65_535];
+    let words = [&["round", "make", "0", "-o", &round], &choices[..]].concat();
+    assert_eq!(run(&words).status, 0);
+    let said = run(&["draw", &sample("hall.section"), "--round", &round, "-o", &out, "--json"]);
+    assert_eq!(said.json()["steps"].as_u64(), Some(65_536));
+    let svg = std::fs::read_to_string(&out).unwrap();
+    assert!(svg.len() < 40_000 && strokes(&svg, "track round") < 43, "{}", svg.len());
+}
+
+#[test]
+fn another_ending_is_a_slip() {
+    let folder = Folder::new();
+    let yard = folder.file("yard.section", &std::fs::read(sample("dock.section")).unwrap());
+    let said = run(&["draw", &yard, "-o", &yard]);
+    assert_eq!((said.status, said.err.contains("ends in .svg, .html, .png or .pdf")), (2, true));
+    assert!(std::fs::read(&yard).unwrap() == std::fs::read(sample("dock.section")).unwrap());
+    assert_eq!(run(&["draw", &yard, "-o", &folder.path("picture")]).status, 0);
 }
 
 #[test]

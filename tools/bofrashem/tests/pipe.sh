@@ -31,6 +31,17 @@ is 'a reader that goes away' '0 ' "${PIPESTATUS[0]} $(cat "$folder/err")"
 is 'a full disk' 1 $?
 has 'a full disk, in words' "can't be written" "$(cat "$folder/err")"
 
+for words in --help man 'completions zsh' "info $samples/dock.section" "--json near $samples/yard.section 0 0 900"; do
+    # shellcheck disable=SC2086
+    "$tool" $words 2>"$folder/err" | head -c 1 >/dev/null
+    is "a reader that goes away from $words" '0 ' "${PIPESTATUS[0]} $(cat "$folder/err")"
+done
+"$tool" info "$samples/dock.section" >&-
+is 'standard output closed' 0 $?
+"$tool" info "$folder/none" 2>&-
+is 'standard error closed' 1 $?
+is 'standard input closed' 0 "$("$tool" info - <&- >/dev/null; echo $?)"
+
 # exit status and words
 status() { "$@" >"$folder/out" 2>"$folder/err"; echo $?; }
 is 'accepted' 0 "$(status "$tool" info "$samples/dock.section")"
@@ -78,6 +89,27 @@ many=("$name")
 for _ in $(seq 40); do many+=("$samples/dock.section"); done
 is 'many files' 0 "$(status "$tool" check "${many[@]}")"
 is 'many files say nothing' 0 "$(cat "$folder/out" "$folder/err" | wc -c)"
+# a long list, in one command and by xargs
+ln -s "$(realpath "$samples/dock.section")" "$folder/d"
+for _ in $(seq 8000); do echo "$folder/d"; done >"$folder/list"
+mapfile -t long <"$folder/list"
+is 'a long list' 0 "$(status "$tool" check "${long[@]}")"
+is 'a list by xargs' 0 "$(xargs -n 3000 "$tool" check <"$folder/list"; echo $?)"
+
+# on a terminal: a bar and a count, and neither where the terminal can't move its cursor; colours nowhere
+on() { script -qec "$1" /dev/null </dev/null; }
+if command -v script >/dev/null && [ "$(on 'echo x' | tr -d '\r')" = x ]; then
+    line="'$tool' check \$(cat '$folder/list')"
+    said=$(TERM=xterm on "$line")
+    has 'a terminal' '8000 yards, 0 refused or unsound' "$said"
+    has 'a bar' '/8000' "$said"
+    is 'a dumb terminal' '' "$(TERM=dumb on "$line")"
+    for words in --help 'info --help' fly check; do
+        is "no colours in $words" 0 "$(TERM=xterm on "'$tool' $words" | grep -c $'\e')"
+    done
+else
+    echo 'no terminal tried: script (bsdutils) is missing or has none to give'
+fi
 
 # one A4 page, if what draws it is there; words if not
 pdf=("$tool" print "$samples/hall.section" "$samples/hall.round" --pdf "$folder/hall.pdf")

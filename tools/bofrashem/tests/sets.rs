@@ -1,8 +1,7 @@
 //! Sets of cells: walks that cross.
-#![cfg(feature = "set")]
 mod common;
 use bofrashem::{Cell, Link};
-use common::{run, Folder};
+use common::{run, split, Folder};
 
 /// A cell of two nodes, linked to each other, whose second also leads to node `to.1` of area `to.0`.
 fn cell(area: u16, to: (u16, u16)) -> Vec<u8> {
@@ -32,6 +31,27 @@ fn a_walk_crosses_and_leaves() {
     );
     // alone, the cell is left
     assert!(run(&["walk", &a, "0", "0", "1"]).text().contains("end left 2 0"));
+}
+
+#[test]
+fn members_of_two_sections() {
+    let folder = Folder::new();
+    let (a, b) = (cell(1, (2, 0)), cell(2, (3, 9)));
+    let ((s, g), (t, h)) = (split(&a), split(&b));
+    let (s, g, t, h) =
+        (folder.file("s", &s), folder.file("g", &g), folder.file("t", &t), folder.file("h", &h));
+    let (one, both) = (["--json", "set", &s, "--graphics", &g], [&t, "--graphics", &h]);
+    let v = run(&[&one[..], &both[..]].concat()).json();
+    assert_eq!(
+        (v["nodes"].as_u64(), v["sound"].as_bool(), v["members"][1]["file"] == t),
+        (Some(4), Some(true), true)
+    );
+    let v = run(&[&one[..], &both[..], &["--walk", "0", "0", "0", "1", "0"]].concat()).json();
+    assert_eq!(v["visited"][2]["member"].as_u64(), Some(1));
+    // the walk may stand before them
+    let words = [&["set", "--walk", "0", "0", "0", "--graphics"][..], &[&g, &s]].concat();
+    assert_eq!(run(&words).status, 2);
+    assert!(run(&["set", &s, &t, "--graphics", &h]).err.contains("refused 3 0"));
 }
 
 #[test]

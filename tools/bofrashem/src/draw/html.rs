@@ -6,6 +6,7 @@ use super::xml::{put, Write, STYLE};
 use crate::nodes::{self, Target, Targets};
 use bofrashem::{Cell, Node};
 use serde_json::{json, Value};
+use std::collections::HashSet;
 
 pub fn page(scene: &Scene, cell: &Cell) -> String {
     let (inside, height) = svg::inside(scene);
@@ -39,6 +40,7 @@ fn track_value(name: &str, t: &Track) -> Value {
 /// junction, unused fields, links. A row a link: area, number, place or less than 0, length, flags.
 fn rows(cell: &Cell) -> String {
     let (mut targets, mut out) = (Targets::new(cell), String::from("["));
+    let named: HashSet<u16> = cell.refs().iter().map(|r| r.node_id).collect();
     for (place, n) in cell.nodes().iter().enumerate() {
         let comma = if place > 0 { "," } else { "" };
         let (steps, special) = (nodes::steps(n), json!(nodes::special(n)));
@@ -51,7 +53,9 @@ fn rows(cell: &Cell) -> String {
             n.position,
             n.flags
         );
-        let junction = json!(cell.junction_of(n.area_id, n.node_id));
+        // refs are looked through one by one: only for a number that one of them names
+        let at = named.contains(&n.node_id).then(|| cell.junction_of(n.area_id, n.node_id));
+        let junction = json!(at.flatten());
         put!(out, ",\"{}\",{special},{:?},{junction},", nodes::kind(n), bits(n));
         let unused = [n.unused0, n.unused1, n.unused2, n.unused3, n.unused4 as u32];
         put!(out, "{},[", if unused == [0; 5] { "null".into() } else { format!("{unused:?}") });

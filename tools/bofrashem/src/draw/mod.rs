@@ -11,7 +11,7 @@ mod view;
 mod xml;
 
 use crate::cli;
-use crate::fault::{shown, Trouble};
+use crate::fault::{shown, Fault, Trouble};
 use crate::input::{self, Input, Opened};
 use crate::near::Circle;
 use crate::print::Followed;
@@ -21,10 +21,11 @@ use serde_json::json;
 use std::path::Path;
 
 pub fn draw(args: &cli::Draw, input: &mut Input, json: bool) -> Result<Told, Trouble> {
+    let ending = ending(&args.output)?;
     let opened = input.open(&args.yard)?;
     let overlay = overlay(args, input, &opened)?;
     let scene = Scene::of(&opened, overlay);
-    let bytes = picture(&scene, &opened, &args.output)?;
+    let bytes = picture(&scene, &opened, ending)?;
     let counts = scene.counts();
     let text = format!(
         "{}: {} bytes, {} nodes, {} links{}\n",
@@ -41,12 +42,18 @@ pub fn draw(args: &cli::Draw, input: &mut Input, json: bool) -> Result<Told, Tro
     Told::to(&args.output, bytes, Told::either(json, text, value))
 }
 
-/// The picture in the form that the file's name ends in; an SVG where it says nothing.
-fn picture(scene: &Scene, opened: &Opened, to: &Path) -> Result<Vec<u8>, Trouble> {
-    let ending = to.extension().and_then(|e| e.to_str()).unwrap_or("").to_ascii_lowercase();
-    match ending.as_str() {
+/// What kind of picture a file's name asks for: an SVG where it has no ending. Another ending is taken for a slip, so
+/// that no yard is overwritten by its picture.
+fn ending(to: &Path) -> Result<&'static str, Trouble> {
+    let Some(ending) = to.extension() else { return Ok("svg") };
+    let known = ["svg", "html", "htm", "png", "pdf"].into_iter().find(|k| ending.eq_ignore_ascii_case(k));
+    known.ok_or_else(|| Fault::Usage("a picture's name ends in .svg, .html, .png or .pdf".into()).of(to))
+}
+
+fn picture(scene: &Scene, opened: &Opened, ending: &str) -> Result<Vec<u8>, Trouble> {
+    match ending {
         "html" | "htm" => Ok(html::page(scene, &opened.cell).into_bytes()),
-        "png" | "pdf" => input::rsvg(&svg::picture(scene), &ending),
+        "png" | "pdf" => input::rsvg(&svg::picture(scene), ending),
         _ => Ok(svg::picture(scene).into_bytes()),
     }
 }

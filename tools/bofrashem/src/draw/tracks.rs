@@ -2,7 +2,7 @@
 use super::plot::{arrow, Drawn, LABEL_ROOM};
 use super::scene::Track;
 use super::xml::{put, Write};
-use std::collections::HashMap;
+use std::collections::{HashMap, HashSet};
 
 /// More numbers of nodes than this are not written.
 const LABELS_MOST: usize = 1500;
@@ -15,11 +15,13 @@ impl Drawn<'_> {
         way.unwrap_or_default() + &round.unwrap_or_default()
     }
 
-    /// A track's steps, each to the right of its link, so that there and back can be told apart.
+    /// A track's steps, each to the right of its link, so that there and back can be told apart. What is walked again
+    /// is drawn once.
     fn track(&self, class: &str, track: &Track, wide: f64) -> String {
         let (mut d, mut heads) = (String::new(), String::new());
+        let mut drawn = HashSet::new();
         let (aside, size) = ((self.spacing * 0.09).clamp(0.4, 3.0), (self.spacing * 0.26).clamp(2.0, 8.5));
-        for pair in track.places.windows(2) {
+        for pair in track.places.windows(2).filter(|pair| drawn.insert((pair[0], pair[1]))) {
             let (a, b) = (self.points[pair[0]], self.points[pair[1]]);
             let (dx, dy) = (b[0] - a[0], b[1] - a[1]);
             let far = dx.hypot(dy).max(1e-9);

@@ -2,6 +2,7 @@
 #![allow(dead_code)]
 use bofrashem::{Cell, Junction, Link, Ref};
 use serde_json::Value;
+use std::io::Write;
 use std::path::{Path, PathBuf};
 use std::sync::atomic::{AtomicUsize, Ordering};
 
@@ -42,7 +43,7 @@ pub fn sample(name: &str) -> String {
     root().join("samples").join(name).display().to_string()
 }
 
-/// A folder of its own, which goes when it is dropped.
+/// A folder of its own, which goes when it is dropped, unless a test failed.
 pub struct Folder(PathBuf);
 
 static FOLDERS: AtomicUsize = AtomicUsize::new(0);
@@ -68,7 +69,11 @@ impl Folder {
 
 impl Drop for Folder {
     fn drop(&mut self) {
-        let _ = std::fs::remove_dir_all(&self.0);
+        if std::thread::panicking() {
+            eprintln!("kept: {}", self.0.display());
+        } else {
+            let _ = std::fs::remove_dir_all(&self.0);
+        }
     }
 }
 
@@ -118,6 +123,32 @@ pub fn numbered(n: usize, number: impl Fn(usize) -> u16) -> Cell {
         c.set_links(p, &links).unwrap();
     }
     c
+}
+
+/// A section as two: its nodes, which begin at the root's address, and all behind them in a graphics section.
+pub fn split(section: &[u8]) -> (Vec<u8>, Vec<u8>) {
+    let at = u64::from_le_bytes(section[16..24].try_into().unwrap());
+    let nodes = (at - 0x5000_0000) as usize;
+    let count = u32::from_le_bytes(section[24..28].try_into().unwrap()) as usize;
+    let mut system = section.to_vec();
+    system[16..24].copy_from_slice(&0x6000_0000u64.to_le_bytes());
+    // nothing is left of them where they stood
+    system[nodes..nodes + count * 40].fill(0);
+    (system, section[nodes..nodes + count * 40].to_vec())
+}
+
+/// A container, deflated, whose two sections have as many pages of 8 KB as they need (15 at most).
+pub fn with_graphics(system: &[u8], graphics: &[u8]) -> Vec<u8> {
+    let pages = |bytes: &[u8]| bytes.len().div_ceil(0x2000) as u32;
+    let flags = |n: u32| (n & 1) << 27 | (n >> 1 & 1) << 26 | (n >> 2 & 1) << 25 | (n >> 3 & 1) << 24 | 4;
+    let padded =
+        |bytes: &[u8]| [bytes, &vec![0; bytes.len().next_multiple_of(0x2000) - bytes.len()]].concat();
+    let words = [u32::from_le_bytes(*b"RSC7"), 1, flags(pages(system)), flags(pages(graphics)) | 1 << 28];
+    let file = words.iter().flat_map(|w| w.to_le_bytes()).collect();
+    let mut deflate = flate2::write::DeflateEncoder::new(file, flate2::Compression::fast());
+    deflate.write_all(&padded(system)).unwrap();
+    deflate.write_all(&padded(graphics)).unwrap();
+    deflate.finish().unwrap()
 }
 
 /// Numbers that look random, from a seed (splitmix64).
