@@ -26,3 +26,4 @@ pub mod StoredDrawing
 pub mod Unreachable
 pub mod YardExample
 pub mod Claims
+pub mod WritesAlike

@@ -15,7 +15,6 @@ pub mod CallLists
 pub mod Routes
 pub mod WalksAlike
 pub mod Demand
-pub mod WritesAlike
 pub mod Example
 pub mod ClaimFacts
 pub mod Undrawn
