@@ -8,8 +8,6 @@ pub mod AsCast
 pub mod PositionLaws
 pub mod Cuts
 pub mod Orders
-pub mod Guesses
-pub mod Scaled
 pub mod GridLaws
 pub mod BoundLaws
 pub mod NameLaws
@@ -17,5 +15,9 @@ pub mod NameBack
 pub mod Dots
 pub mod Roots
 pub mod TableLaws
-pub mod SquareLaws
+pub mod RootLaws
+pub mod WholeParts
+pub mod LengthLaws
+pub mod FloatCuts
+pub mod Lanes
 pub mod SearchedThresholds

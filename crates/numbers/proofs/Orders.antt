@@ -1,15 +1,14 @@
 -- Patterns without a sign are ordered as the f32s that they stand for. Assumes nothing.
-use Rattle.std.proofs.Common.{◌≡◌, ℕ, ◌+◌, ◌*◌, ◌^◌, ◌<◌, ◌≤◌, Bool, true, false, not, T, leb, ℤ, sym, refl, ap}
-use Rattle.std.proofs.Common.{◌∙◌, subst, inl, inr, le_trans, le_of_eq, lt_of_lt_of_le, mul-le-mul_right, add-mul}
-use Rattle.std.proofs.Common.{eq-or-lt_of_le, mul-lt-mul_of_pos_right, mul-pos, lt_of_not-le, not-le_of_lt, arith}
+use Rattle.std.proofs.Common.{◌≡◌, ℕ, ◌*◌, ◌^◌, ◌<◌, ◌≤◌, Bool, true, false, not, T, leb, sym, refl, ap}
+use Rattle.std.proofs.Common.{◌∙◌, subst, inl, inr, lt_of_lt_of_le}
+use Rattle.std.proofs.Common.{eq-or-lt_of_le, mul-lt-mul_of_pos_right, lt_of_not-le, not-le_of_lt, arith}
 use Rattle.std.proofs.Common.{ltb→lt, lt→ltb, leb→le, pow_pos}
-use native.Mathlib.Nat.{mul-mul-mul_comm}
 use Rattle.std.proofs.lemmas.Float as floats
-use lib.Ieee.{Float, nan, inf, fin, binary32, up, down, lt, le, add, fits, is_nan, of_bits, to_bits}
+use lib.Ieee.{Float, nan, inf, fin, binary32, up, down, lt, le, fits, is_nan, of_bits, to_bits}
 use lib.Ieee.Bits.{of_bits-to_bits}
 use lib.Ieee.Exact.{HasValue}
 use lib.Ieee.Fits.{down_pos}
-use lib.Ieee.Order.{transfer, round_mono}
+use lib.Ieee.Order.{transfer}
 use Rattle.numbers.specs.Cases.{sign}
 use Rattle.numbers.proofs.Patterns.{val, val_strict, finite_value, unsigned, pattern_in}
 use Rattle.std.proofs.lemmas.Bool.{cases_lt}
@@ -105,48 +104,9 @@ lt_bits b c p q t = elim (cases_lt b c) [
         clash (of_bits binary32 b) (of_bits binary32 b) (bits_unsigned b p) (bits_unsigned b p) s
         (floats.le_of_lt (of_bits binary32 b) (of_bits binary32 b) s)
 
--- ---- `<=`, from f32s to their patterns
+-- ---- a pattern from its f32
 pub pattern_of : (x : Float) → T (fits binary32 x) → T (unsigned x) → T (not (is_nan x)) → to_bits binary32 x
     ≤ 2139095040
 pattern_of x f u n =
     pattern_in (to_bits binary32 x) (subst (λ (v : Float). T (unsigned v)) (sym (of_bits-to_bits binary32 x f)) u)
     (subst (λ (v : Float). T (not (is_nan v))) (sym (of_bits-to_bits binary32 x f)) n)
-
-pub le_bits : (x y : Float) → T (fits binary32 x) → T (fits binary32 y) → T (unsigned x) → T (unsigned y)
-    → T (not (is_nan x)) → T (le x y) → to_bits binary32 x ≤ to_bits binary32 y
-le_bits x y f g u v n h = elim (cases_lt (to_bits binary32 y) (to_bits binary32 x)) [
-  | inl l ↦ absurd (clash x y u v (subst (λ (z : Float). T (lt z x)) (of_bits-to_bits binary32 y g)
-      (subst (λ (z : Float). T (lt (of_bits binary32 (to_bits binary32 y)) z)) (of_bits-to_bits binary32 x f)
-      (bits_lt (to_bits binary32 y) (to_bits binary32 x) l (pattern_of x f u n)))) h)
-  | inr l ↦ l
-]
-
--- ---- a sum grows with its first part
-grow : (X Y E D G N : ℕ) → X * D ≤ Y * E → (X * G + N * E) * (D * G) ≤ (Y * G + N * D) * (E * G)
-grow X Y E D G N h =
-    le_trans (le_of_eq (add-mul (X * G) (N * E) (D * G)))
-    (le_trans
-    (both (X * G * (D * G)) (Y * G * (E * G)) (N * E * (D * G)) (N * D * (E * G))
-    (le_trans (le_of_eq (mul-mul-mul_comm X G D G))
-    (le_trans (mul-le-mul_right (G * G) h) (le_of_eq (sym (mul-mul-mul_comm Y G E G)))))
-    (mul-mul-mul_comm N E D G))
-    (le_of_eq (sym (add-mul (Y * G) (N * D) (E * G)))))
-  where
-    both : (a b c d : ℕ) → a ≤ b → c ≡ d → a + c ≤ b + d
-    both a b c d h e = omega arith
-
-pub add_mono : (x y : Float) (a b c : ℕ) (n : ℕ) (g : ℤ) → 0 < c → HasValue x false a c → HasValue y false b c → a
-    ≤ b → T (le (add binary32 x (fin false n g)) (add binary32 y (fin false n g)))
-unfolding add
-add_mono nan y a b c n g C p q h = absurd p
-add_mono (inf s) y a b c n g C p q h = absurd p
-add_mono (fin true m e) y a b c n g C p q h = absurd (subst T p.0 tt)
-add_mono (fin false m e) nan a b c n g C p q h = absurd q
-add_mono (fin false m e) (inf s) a b c n g C p q h = absurd q
-add_mono (fin false m e) (fin true k d) a b c n g C p q h = absurd (subst T q.0 tt)
-add_mono (fin false m e) (fin false k d) a b c n g C p q h =
-    round_mono binary32 (m * up e * down g + n * up g * down e) (down e * down g)
-    (k * up d * down g + n * up g * down d) (down d * down g) (mul-pos (down_pos e) (down_pos g))
-    (mul-pos (down_pos d) (down_pos g))
-    (grow (m * up e) (k * up d) (down e) (down d) (down g) (n * up g)
-    (transfer (m * up e) (k * up d) (down e) (down d) a b c c C C p.1 q.1 (mul-le-mul_right c h)))

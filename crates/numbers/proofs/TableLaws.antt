@@ -38,7 +38,7 @@ unfolding thresholds least
 test k h = agree_below_at (λ q. least q (entry q)) (λ _. true) 256 k refl h
 
 -- ---- the root of a pattern
-root_of_value : (x : Float) (v : ℕ) → HasValue x false v (2 ^ 149) → root x ≡ root_of (v * 2 ^ 149)
+pub root_of_value : (x : Float) (v : ℕ) → HasValue x false v (2 ^ 149) → root x ≡ root_of (v * 2 ^ 149)
 unfolding root
 root_of_value nan v h = absurd h
 root_of_value (inf s) v h = absurd h

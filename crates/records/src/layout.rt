@@ -23,6 +23,16 @@ pub const HEADER_SIZE: usize = 1152;
 
 const SYSTEM_BASE: u64 = 0x5000_0000;
 
+// How many entries each block holds, in the order in which the blocks lie.
+#[derive(Clone, Copy)]
+pub struct Blocks {
+    pub refs: u32,
+    pub heightmap: u32,
+    pub junctions: u32,
+    pub links: u32,
+    pub nodes: u32,
+}
+
 // The address of each array, 0 for an empty one, and where the last block ends.
 #[derive(Clone, Copy)]
 pub struct Places {
@@ -60,18 +70,18 @@ fn lay(end: &mut usize, size: usize) -> u64
     }
 }
 
-// The places of so many refs, heightmap bytes, junctions, links and nodes.
+// Where blocks of so many entries lie.
 #[tactic(auto, unfolding(crate::specs::Layout::offset, crate::specs::Layout::total, crate::specs::Layout::places_of))]
-pub fn lay_out(refs: u32, heightmap: u32, junctions: u32, links: u32, nodes: u32) -> Places
-    ensures { result ≡ places_of (sizes refs heightmap junctions links nodes) }
+pub fn lay_out(k: Blocks) -> Places
+    ensures { result ≡ places_of (sizes k.refs k.heightmap k.junctions k.links k.nodes) }
 {
     let mut end = HEADER_SIZE;
     Places {
-        refs: lay(&mut end, refs as usize * REF_SIZE),
-        heightmap: lay(&mut end, heightmap as usize),
-        junctions: lay(&mut end, junctions as usize * JUNCTION_SIZE),
-        links: lay(&mut end, links as usize * LINK_SIZE),
-        nodes: lay(&mut end, nodes as usize * NODE_SIZE),
+        refs: lay(&mut end, k.refs as usize * REF_SIZE),
+        heightmap: lay(&mut end, k.heightmap as usize),
+        junctions: lay(&mut end, k.junctions as usize * JUNCTION_SIZE),
+        links: lay(&mut end, k.links as usize * LINK_SIZE),
+        nodes: lay(&mut end, k.nodes as usize * NODE_SIZE),
         total: end,
     }
 }

@@ -5,7 +5,7 @@ ghost use Rattle.records.specs.Root.{root_of, root_words};
 use crate::cursor::Cursor;
 
 // The root's own words, and where each array lies.
-#[derive(Clone, Copy)]
+#[derive(Clone, Copy, Default)]
 pub struct Root {
     pub vft: u32,
     pub nodes: u64,

@@ -1,9 +1,11 @@
-use Rattle.std.proofs.Common.{◌≡◌, min, false, pos, arith, lit<, lit≤}
-use lib.Ieee.{Float, binary32, fin, of_bits, add, div}
-use lib.Ieee.Fits.{add-fits}
+use Rattle.std.proofs.Common.{◌≡◌, ℕ, ◌/◌, ◌%◌, ◌^◌, min, false, not, T, pos, sym, ap, ◌∙◌, subst, inl, inr, arith}
+use lib.Ieee.{Float, binary32, binary64, fin, of_bits, add, div, fits, is_nan, to_bits}
+use lib.Ieee.Fits.{add-fits, div-fits}
 use Rattle.numbers.specs.Grid.{cell_along}
-use Rattle.numbers.proofs.Cuts.{cut, at_least, less_than, cut_asks}
-use Rattle.numbers.proofs.GridLaws.{cell_is}
+use Rattle.numbers.proofs.Cuts.{cut}
+use Rattle.numbers.proofs.GridLaws.{cell_is, whole_cell, top_cell, no_cell, at_zero, number_at_zero, at_31}
+use Rattle.numbers.proofs.GridLaws.{number_at_31, above_zero, least_is, least_at_zero}
+use Rattle.numbers.proofs.Patterns.{number_pattern}
 use Rattle.numbers.proofs.grid.cell_along.Goals as goal
 
 -- the quotient
@@ -14,37 +16,51 @@ cell : (x : Float) → cell_along x ≡ min (cut (q x)) 31
 unfolding cell_along
 cell x = cell_is (add binary32 x (fin false 1 (pos 13))) (add-fits binary32 x (fin false 1 (pos 13)))
 
-pub truncating_f32_to_u64-requires : goal.truncating_f32_to_u64-requires
-unfolding of_bits
-truncating_f32_to_u64-requires c =
-    let asks = cut_asks 31 (q c.args.x) (lit< tt) (lit≤ tt) c.if-q-2.true c.if-q.false in
-    record { lower_bound = asks.0; upper_bound = asks.1 }
+fitting : (x : Float) → T (fits binary32 (q x))
+fitting x = div-fits binary32 (add binary32 x (fin false 1 (pos 13))) (fin false 1 (pos 9))
 
-pub overflow_cast-result : goal.overflow_cast-result
-unfolding of_bits
-overflow_cast-result c = record {
-  fits = omega (
-    arith,
-    c.truncating_f32_to_u64.ensures,
-    less_than 31 (q c.args.x)
-        (lit< tt) c.if-q.false,
-  );
-}
+abbrev raised : Float → Float
+raised x = add binary64 x (of_bits binary64 0x41b0_0000_0000_0000)
 
-pub returns-then-q : goal.returns-then-q
-unfolding of_bits
-returns-then-q c = omega (arith, cell c.args.x, at_least 31 (q c.args.x) (lit< tt) (lit< tt) c.if-q.true)
+-- the number, and the digits of its pattern, for what the two limits leave
+abbrev Taken : Float → Float → Type 0
+Taken x least = T (not (is_nan (raised least))) × (to_bits binary64 (raised least) / 2 ^ 24 % 32 ≡ cell_along x)
 
-pub returns-then-q-2 : goal.returns-then-q-2
-unfolding of_bits
-returns-then-q-2 c = omega (
-  arith,
-  c.truncating_f32_to_u64.ensures,
-  cell c.args.x,
-  less_than 31 (q c.args.x)
-      (lit< tt) c.if-q.false,
-)
+at : (x y least : Float) → least ≡ y → Taken x y → Taken x least
+at x y least e h = subst (Taken x) (sym e) h
 
-pub returns-else-q-2 : goal.returns-else-q-2
+abbrev min_of : Float → ℕ
+min_of y = min (to_bits binary32 y) 0x41f8_0000
+
+taken : (c : goal.After-row_known-1) → Taken c.args.x (of_bits binary32 c.min-least.result)
 unfolding of_bits
-returns-else-q-2 c = omega (arith, cell c.args.x, less_than 1 (q c.args.x) (lit< tt) c.if-q-2.false)
+taken c =
+    let x = c.args.x in
+    let r = of_bits binary32 c.min-least.result in
+    elim c.if-q.branch [
+      | goal.then-q w ↦
+          let e : r ≡ of_bits binary32 (min_of (q x))
+          = ap (of_bits binary32) c.min-least.ensures ∙ ap (λ (y : Float). of_bits binary32 (min_of y)) w.from-is in
+          let p = above_zero (q x) w.if-q.true in
+          elim (least_is (q x) (fitting x) p.0 p.1) [
+            | inl h ↦
+                let t = whole_cell (q x) (fitting x) w.if-q.true h.0 in
+                at x (q x) r (e ∙ h.1) (t.0, t.1 ∙ sym (cell x))
+            | inr h ↦ at x (fin false 31 (pos 0)) r (e ∙ h.1)
+                (number_at_31, at_31 ∙ top_cell (q x) w.if-q.true h.0 ∙ sym (cell x))
+          ]
+      | goal.else-q w ↦ at x (fin false 0 (pos 0)) r
+          (ap (of_bits binary32) c.min-least.ensures ∙ ap (λ (y : Float). of_bits binary32 (min_of y)) w.from-is
+          ∙ least_at_zero)
+          (number_at_zero, at_zero ∙ no_cell (q x) w.if-q.false ∙ sym (cell x))
+    ]
+
+pub float_from_bits-least : goal.float_from_bits-least
+float_from_bits-least c = rw (number_pattern c.min-least.result (omega (arith, c.min-least.ensures))) tt
+
+pub float_to_bits-result : goal.float_to_bits-result
+unfolding of_bits
+float_to_bits-result c = (taken c).0
+
+pub returns : goal.returns
+returns c = (taken c).1

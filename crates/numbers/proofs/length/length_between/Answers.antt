@@ -1,27 +1,33 @@
-use Rattle.std.proofs.Common.{◌≡◌, ◌<◌, not, T, sym, subst, lit≤}
-use borrow.Author.Numbers.{below_no_nan}
-use lib.Ieee.{Float, binary32, sub, lt, is_nan, to_bits, of_bits}
+use Rattle.std.proofs.Common.{◌/◌, ◌%◌, ◌^◌, not, T, sym, ap, ◌∙◌, subst}
+use lib.Ieee.{Float, binary64, is_nan, add, of_bits, to_bits}
 use Rattle.numbers.specs.Squares.{squared}
-use Rattle.numbers.specs.declared.math.Vec3.{Vec3}
-use Rattle.numbers.proofs.Dots.{dot_back, dot_pattern}
-use Rattle.numbers.proofs.Orders.{lt_bits}
+use Rattle.numbers.proofs.Dots.{dot_unsigned, dot_fits}
+use Rattle.numbers.proofs.LengthLaws.{root_number, root_cut, root_capped, number_at_255, cut_at_255}
 use Rattle.numbers.proofs.length.length_between.Goals as goal
 
-back : (a b : Vec3) → of_bits binary32 (to_bits binary32 (squared a b)) ≡ squared a b
-back a b = dot_back (sub binary32 b.x a.x) (sub binary32 b.y a.y) (sub binary32 b.z a.z)
+pub float_to_bits-result : goal.float_to_bits-result
+float_to_bits-result c = elim c.if-root.branch [
+  | goal.then-root w ↦
+      subst (λ (x : Float). T (not (is_nan (add binary64 x (of_bits binary64 0x41b0_0000_0000_0000)))))
+      (sym w.least-is)
+      (root_number (squared c.args.a c.args.b) c.sqrt-root.result (dot_fits _ _ _) (dot_unsigned _ _ _)
+      c.sqrt-root.ensures.value w.if-root.true)
+  | goal.else-root w ↦
+      subst (λ (x : Float). T (not (is_nan (add binary64 x (of_bits binary64 0x41b0_0000_0000_0000)))))
+      (sym w.least-is) number_at_255
+]
 
--- the pattern of a sum of squares that is below 65025
-pattern : (a b : Vec3) → T (not (is_nan (squared a b))) → T (lt (squared a b) (of_bits binary32 0x477e_0100))
-    → to_bits binary32 (squared a b) < 0x477e_0100
-pattern a b n t =
-    lt_bits (to_bits binary32 (squared a b)) 0x477e_0100
-    (dot_pattern (sub binary32 b.x a.x) (sub binary32 b.y a.y) (sub binary32 b.z a.z) n) (lit≤ tt)
-    (subst (λ (x : Float). T (lt x (of_bits binary32 0x477e_0100))) (sym (back a b)) t)
-
-pub length_under-requires : goal.length_under-requires
-length_under-requires c =
-    let args = c.args in (
-      pattern args.a args.b (below_no_nan (squared args.a args.b) (of_bits binary32 0x477e_0100) c.if-s.true)
-          (subst T (sym c.if-s.true) tt),
-      sym (back args.a args.b),
-    )
+pub returns : goal.returns
+returns c = elim c.if-root.branch [
+  | goal.then-root w ↦
+      ap (λ (x : Float). to_bits binary64 (add binary64 x (of_bits binary64 0x41b0_0000_0000_0000)) / 2 ^ 24 % 256)
+      w.least-is
+      ∙ root_cut (squared c.args.a c.args.b) c.sqrt-root.result (dot_fits _ _ _) (dot_unsigned _ _ _)
+      c.sqrt-root.ensures.value w.if-root.true
+  | goal.else-root w ↦
+      ap (λ (x : Float). to_bits binary64 (add binary64 x (of_bits binary64 0x41b0_0000_0000_0000)) / 2 ^ 24 % 256)
+      w.least-is
+      ∙ cut_at_255
+      ∙ root_capped (squared c.args.a c.args.b) c.sqrt-root.result (dot_fits _ _ _) (dot_unsigned _ _ _)
+      c.sqrt-root.ensures.value w.if-root.false
+]

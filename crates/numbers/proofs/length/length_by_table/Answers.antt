@@ -3,7 +3,7 @@ use Rattle.std.specs.List.Sorted.{IsPartitionPoint}
 use Rattle.std.proofs.lemmas.List.Sorted.{IsPartitionPoint-from_clause}
 use Rattle.numbers.specs.Table.{thresholds}
 use Rattle.numbers.proofs.TableLaws.{partitioned, point_some, point_is}
-use Rattle.numbers.proofs.length.length_of_bits.Goals as goal
+use Rattle.numbers.proofs.length.length_by_table.Goals as goal
 
 abbrev At : (b r : ℕ) → Type 0
 At b r = IsPartitionPoint (λ y. leb y b ≡ true) (λ y. leb y b ≡ false) thresholds r
@@ -18,4 +18,4 @@ overflow_sub-result c = point_some c.args.b c.partition_point.result (found c)
 
 pub returns : goal.returns
 unfolding thresholds
-returns c = point_is c.args.b c.partition_point.result (found c) c.requires c.partition_point.ensures.bound
+returns c b = point_is c.args.b c.partition_point.result (found c) b c.partition_point.ensures.bound
