@@ -2,6 +2,7 @@
 pub mod ReadLaws
 pub mod Whole
 pub mod FileRead
+pub mod Listed
 pub mod Fits
 pub mod NewYnd
 pub mod Undrawn

@@ -25,8 +25,9 @@ use Rattle.cells.proofs.Reading.ReadLaws.{sum_next, sum_room, fill_turn, join_tu
 use Rattle.cells.proofs.Reading.Whole.{node_range_inside, junction_range_inside}
 use Rattle.cells.proofs.Reading.Whole.{node_start, node_count, map_start, map_width, map_height}
 use Rattle.cells.proofs.Lookups.LookupLaws.{find_at, find_past, find_other}
-use Rattle.cells.proofs.Renumbering.Looked.{places_long, place_below, looked_up, relinked_own, relinked_other, four}
-use Rattle.cells.proofs.Renumbering.Named.{index_starts, index_turn}
+use Rattle.cells.proofs.Renumbering.Looked.{places_long, last_inside, place_below, looked_up, left_alone}
+use Rattle.cells.proofs.Renumbering.Looked.{relinked_own, relinked_other, four}
+use Rattle.cells.proofs.Renumbering.Named.{index_starts, index_turn, last_here, last_nowhere}
 use Rattle.cells.proofs.Renumbering.CellRenumbered.{number_length}
 use Rattle.cells.proofs.Renumbering.Reordered.{are_places, places_many, place_at, number_turn}
 use Rattle.cells.proofs.Writing.Starts.{start_sum}
@@ -73,7 +74,9 @@ pub ruleset index_laws = (index_starts, index_turn)
 
 pub ruleset table_laws = (zip_turn, zip_end, table_turn, table_all, places_many, place_at)
 
-pub ruleset looked_laws = (places_long, place_below, looked_up)
+pub ruleset looked_laws = (places_long, last_inside, place_below, looked_up, left_alone)
+
+pub ruleset last_laws = (last_here, last_nowhere)
 
 pub ruleset relink_laws = (relinked_own, relinked_other, four)
 

@@ -4,6 +4,7 @@ pub mod Ranges
 pub mod CheckTurns
 pub mod WriteTotals
 pub mod WriteSteps
+pub mod WriteListed
 pub mod BlockLaws
 pub mod BlockSteps
 pub mod Nines

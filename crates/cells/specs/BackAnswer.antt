@@ -6,7 +6,7 @@ use Rattle.cells.specs.Memory.{Memory, short_of}
 use Rattle.cells.specs.Blocks.{written}
 use Rattle.cells.specs.WriteCounts.{write_counts}
 use Rattle.cells.specs.BackCheck.{back_check}
-use Rattle.cells.specs.declared.count.Counts.{Counts}
+use Rattle.cells.specs.declared.counts.Counts.{Counts}
 use Rattle.std.specs.Prelude.{Result, Ok}
 use Rattle.numbers.specs.declared.refusal.Refusal.{Refusal}
 use Rattle.numbers.specs.declared.refusal.Refusal.TheVariants.{TooShort}

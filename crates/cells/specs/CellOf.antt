@@ -3,12 +3,11 @@
 use Rattle.std.specs.Prelude.{ℕ, ◌/◌, ◌%◌, List, map, get_or, take, drop}
 use Rattle.cells.specs.NodeWords.{area_of, number_of, link_start, link_count, value_start, value_count}
 use Rattle.cells.specs.Memory.{Memory}
-use Rattle.cells.specs.Cell.{Position, Link, NodeMarks, NodeBody, Node, Junction, Ref, Cell}
+use Rattle.cells.specs.Cell.{Position, Link, NodeBody, Node, Junction, Ref, Cell, marks_of, body_of}
 use Rattle.std.specs.Float.{binary32}
 use Rattle.std.specs.Float.Ieee.{to_bits}
 use Rattle.numbers.specs.declared.math.Vec3.{Vec3}
 use Rattle.cells.specs.declared.node.PathNode.{PathNode}
-use Rattle.cells.specs.Words.{to_node}
 
 abbrev pub link_of : List ℕ → Link
 link_of w = record {
@@ -25,31 +24,9 @@ link_of w = record {
 abbrev pub ref_of : List ℕ → Ref
 ref_of w = record { area = get_or w 0 0; number = get_or w 1 0; junction = get_or w 2 0; unk0 = get_or w 3 0 }
 
-abbrev pub marks_of : PathNode → NodeMarks
-marks_of n = record {
-  street = n.street_name;
-  flags0 = n.flags0;
-  flags1 = n.flags1;
-  flags2 = n.flags2;
-  flags3 = n.flags3;
-  flags4 = n.flags4;
-  flags5 = n.flags5;
-  unused0 = n.unused0;
-  unused1 = n.unused1;
-  unused2 = n.unused2;
-  unused3 = n.unused3;
-  unused4 = n.unused4;
-}
-
--- the bits of a position; those that a node's words hold
+-- the bits of a position
 abbrev pub bits_of : Vec3 → Position
 bits_of p = record { x = to_bits binary32 p.x; y = to_bits binary32 p.y; z = to_bits binary32 p.z }
-
-abbrev pub bits_in : List ℕ → Position
-bits_in w = record { x = get_or w 2 0; y = get_or w 3 0; z = get_or w 4 0 }
-
-unfoldable pub body_of : List ℕ → NodeBody
-body_of w = record { position = bits_in w; marks = marks_of (to_node w) }
 
 abbrev pub body_from : PathNode → NodeBody
 body_from n = record { position = bits_of n.position; marks = marks_of n }

@@ -1,5 +1,6 @@
 -- Reading's checks, in their order: 2, 1, 3, 6, 4, 5. Lists are bytes: of the sections s and g, and of the five
 -- arrays n, l, j, h, r.
+use Rattle.cells.specs.Memory.{per_list}
 use Rattle.std.specs.Prelude.{ℕ, zero, suc, ◌+◌, ◌*◌, ◌/◌, Bool, not, ◌&&◌, List, [], ◌∷◌, ltb}
 use Rattle.std.specs.Prelude.{eqb, length}
 use Rattle.numbers.specs.Refusals.{when, decided, refuse_if, unless, and_then}
@@ -10,7 +11,7 @@ use Rattle.records.specs.Root.{root_of}
 use Rattle.records.specs.Records.{node_at, junction_at}
 use Rattle.cells.specs.Lists.{sum_to}
 use Rattle.cells.specs.NewYnd.{new_root}
-use Rattle.cells.specs.declared.count.Counts.{Counts}
+use Rattle.cells.specs.declared.counts.Counts.{Counts}
 use Rattle.std.specs.Prelude.{Result, Ok, Err, Option, Some, None}
 use Rattle.numbers.specs.Refusals.{Answer, done}
 use Rattle.numbers.specs.declared.refusal.Refusal.{Refusal}
@@ -89,13 +90,9 @@ abbrev pub junctions_scan : List ℕ → List ℕ → Answer
 junctions_scan j h = scan ValuesOutside (bad_junction j (length h)) 0 (length j / 12)
 
 abbrev pub counts_of : List ℕ → List ℕ → List ℕ → Counts
-counts_of n j r = record {
-  nodes = length n / 40;
-  links = sum_to (links_at n) (length n / 40);
-  junctions = length j / 12;
-  heights = sum_to (values_at j) (length j / 12);
-  refs = length r / 8;
-}
+counts_of n j r =
+    per_list (length n / 40) (sum_to (links_at n) (length n / 40)) (length j / 12)
+    (sum_to (values_at j) (length j / 12)) (length r / 8)
 
 unfoldable pub arrays_check : List ℕ → List ℕ → List ℕ → List ℕ → List ℕ → Result Counts Refusal
 arrays_check n l j h r =

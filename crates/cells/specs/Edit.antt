@@ -6,7 +6,7 @@ use Rattle.numbers.specs.Refusals.{when, decided, unless}
 use Rattle.cells.specs.NodeWords.{link_start, link_count, value_start, value_count}
 use Rattle.cells.specs.Words.{to_node, node_words, to_link, link_words, to_junction, junction_words, to_ref, ref_words}
 use Rattle.cells.specs.NodeAccess.{with_position, with_range}
-use Rattle.cells.specs.Memory.{over_limit}
+use Rattle.cells.specs.Memory.{over_limit, Memory, memory, Left}
 use Rattle.numbers.specs.Positions.{quantised, dequantised}
 use Rattle.numbers.specs.declared.math.Vec3.{Vec3}
 use Rattle.records.specs.declared.junction_ref.NodeJunctionRef.{NodeJunctionRef}
@@ -107,6 +107,22 @@ pub record Stored (A : Type 0) : Type 0 where
 
 abbrev pub stored : {A : Type 0} → Answer → List A → Stored A
 stored a l = record { answer = a; list = l }
+
+-- a call that lends one list: its answer, and the memory with the list after it
+abbrev pub nodes_left : Memory → Stored (List ℕ) → Left
+nodes_left m s = record { answer = s.answer; memory = memory m.ynd s.list m.links m.junctions m.heights m.refs }
+
+abbrev pub links_left : Memory → Stored (List ℕ) → Left
+links_left m s = record { answer = s.answer; memory = memory m.ynd m.nodes s.list m.junctions m.heights m.refs }
+
+abbrev pub junctions_left : Memory → Stored (List ℕ) → Left
+junctions_left m s = record { answer = s.answer; memory = memory m.ynd m.nodes m.links s.list m.heights m.refs }
+
+abbrev pub heights_left : Memory → Stored ℕ → Left
+heights_left m s = record { answer = s.answer; memory = memory m.ynd m.nodes m.links m.junctions s.list m.refs }
+
+abbrev pub refs_left : Memory → Stored (List ℕ) → Left
+refs_left m s = record { answer = s.answer; memory = memory m.ynd m.nodes m.links m.junctions m.heights s.list }
 
 -- an entry changed; a refusal leaves the list as it was
 abbrev pub change_at : {A : Type 0} → Result ℕ Refusal → (A → A) → A → List A → Stored A

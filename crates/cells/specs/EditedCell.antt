@@ -39,21 +39,10 @@ junction_from vs j = record {
 
 -- ---- the cell with other nodes, refs or junctions
 
-abbrev pub with_nodes : List Node → Cell → Cell
-with_nodes ns c = record {
+abbrev pub with_lists : List Node → List Junction → List Ref → Cell → Cell
+with_lists ns js rs c = record {
   nodes = ns;
-  junctions = c.junctions;
-  refs = c.refs;
-  vehicles = c.vehicles;
-  peds = c.peds;
-  vft = c.vft;
-  words = c.words;
-}
-
-abbrev pub with_refs : List Ref → Cell → Cell
-with_refs rs c = record {
-  nodes = c.nodes;
-  junctions = c.junctions;
+  junctions = js;
   refs = rs;
   vehicles = c.vehicles;
   peds = c.peds;
@@ -61,22 +50,29 @@ with_refs rs c = record {
   words = c.words;
 }
 
+abbrev pub with_nodes : List Node → Cell → Cell
+with_nodes ns c = with_lists ns c.junctions c.refs c
+
 abbrev pub with_junctions : List Junction → Cell → Cell
-with_junctions js c = record {
-  nodes = c.nodes;
-  junctions = js;
-  refs = c.refs;
-  vehicles = c.vehicles;
-  peds = c.peds;
-  vft = c.vft;
-  words = c.words;
-}
+with_junctions js c = with_lists c.nodes js c.refs c
+
+abbrev pub with_refs : List Ref → Cell → Cell
+with_refs rs c = with_lists c.nodes c.junctions rs c
+
+-- ---- a node with other links, a junction with another heightmap: all else is as it was
+
+abbrev pub node_linked : List Link → Node → Node
+node_linked ls n = record { area = n.area; number = n.number; links = ls; body = n.body }
+
+abbrev pub junction_mapped : ℕ → ℕ → List ℕ → Junction → Junction
+junction_mapped width height vs j =
+    record { x = j.x; y = j.y; low = j.low; high = j.high; width = width; height = height; values = vs }
 
 -- ---- adding a link
 
 -- the node, with one link more behind its others
 abbrev pub with_link : Link → Node → Node
-with_link x n = record { area = n.area; number = n.number; links = n.links ++ (x ∷ []); body = n.body }
+with_link x n = node_linked (n.links ++ (x ∷ [])) n
 
 -- the nodes, with one link more at the place p
 abbrev pub add_to : ℕ → Link → List Node → List Node
@@ -89,15 +85,7 @@ link_to p x c = with_nodes (add_to p x c.nodes) c
 -- ---- storing a link or a heightmap value
 
 abbrev pub link_changed : ℕ → Link → Node → Node
-link_changed k x n = record { area = n.area; number = n.number; links = set n.links k x; body = n.body }
+link_changed k x n = node_linked (set n.links k x) n
 
 abbrev pub height_changed : ℕ → ℕ → Junction → Junction
-height_changed k v j = record {
-  x = j.x;
-  y = j.y;
-  low = j.low;
-  high = j.high;
-  width = j.width;
-  height = j.height;
-  values = set j.values k v;
-}
+height_changed k v j = junction_mapped j.width j.height (set j.values k v) j

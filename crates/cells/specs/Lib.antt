@@ -10,6 +10,7 @@ pub mod NewYnd
 pub mod Checks
 pub mod Memory
 pub mod Read
+pub mod FileCauses
 pub mod RangedParts
 pub mod Order
 pub mod NodeWords
@@ -38,6 +39,7 @@ pub mod Blocks
 pub mod WriteCounts
 pub mod Held
 pub mod Write
+pub mod WriteCauses
 pub mod WriteRead
 pub mod BackCheck
 pub mod BackAnswer

@@ -4,14 +4,15 @@ use Rattle.std.specs.Prelude.{ℕ, cond, List, [], ◌∷◌, map, ltb, length, 
 use Rattle.std.proofs.Math.Option.{Option as Found, none, some}
 use Rattle.std.proofs.Math.ListN.{get_elem?}
 use Rattle.cells.specs.NodeWords.{area_of, number_of, first_area}
-use Rattle.cells.specs.Memory.{over_limit}
+use Rattle.cells.specs.Memory.{nodes_causes}
+use Rattle.numbers.specs.Refusals.{when, decided, unless}
 use Rattle.cells.specs.Cell.{Junction}
 use Rattle.cells.specs.CellOf.{ref_of as to_ref}
 use Rattle.cells.specs.Lookup.{first_with, find, ref_of}
 use Rattle.cells.specs.declared.ynd.Ynd.{Ynd}
 use Rattle.std.specs.Prelude.{Option, Result, Ok, Err, Some, None}
 use Rattle.numbers.specs.declared.refusal.Refusal.{Refusal}
-use Rattle.numbers.specs.declared.refusal.Refusal.TheVariants.{TooShort, AtLimit}
+use Rattle.numbers.specs.declared.refusal.Refusal.TheVariants.{TooShort}
 use Rattle.numbers.specs.declared.refusal.Lent.TheVariants as lent
 
 -- a number found, or none, or a refusal
@@ -25,8 +26,7 @@ area_of_first (w ∷ ws) = Some (area_of w)
 -- Section 4, renumbering: the own area is the first node's
 unfoldable pub area_id_call : Ynd → List (List ℕ) → Place
 area_id_call y nodes =
-    cond (over_limit y) (Err AtLimit)
-    (cond (ltb (length nodes) y.node_count) (Err (TooShort lent.Nodes)) (Ok (area_of_first (take y.node_count nodes))))
+    unless (decided (nodes_causes y (length nodes))) (Ok (area_of_first (take y.node_count nodes)))
 
 abbrev pub place_of : Found ℕ → Option ℕ
 place_of (some i) = Some i
@@ -43,9 +43,7 @@ unfoldable pub find_in : ℕ → List (List ℕ) → ℕ → Option ℕ
 find_in n nodes k = place_of (find (numbers_in n nodes) k)
 
 unfoldable pub node_call : Ynd → List (List ℕ) → ℕ → Place
-node_call y nodes k =
-    cond (over_limit y) (Err AtLimit)
-    (cond (ltb (length nodes) y.node_count) (Err (TooShort lent.Nodes)) (Ok (find_in y.node_count nodes k)))
+node_call y nodes k = unless (decided (nodes_causes y (length nodes))) (Ok (find_in y.node_count nodes k))
 
 -- the junction number of the first of these refs for the area a and the number k, in a cell of the area own
 unfoldable pub ref_in : ℕ → List (List ℕ) → ℕ → ℕ → Found ℕ
@@ -58,11 +56,10 @@ below count None = None
 
 unfoldable pub junction_of_call : Ynd → List (List ℕ) → List (List ℕ) → ℕ → ℕ → Place
 junction_of_call y nodes refs a k =
-    cond (over_limit y) (Err AtLimit)
-    (cond (ltb (length nodes) y.node_count) (Err (TooShort lent.Nodes))
-    (cond (ltb (length refs) y.ref_count) (Err (TooShort lent.Refs))
+    unless (decided (nodes_causes y (length nodes)))
+    (unless (decided (when (ltb (length refs) y.ref_count) (TooShort lent.Refs) ∷ []))
     (Ok (below y.junction_count
-    (place_of (ref_in (first_area (take y.node_count nodes)) (take y.ref_count refs) a k))))))
+    (place_of (ref_in (first_area (take y.node_count nodes)) (take y.ref_count refs) a k)))))
 
 -- the junction at a place that the call answered
 abbrev pub at_place : List Junction → Place → Found Junction

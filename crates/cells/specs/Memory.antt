@@ -1,10 +1,11 @@
 -- A cell with the memory lent to it, and what a call leaves of both.
+use Rattle.cells.specs.declared.counts.Counts.{Counts}
 use Rattle.std.specs.Prelude.{ℕ, Bool, ◌||◌, List, [], ◌∷◌, ltb, length}
-use Rattle.numbers.specs.Refusals.{answered, decided, when}
+use Rattle.numbers.specs.Refusals.{Cause, answered, decided, when}
 use Rattle.cells.specs.declared.ynd.Ynd.{Ynd}
 use Rattle.std.specs.Prelude.{Result, Ok, Err}
 use Rattle.numbers.specs.declared.refusal.Lent.TheVariants as lent
-use Rattle.numbers.specs.declared.refusal.Refusal.TheVariants.{TooShort}
+use Rattle.numbers.specs.declared.refusal.Refusal.TheVariants.{AtLimit, TooShort}
 use Rattle.numbers.specs.Refusals.{Answer}
 use Rattle.numbers.specs.declared.refusal.Refusal.{Refusal}
 
@@ -19,6 +20,16 @@ pub record Memory : Type 0 where
 abbrev pub memory : Ynd → List (List ℕ) → List (List ℕ) → List (List ℕ) → List ℕ → List (List ℕ) → Memory
 memory y nodes links junctions heights refs =
     record { ynd = y; nodes = nodes; links = links; junctions = junctions; heights = heights; refs = refs }
+
+-- a number for each of the five lists
+abbrev pub per_list : ℕ → ℕ → ℕ → ℕ → ℕ → Counts
+per_list nodes links junctions heights refs = record {
+  nodes = nodes;
+  links = links;
+  junctions = junctions;
+  heights = heights;
+  refs = refs;
+}
 
 -- a call's answer, and the memory after it
 pub record Left : Type 0 where
@@ -48,16 +59,27 @@ unless (Err cause) m next = refuse cause m
 unfoldable pub over_limit : Ynd → Bool
 over_limit y = ltb 65536 y.node_count || ltb 4096 y.junction_count
 
--- 7: each list lent has as many entries as its count says; the first that is shorter is named
+-- what a call asks first that goes by the nodes: a limit, and whether as many are lent as the cell has
+unfoldable pub nodes_causes : Ynd → ℕ → List Cause
+nodes_causes y nodes = when (over_limit y) AtLimit ∷ when (ltb nodes y.node_count) (TooShort lent.Nodes) ∷ []
+
+-- 7: lists of these lengths have as many entries as k says; the first that is shorter is named
+abbrev pub room_causes : Counts → ℕ → ℕ → ℕ → ℕ → ℕ → List Cause
+room_causes k nodes links junctions heights refs =
+    when (ltb nodes k.nodes) (TooShort lent.Nodes)
+    ∷ when (ltb links k.links) (TooShort lent.Links)
+    ∷ when (ltb junctions k.junctions) (TooShort lent.Junctions)
+    ∷ when (ltb heights k.heights) (TooShort lent.Heightmap)
+    ∷ when (ltb refs k.refs) (TooShort lent.Refs)
+    ∷ []
+
+-- as many as the cell counts
+abbrev pub short_causes : Ynd → ℕ → ℕ → ℕ → ℕ → ℕ → List Cause
+short_causes y =
+    room_causes (per_list y.node_count y.link_count y.junction_count y.heightmap_count y.ref_count)
+
 unfoldable pub short_of : Ynd → ℕ → ℕ → ℕ → ℕ → ℕ → Answer
-short_of y nodes links junctions heights refs =
-    decided
-    (when (ltb nodes y.node_count) (TooShort lent.Nodes)
-    ∷ when (ltb links y.link_count) (TooShort lent.Links)
-    ∷ when (ltb junctions y.junction_count) (TooShort lent.Junctions)
-    ∷ when (ltb heights y.heightmap_count) (TooShort lent.Heightmap)
-    ∷ when (ltb refs y.ref_count) (TooShort lent.Refs)
-    ∷ [])
+short_of y nodes links junctions heights refs = decided (short_causes y nodes links junctions heights refs)
 
 abbrev pub short : Memory → Answer
 short m = short_of m.ynd (length m.nodes) (length m.links) (length m.junctions) (length m.heights) (length m.refs)

@@ -1,4 +1,5 @@
 -- Section 4: a cell that holds nothing, with the root's own words as the Rust's `Ynd::new` sets them.
+use Rattle.cells.specs.Cell.{Cell}
 use Rattle.std.specs.Prelude.{[], ◌∷◌}
 use Rattle.records.specs.declared.root.Root.{Root}
 use Rattle.cells.specs.declared.ynd.Ynd.{Ynd}
@@ -33,4 +34,16 @@ new_root = record {
   junction_count = 0;
   heightmap_count = 0;
   unknowns = new_ynd.unknowns;
+}
+
+-- the cell that it is
+abbrev pub new_cell : Cell
+new_cell = record {
+  nodes = [];
+  junctions = [];
+  refs = [];
+  vehicles = 0;
+  peds = 0;
+  vft = new_ynd.vft;
+  words = new_ynd.unknowns;
 }

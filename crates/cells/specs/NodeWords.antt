@@ -25,6 +25,10 @@ area_of w = get_or w 0 0 % 65536
 unfoldable pub number_of : List ℕ → ℕ
 number_of w = get_or w 0 0 / 65536 % 65536
 
+-- of the node at a place
+abbrev pub number_at : List (List ℕ) → ℕ → ℕ
+number_at nodes p = number_of (get_or nodes p [])
+
 abbrev pub ped_kind : ℕ → Bool
 ped_kind k = eqb k 10 || eqb k 14 || eqb k 18
 

@@ -1,6 +1,6 @@
 -- What reading leaves.
-use Rattle.std.specs.Prelude.{ℕ, ◌+◌, ◌*◌, List, [], ◌∷◌, ◌++◌, ltb, length, drop}
-use Rattle.numbers.specs.Refusals.{when, decided}
+use Rattle.std.specs.Prelude.{ℕ, ◌+◌, ◌*◌, List, ◌++◌, length, drop}
+use Rattle.numbers.specs.Refusals.{decided}
 use Rattle.records.specs.Bytes.{byte_at}
 use Rattle.records.specs.Sections.{bytes_of}
 use Rattle.records.specs.Records.{node_at, link_at, junction_at, ref_at}
@@ -9,14 +9,12 @@ use Rattle.records.specs.declared.section.Part.{Part}
 use Rattle.cells.specs.Lists.{up_to, join_to, sum_to}
 use Rattle.cells.specs.Words.{path_node, path_link, path_junction, node_words, link_words, junction_words, ref_words}
 use Rattle.cells.specs.Checks.{root_read, sizes_check, arrays_found, arrays_check, links_at, values_at}
-use Rattle.cells.specs.Memory.{Memory, memory, Left, refuse, unless}
+use Rattle.cells.specs.Memory.{Memory, memory, Left, refuse, unless, room_causes}
 use Rattle.cells.specs.declared.ynd.Ynd.{Ynd}
-use Rattle.cells.specs.declared.count.Counts.{Counts}
+use Rattle.cells.specs.declared.counts.Counts.{Counts}
 use Rattle.std.specs.Prelude.{Result, Ok, Err}
 use Rattle.numbers.specs.Refusals.{Answer}
 use Rattle.numbers.specs.declared.refusal.Refusal.{Refusal}
-use Rattle.numbers.specs.declared.refusal.Refusal.TheVariants.{TooShort}
-use Rattle.numbers.specs.declared.refusal.Lent.TheVariants as lent
 use Rattle.cells.specs.declared.arrays.Arrays.{Arrays}
 
 -- `count` links of the array l, from link `from` on; `count` values of the bytes h, from `from` on
@@ -43,16 +41,9 @@ values_in j h i = values_from h (junction_at j (i * 12)).heightmap_ptr (values_a
 unfoldable pub ref_in : List ℕ → ℕ → List ℕ
 ref_in r i = ref_words (ref_at r (i * 8))
 
--- ---- 7: the memory lent holds what is read
+-- 7: the memory lent holds what is read
 unfoldable pub room_check : Counts → ℕ → ℕ → ℕ → ℕ → ℕ → Answer
-room_check k nodes links junctions heights refs =
-    decided
-    (when (ltb nodes k.nodes) (TooShort lent.Nodes)
-    ∷ when (ltb links k.links) (TooShort lent.Links)
-    ∷ when (ltb junctions k.junctions) (TooShort lent.Junctions)
-    ∷ when (ltb heights k.heights) (TooShort lent.Heightmap)
-    ∷ when (ltb refs k.refs) (TooShort lent.Refs)
-    ∷ [])
+room_check k nodes links junctions heights refs = decided (room_causes k nodes links junctions heights refs)
 
 unfoldable pub cell_read : Root → Counts → Ynd
 cell_read root k = record {

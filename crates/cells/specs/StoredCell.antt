@@ -1,59 +1,35 @@
 -- What storing the cell's own words, shorter lists, all links of a node or a heightmap means for the cell that
 -- memory holds.
 use Rattle.std.specs.Prelude.{ℕ, List, [], get_or, set}
-use Rattle.cells.specs.Cell.{Link, Node, Junction, Cell, node_at}
-use Rattle.cells.specs.EditedCell.{with_nodes, with_junctions}
+use Rattle.cells.specs.Cell.{Link, Junction, Cell, node_at}
+use Rattle.cells.specs.EditedCell.{with_nodes, with_junctions, node_linked, junction_mapped}
 
 -- ---- the cell's own words: one is another, all else is as it was
 
-abbrev pub vft_put : ℕ → Cell → Cell
-vft_put v c = record {
+abbrev pub with_words : ℕ → ℕ → ℕ → List ℕ → Cell → Cell
+with_words vehicles peds vft words c = record {
   nodes = c.nodes;
   junctions = c.junctions;
   refs = c.refs;
-  vehicles = c.vehicles;
-  peds = c.peds;
-  vft = v;
-  words = c.words;
+  vehicles = vehicles;
+  peds = peds;
+  vft = vft;
+  words = words;
 }
+
+abbrev pub vft_put : ℕ → Cell → Cell
+vft_put v c = with_words c.vehicles c.peds v c.words c
 
 abbrev pub vehicles_put : ℕ → Cell → Cell
-vehicles_put v c = record {
-  nodes = c.nodes;
-  junctions = c.junctions;
-  refs = c.refs;
-  vehicles = v;
-  peds = c.peds;
-  vft = c.vft;
-  words = c.words;
-}
+vehicles_put v c = with_words v c.peds c.vft c.words c
 
 abbrev pub peds_put : ℕ → Cell → Cell
-peds_put v c = record {
-  nodes = c.nodes;
-  junctions = c.junctions;
-  refs = c.refs;
-  vehicles = c.vehicles;
-  peds = v;
-  vft = c.vft;
-  words = c.words;
-}
+peds_put v c = with_words c.vehicles v c.vft c.words c
 
 abbrev pub unknowns_put : List ℕ → Cell → Cell
-unknowns_put v c = record {
-  nodes = c.nodes;
-  junctions = c.junctions;
-  refs = c.refs;
-  vehicles = c.vehicles;
-  peds = c.peds;
-  vft = c.vft;
-  words = v;
-}
+unknowns_put v c = with_words c.vehicles c.peds c.vft v c
 
 -- ---- all links of a node: the node's links are these, all else is as it was
-
-abbrev pub node_linked : List Link → Node → Node
-node_linked ls n = record { area = n.area; number = n.number; links = ls; body = n.body }
 
 abbrev pub links_put : ℕ → List Link → Cell → Cell
 links_put p ls c = with_nodes (set c.nodes p (node_linked ls (node_at c.nodes p))) c
@@ -66,10 +42,6 @@ no_junction = record { x = 0; y = 0; low = 0; high = 0; width = 0; height = 0; v
 
 abbrev pub junction_at : List Junction → ℕ → Junction
 junction_at js p = get_or js p no_junction
-
-abbrev pub junction_mapped : ℕ → ℕ → List ℕ → Junction → Junction
-junction_mapped width height vs j =
-    record { x = j.x; y = j.y; low = j.low; high = j.high; width = width; height = height; values = vs }
 
 abbrev pub heightmap_put : ℕ → ℕ → ℕ → List ℕ → Cell → Cell
 heightmap_put p width height vs c =

@@ -10,7 +10,7 @@ use Rattle.cells.specs.Blocks.{heights_block}
 use Rattle.std.specs.Prelude.{Result, Ok}
 use Rattle.numbers.specs.declared.refusal.Refusal.{Refusal}
 use Rattle.numbers.specs.declared.refusal.Refusal.TheVariants.{TooManyRefs, WrongSize, AtLimit}
-use Rattle.cells.specs.declared.count.Counts.{Counts}
+use Rattle.cells.specs.declared.counts.Counts.{Counts}
 
 -- of the cell h
 unfoldable pub write_counts : Memory → Result Counts Refusal

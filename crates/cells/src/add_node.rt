@@ -4,7 +4,7 @@ ghost use Rattle.cells.specs.Memory.{memory, left};
 ghost use Rattle.cells.specs.Add.{add_node};
 
 use crate::node::{NodeWords, PathNode};
-use crate::room_check::room_for;
+use crate::room::room_for;
 use crate::ynd::Ynd;
 use numbers::math::Vec3;
 use numbers::refusal::{Lent, Refusal};

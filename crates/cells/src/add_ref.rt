@@ -4,7 +4,7 @@ ghost use Rattle.cells.specs.Memory.{memory, left};
 ghost use Rattle.cells.specs.Add.{add_ref};
 
 use crate::junction_ref::{RefWords, ref_words};
-use crate::room_check::room_for;
+use crate::room::room_for;
 use crate::ynd::Ynd;
 use numbers::refusal::{Lent, Refusal};
 use records::junction_ref::NodeJunctionRef;

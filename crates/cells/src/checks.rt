@@ -5,7 +5,7 @@ ghost use Rattle.cells.specs.Checks.{sizes_check, scan, total_of, arrays_check};
 ghost use Rattle.cells.specs.RangedParts.{outside};
 
 use crate::arrays::FileBytes;
-use crate::count::Counts;
+use crate::counts::Counts;
 use crate::ranged::Ranged;
 use numbers::refusal::Refusal;
 

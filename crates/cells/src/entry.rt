@@ -53,11 +53,7 @@ pub(crate) fn node_entry(ynd: Ynd, nodes: &[NodeWords], place: usize) -> Result<
 }
 
 #[tactic(auto, unfolding(crate::specs::Edit::junction_entry))]
-pub(crate) fn junction_entry(
-    ynd: Ynd,
-    junctions: &[JunctionWords],
-    place: usize,
-) -> Result<usize, Refusal>
+pub fn junction_entry(ynd: Ynd, junctions: &[JunctionWords], place: usize) -> Result<usize, Refusal>
     ensures value { result ≡ junction_entry ynd junctions.now place }
     ensures inside { IfOk result (λ i. i < length junctions.now) }
 {

@@ -9,7 +9,7 @@ use numbers::math::Vec2;
 pub type JunctionWords = [u32; 6];
 
 // Its heightmap is width * height of the lent values, from heightmap_ptr on.
-#[derive(Clone, Copy)]
+#[derive(Clone, Copy, Default)]
 pub struct PathJunction {
     pub position: Vec2,
     pub min_z: f32,

@@ -5,7 +5,7 @@ ghost use Rattle.cells.specs.Words.{to_link, link_words};
 // The words of a link or a ref.
 pub type LinkWords = [u16; 4];
 
-#[derive(Clone, Copy)]
+#[derive(Clone, Copy, Default)]
 pub struct PathLink {
     pub area_id: u16,
     pub node_id: u16,

@@ -20,10 +20,7 @@ impl PathLink {
         PathLink {
             area_id,
             node_id,
-            flags0: 0,
-            flags1: 0,
-            flags2: 0,
-            length: 0,
+            ..PathLink::default()
         }
     }
 

@@ -10,7 +10,7 @@ use crate::area::{own_area, ref_for};
 use crate::junction_ref::RefWords;
 use crate::node::NodeWords;
 use crate::node_words::{area_of, number_of};
-use crate::room::over_limit;
+use crate::room::own_nodes;
 use crate::ynd::Ynd;
 use numbers::refusal::{Lent, Refusal};
 
@@ -19,17 +19,8 @@ use numbers::refusal::{Lent, Refusal};
 pub fn area_id(ynd: Ynd, nodes: &[NodeWords]) -> Result<Option<u32>, Refusal>
     ensures { result ≡ area_id_call ynd nodes.now }
 {
-    if over_limit(ynd) {
-        return Err(Refusal::AtLimit);
-    }
-    let n = ynd.node_count as usize;
-    if nodes.len() < n {
-        return Err(Refusal::TooShort(Lent::Nodes));
-    }
-    if n == 0 {
-        return Ok(None);
-    }
-    Ok(Some(area_of(nodes[0]) as u32))
+    let own = own_nodes(ynd, nodes)?;
+    Ok(own.first().map(|w| area_of(*w) as u32))
 }
 
 // The node at the place of that number if it has it, else the first that has it.
@@ -49,14 +40,8 @@ fn find_in(nodes: &[NodeWords], node_id: u16) -> Option<usize>
 pub fn node(ynd: Ynd, nodes: &[NodeWords], node_id: u16) -> Result<Option<usize>, Refusal>
     ensures { result ≡ node_call ynd nodes.now node_id }
 {
-    if over_limit(ynd) {
-        return Err(Refusal::AtLimit);
-    }
-    let n = ynd.node_count as usize;
-    if nodes.len() < n {
-        return Err(Refusal::TooShort(Lent::Nodes));
-    }
-    Ok(find_in(&nodes[..n], node_id))
+    let own = own_nodes(ynd, nodes)?;
+    Ok(find_in(own, node_id))
 }
 
 fn ref_matches(w: RefWords, own: u16, area_id: u16, node_id: u16) -> bool
@@ -85,18 +70,10 @@ pub fn junction_of(
 ) -> Result<Option<usize>, Refusal>
     ensures { result ≡ junction_of_call ynd nodes.now refs.now area_id node_id }
 {
-    if over_limit(ynd) {
-        return Err(Refusal::AtLimit);
-    }
-    let n = ynd.node_count as usize;
-    let r = ynd.ref_count as usize;
-    if nodes.len() < n {
-        return Err(Refusal::TooShort(Lent::Nodes));
-    }
-    if refs.len() < r {
-        return Err(Refusal::TooShort(Lent::Refs));
-    }
-    let own = own_area(nodes, n);
-    let first = first_ref(&refs[..r], own, area_id, node_id);
+    let own = own_nodes(ynd, nodes)?;
+    let refs = refs
+        .get(..ynd.ref_count as usize)
+        .ok_or(Refusal::TooShort(Lent::Refs))?;
+    let first = first_ref(refs, own_area(own, own.len()), area_id, node_id);
     Ok(first.filter(|j| *j < ynd.junction_count as usize))
 }

@@ -1,20 +1,18 @@
-// A node in memory, thirteen words.
+// A node in memory.
 ghost use Rattle.std.specs.Prelude.{◌≡◌};
 ghost use Rattle.cells.specs.Words.{to_node, node_words};
 ghost use Rattle.numbers.specs.Positions.{quantised, dequantised};
 ghost use Rattle.cells.specs.NodeAccess.{new_node, with_position};
 
+pub use crate::node_words::NodeWords;
 use crate::node_words::{area_of, number_of};
 use numbers::bits::{bits_of, float_of};
 use numbers::math::Vec3;
 use numbers::position::stored_position;
 
-// The words of a node.
-pub type NodeWords = [u32; 13];
-
 // Its links are link_count entries of the lent links, from link_id on. The five unused fields of the file's record are
 // the client's: they are kept with the node.
-#[derive(Clone, Copy)]
+#[derive(Clone, Copy, Default)]
 pub struct PathNode {
     pub area_id: u16,
     pub node_id: u16,
@@ -48,6 +46,7 @@ impl From<NodeWords> for PathNode {
         };
         let [flags0, flags1, flags2, flags3] = w[5].to_le_bytes();
         let [flags4, flags5, link_count, _] = w[6].to_le_bytes();
+        let [low, high, _, _] = w[12].to_le_bytes();
         PathNode {
             area_id: area_of(w),
             node_id: number_of(w),
@@ -65,7 +64,7 @@ impl From<NodeWords> for PathNode {
             unused1: w[9],
             unused2: w[10],
             unused3: w[11],
-            unused4: (w[12] % 65536) as u16,
+            unused4: u16::from_le_bytes([low, high]),
         }
     }
 }
@@ -101,25 +100,11 @@ impl PathNode {
     pub fn new(area_id: u16, node_id: u16, position: Vec3) -> PathNode
         ensures { result ≡ new_node area_id node_id (dequantised (quantised position)) }
     {
-        let position = stored_position(position);
         PathNode {
             area_id,
             node_id,
-            street_name: 0,
-            position,
-            flags0: 0,
-            flags1: 0,
-            flags2: 0,
-            flags3: 0,
-            flags4: 0,
-            flags5: 0,
-            link_id: 0,
-            link_count: 0,
-            unused0: 0,
-            unused1: 0,
-            unused2: 0,
-            unused3: 0,
-            unused4: 0,
+            position: stored_position(position),
+            ..PathNode::default()
         }
     }
 

@@ -1,21 +1,23 @@
-// What renumbering reads and writes of a node's words.
+// A node's words, and what renumbering reads and writes of them.
 ghost use Rattle.std.specs.Prelude.{◌≡◌};
 ghost use Rattle.cells.specs.NodeWords.{area_of, number_of, is_ped, ped_kind, numbered};
 
-use crate::node::NodeWords;
+// The words of a node.
+pub type NodeWords = [u32; 13];
 
 #[tactic(auto, unfolding(crate::specs::NodeWords::area_of))]
 pub fn area_of(w: NodeWords) -> u16
     ensures { result ≡ area_of w }
 {
-    (w[0] % 65536) as u16
+    let [low, high, _, _] = w[0].to_le_bytes();
+    u16::from_le_bytes([low, high])
 }
 
 #[tactic(auto, unfolding(crate::specs::NodeWords::number_of))]
 pub fn number_of(w: NodeWords) -> u16
     ensures { result ≡ number_of w }
 {
-    (w[0] / 65536 % 65536) as u16
+    (w[0] >> 16) as u16
 }
 
 // Whether the upper five bits of flags1 are a ped node's.

@@ -9,7 +9,7 @@ ghost use Rattle.cells.specs.Words.{path_node, path_junction, node_words, juncti
 ghost use Rattle.numbers.specs.declared.refusal.Refusal.{Refusal};
 ghost use Rattle.numbers.specs.declared.refusal.Refusal.TheVariants.{LinksOutside, ValuesOutside};
 
-use crate::fill::{copy_links, copy_values, record};
+use crate::copy::{copy_links, copy_values, record};
 use crate::from_file::{path_junction, path_node};
 use crate::junction::JunctionWords;
 use crate::link::LinkWords;

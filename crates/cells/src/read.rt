@@ -6,7 +6,7 @@ ghost use Rattle.cells.specs.Read.{cell_read, filled, read_arrays, read_of};
 
 use crate::arrays::{FileBytes, find_arrays};
 use crate::checks::{check_arrays, check_sizes};
-use crate::count::{Counts, lengths};
+use crate::counts::{Counts, lengths};
 use crate::fill::{fill_ranges, fill_refs};
 use crate::junction::JunctionWords;
 use crate::junction_ref::RefWords;

@@ -5,14 +5,14 @@ ghost use Rattle.cells.specs.NodeWords.{is_ped, is_vehicle, old_of, relinked, re
 ghost use Rattle.cells.specs.Order.{keep, new_places};
 ghost use Rattle.cells.specs.Renumber.{renumbered_by, recounted, answer_of, renumber, scratch_left};
 
-use crate::count::{Counts, lengths};
+use crate::counts::{Counts, lengths};
 use crate::junction::JunctionWords;
 use crate::link::LinkWords;
 use crate::node::NodeWords;
 use crate::order::{count_vehicles, fill_places};
 use crate::permute::move_nodes;
 use crate::relink::relink_lists;
-use crate::room::over_limit;
+use crate::room::{check_lent, over_limit};
 use crate::ynd::Ynd;
 use numbers::refusal::{Lent, Refusal};
 
@@ -51,7 +51,7 @@ fn check_call(ynd: Ynd, lent: Counts, scratch: usize, places: usize) -> Result<(
     if over_limit(ynd) {
         return Err(Refusal::AtLimit);
     }
-    lent.hold(ynd.counts())?;
+    check_lent(ynd, lent)?;
     if scratch < 65536 {
         return Err(Refusal::TooShort(Lent::Scratch));
     }

@@ -17,19 +17,10 @@ fn new_root() -> Root
     let unknowns = y.unknowns;
     Root {
         vft: y.vft,
-        nodes: 0,
-        node_count: 0,
         vehicle_node_count: y.vehicle_node_count,
         ped_node_count: y.ped_node_count,
-        links: 0,
-        link_count: 0,
-        junctions: 0,
-        heightmap: 0,
-        refs: 0,
-        ref_count: 0,
-        junction_count: 0,
-        heightmap_count: 0,
         unknowns,
+        ..Root::default()
     }
 }
 

@@ -8,7 +8,8 @@ use crate::range::{link_count, link_start};
 fn with_count(w: u32, c: u8) -> u32
     ensures { result ≡ w % 65536 + c * 65536 }
 {
-    w % 65536 + c as u32 * 65536
+    let [flags4, flags5, _, _] = w.to_le_bytes();
+    u32::from_le_bytes([flags4, flags5, c, 0])
 }
 
 // The node with c links from s.

@@ -102,11 +102,6 @@ impl NodeSpeed {
     pub fn value(self) -> u8
         ensures { result ≡ speed_value self }
     {
-        match self {
-            NodeSpeed::Slow => 0,
-            NodeSpeed::Normal => 1,
-            NodeSpeed::Fast => 2,
-            NodeSpeed::Faster => 3,
-        }
+        self as u8
     }
 }

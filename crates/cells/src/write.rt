@@ -9,19 +9,19 @@ ghost use Rattle.cells.specs.Write.{left, stored, write_call};
 ghost use Rattle.cells.specs.WriteCounts.{Counted};
 
 use crate::blocks::{pad, put_heights, put_junctions, put_links, put_nodes, put_records};
-use crate::count::{Counts, lengths};
+use crate::counts::{Counts, lengths};
 use crate::held::Held;
 use crate::junction::JunctionWords;
 use crate::junction_ref::RefWords;
 use crate::link::LinkWords;
 use crate::node::NodeWords;
-use crate::room::check_lengths;
+use crate::room::check_lent;
 use crate::to_file::ref_record;
 use crate::write_checks::write_counts;
 use crate::ynd::Ynd;
 use numbers::refusal::{Lent, Refusal};
 use records::layout::{
-    HEADER_SIZE, JUNCTION_SIZE, LINK_SIZE, NODE_SIZE, Places, REF_SIZE, lay_out, put_header,
+    Blocks, HEADER_SIZE, JUNCTION_SIZE, LINK_SIZE, NODE_SIZE, Places, REF_SIZE, lay_out, put_header,
 };
 use records::root::Root;
 
@@ -31,13 +31,13 @@ pub(crate) fn places_for(k: Counts) -> Places
         × (k.heights < 4294967296) × (k.refs < 4294967296) }
     ensures { result ≡ places_of (sizes k.refs k.heights k.junctions k.links k.nodes) }
 {
-    lay_out(
-        k.refs as u32,
-        k.heights as u32,
-        k.junctions as u32,
-        k.links as u32,
-        k.nodes as u32,
-    )
+    lay_out(Blocks {
+        refs: k.refs as u32,
+        heightmap: k.heights as u32,
+        junctions: k.junctions as u32,
+        links: k.links as u32,
+        nodes: k.nodes as u32,
+    })
 }
 
 fn root_for(ynd: Ynd, k: Counts, places: Places) -> Root
@@ -129,6 +129,6 @@ pub fn write(
 {
     let h = Held::new(ynd, nodes, links, junctions, heights, refs);
     let k = write_counts(h)?;
-    check_lengths(ynd, lengths(nodes, links, junctions, heights, refs))?;
+    check_lent(ynd, lengths(nodes, links, junctions, heights, refs))?;
     store(h, k, section)
 }

@@ -4,7 +4,7 @@ ghost use Rattle.cells.specs.WriteChecks.{links_within, values_within, maps_cut,
 ghost use Rattle.cells.specs.WriteCounts.{write_counts, Counted};
 ghost use Rattle.cells.specs.Held.{memory_of};
 
-use crate::count::Counts;
+use crate::counts::Counts;
 use crate::held::Held;
 use crate::junction::JunctionWords;
 use crate::node::NodeWords;

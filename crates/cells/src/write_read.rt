@@ -7,14 +7,14 @@ ghost use Rattle.cells.specs.BackAnswer.{back_answer};
 ghost use Rattle.cells.specs.WriteRead.{both, write_read_of};
 
 use crate::arrays::find_arrays;
-use crate::count::{Counts, lengths};
+use crate::counts::{Counts, lengths};
 use crate::held::Held;
 use crate::junction::JunctionWords;
 use crate::junction_ref::RefWords;
 use crate::link::LinkWords;
 use crate::node::NodeWords;
 use crate::read::fill_lists;
-use crate::room::check_lengths;
+use crate::room::check_lent;
 use crate::root::read_root;
 use crate::write::{places_for, store};
 use crate::write_checks::write_counts;
@@ -37,7 +37,7 @@ fn check_back(h: Held, lent: Counts, section: usize) -> Result<Counts, Refusal>
         × (k.junctions ≤ lent.junctions) × (k.heights ≤ lent.heights) × (k.refs ≤ lent.refs)) }
 {
     let k = write_counts(h)?;
-    check_lengths(h.ynd, lent)?;
+    check_lent(h.ynd, lent)?;
     if section < places_for(k).total {
         return Err(Refusal::TooShort(Lent::Section));
     }

@@ -4,7 +4,7 @@ ghost use Rattle.cells.specs.NewYnd.{new_ynd};
 ghost use Rattle.cells.specs.RenumberParts.{counts_of};
 ghost use Rattle.cells.specs.OwnWords.{with_vft, with_vehicles, with_peds, with_unknowns};
 
-use crate::count::Counts;
+use crate::counts::Counts;
 
 pub const NODE_DICTIONARY_VFT: u32 = 0x4061_E3B0;
 

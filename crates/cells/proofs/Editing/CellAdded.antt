@@ -18,7 +18,8 @@ use Rattle.cells.specs.NodeWords.{area_of, number_of, value_start, value_count}
 use Rattle.cells.specs.NodeAccess.{new_node}
 use Rattle.cells.specs.Words.{to_node, node_words, link_words, junction_words, ref_words}
 use Rattle.cells.specs.Cell.{Link, Node, Junction}
-use Rattle.cells.specs.CellOf.{link_of, ref_of, body_of, node_with, junction_with, nodes_of, junctions_of, refs_of}
+use Rattle.cells.specs.CellOf.{link_of, ref_of, node_with, junction_with, nodes_of, junctions_of, refs_of}
+use Rattle.cells.specs.Cell.{body_of}
 use Rattle.cells.specs.CellOf.{cell_of}
 use Rattle.cells.specs.Memory.{Memory, memory, over_limit}
 use Rattle.cells.specs.Edit.{start_at}

@@ -21,8 +21,10 @@ use Rattle.cells.specs.Truncate.{fewer, counted, fewer_nodes, fewer_junctions, f
 use Rattle.cells.specs.Truncate.{truncate_junctions, truncate_refs}
 use Rattle.cells.specs.PutLinks.{links_after, links_start, links_call, links_stored, put_links}
 use Rattle.cells.specs.PutHeightmap.{values_held, values_after, map_start, map_call, map_stored, mapped, put_heightmap}
-use Rattle.cells.specs.StoredCell.{vft_put, vehicles_put, peds_put, unknowns_put, node_linked, links_put, no_junction}
-use Rattle.cells.specs.StoredCell.{junction_at, junction_mapped, heightmap_put}
+use Rattle.cells.specs.StoredCell.{vft_put, vehicles_put, peds_put, unknowns_put, links_put, no_junction}
+use Rattle.cells.specs.EditedCell.{node_linked}
+use Rattle.cells.specs.StoredCell.{junction_at, heightmap_put}
+use Rattle.cells.specs.EditedCell.{junction_mapped}
 use Rattle.std.proofs.lemmas.List.{take-map}
 use Rattle.cells.proofs.Editing.EditLaws.{held_bound}
 use Rattle.cells.proofs.Editing.AddLaws.{done_memory}
@@ -91,13 +93,13 @@ module _ (m : Memory) (k : ℕ) where
 
 -- ---- all links of a node
 
-range_count : (s c : ℕ) (w : List ℕ) → c < 256 → link_count (ranged s c w) ≡ c
+pub ranged_count : (s c : ℕ) (w : List ℕ) → c < 256 → link_count (ranged s c w) ≡ c
 unfolding ranged
-range_count s c w h = omega arith
+ranged_count s c w h = omega arith
 
-range_start : (s c : ℕ) (w : List ℕ) → link_start (ranged s c w) ≡ s
+pub ranged_start : (s c : ℕ) (w : List ℕ) → link_start (ranged s c w) ≡ s
 unfolding ranged
-range_start s c w = refl
+ranged_start s c w = refl
 
 -- only the range is another
 node_linked_law : (s c : ℕ) (w : List ℕ) (ls : List Link) → c < 256 → with_links (ranged s c w) ls ≡ with_links w ls
@@ -128,21 +130,21 @@ links_put_law m p new beside e =
     let g = ap (λ (t : List Link). map (node_with t) (take n (set m.nodes p (ranged at c w)))) pool
     ∙ replaced link_start link_count with_links n l p c m.nodes ls (map link_of new) r.place r.nodes_fit
     (length-map (take l m.links) link_of ∙ length-take-le l m.links fits) (length-map new link_of) beside
-    (ranged at c w) (node_linked (map link_of new) (node_at (nodes_of m) p)) (range_start at c w)
-    (range_count at c w few)
+    (ranged at c w) (node_linked (map link_of new) (node_at (nodes_of m) p)) (ranged_start at c w)
+    (ranged_count at c w few)
     own in
     ap cell_of d.1 ∙ (λ i. with_nodes (g i) (cell_of m))
 
 -- ---- a heightmap
 
-map_count : (width height s : ℕ) (w : List ℕ) → width < 256 → height < 256 → value_count (mapped width height s w)
-    ≡ width * height
+pub mapped_count : (width height s : ℕ) (w : List ℕ) → width < 256 → height < 256
+    → value_count (mapped width height s w) ≡ width * height
 unfolding mapped
-map_count width height s w hw hh = λ i. low8 width height hw i * high8 width height hw hh i
+mapped_count width height s w hw hh = λ i. low8 width height hw i * high8 width height hw hh i
 
-map_start_law : (width height s : ℕ) (w : List ℕ) → value_start (mapped width height s w) ≡ s
+pub mapped_start : (width height s : ℕ) (w : List ℕ) → value_start (mapped width height s w) ≡ s
 unfolding mapped
-map_start_law width height s w = refl
+mapped_start width height s w = refl
 
 junction_mapped_law : (width height s : ℕ) (w vs : List ℕ) → width < 256 → height < 256
     → with_values (mapped width height s w) vs ≡ junction_mapped width height vs (with_values w vs)
@@ -182,6 +184,6 @@ heightmap_put_law m p width height values hw hh beside e =
     ∙ replaced value_start value_count with_values n h p c m.junctions hs values r.place r.junctions_fit
     (length-take-le h m.heights fits) refl beside
     (mapped width height at w) (junction_mapped width height values (junction_at (junctions_of m) p))
-    (map_start_law width height at w)
-    (map_count width height at w hw hh ∙ sym r.sized) own in
+    (mapped_start width height at w)
+    (mapped_count width height at w hw hh ∙ sym r.sized) own in
     ap cell_of d.1 ∙ (λ i. with_junctions (g i) (cell_of m))

@@ -19,9 +19,11 @@ use Rattle.cells.specs.NodeWords.{area_of, number_of, link_start, link_count, va
 use Rattle.cells.specs.NodeAccess.{changed, with_position}
 use Rattle.cells.specs.Words.{to_node, node_words, junction_words, ref_words}
 use Rattle.cells.specs.Cell.{Link, Node, no_node, node_at}
-use Rattle.cells.specs.CellOf.{link_of, ref_of, body_of, node_with, junction_with, nodes_of, junctions_of, refs_of}
+use Rattle.cells.specs.CellOf.{link_of, ref_of, node_with, junction_with, nodes_of, junctions_of, refs_of}
+use Rattle.cells.specs.Cell.{body_of}
 use Rattle.cells.specs.CellOf.{cell_of}
-use Rattle.cells.specs.CellOf.{bits_of, marks_of}
+use Rattle.cells.specs.CellOf.{bits_of}
+use Rattle.cells.specs.Cell.{marks_of}
 use Rattle.cells.specs.Memory.{Memory, memory, over_limit}
 use Rattle.cells.specs.Edit.{entry_at, node_entry, ref_entry, change_at, range_kept, put_node, set_position}
 use Rattle.cells.specs.Edit.{put_ref, value_range, start_at, sized_entry, put_junction}

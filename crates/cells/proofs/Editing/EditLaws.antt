@@ -1,14 +1,20 @@
 -- What is known of an entry that a place names, and of how many entries of a range are held.
 use Prim.Native.Nat.{ℕ, ◌-◌, ◌<◌, ◌≤◌}
 use native.Mathlib.Omega.{arith}
-use mathlib.Core.Path.{◌≡◌, refl}
+use mathlib.Core.Path.{◌≡◌, refl, sym}
 use mathlib.Core.Bool.{Bool, false, ◌&&◌}
 use mathlib.Core.List.{List, [], ◌∷◌}
-use lib.Dec.{ltb}
+use lib.Dec.{ltb, leb}
 use lib.ListN.{length, get_or, set, drop}
-use borrow.Author.Tests.{lt-ltb}
+use borrow.Author.Tests.{lt-ltb, leb-false, ltb-false}
 use Rattle.cells.specs.declared.range.Range.{Range}
-use Rattle.cells.specs.Edit.{held_in}
+use Rattle.cells.specs.Edit.{held_in, junction_entry, entry_at}
+use Rattle.cells.specs.Memory.{over_limit}
+use Rattle.cells.specs.declared.ynd.Ynd.{Ynd}
+use Rattle.std.specs.Prelude.{Result, Ok}
+use Rattle.numbers.specs.declared.refusal.Refusal.{Refusal}
+use Rattle.numbers.proofs.Refusing.{not_refused}
+use Rattle.cells.proofs.Sequences.Tests.{by_test}
 
 -- a test of a lent place that does not fit
 pub lent_false : (p len : ℕ) (b : Bool) → p < len → ltb p len && b ≡ false → b ≡ false
@@ -43,3 +49,21 @@ map_stored (a ∷ b ∷ c ∷ []) x y l = absurd (omega arith)
 map_stored (a ∷ b ∷ c ∷ d ∷ []) x y l = absurd (omega arith)
 map_stored (a ∷ b ∷ c ∷ d ∷ e ∷ []) x y l = absurd (omega arith)
 map_stored (a ∷ b ∷ c ∷ d ∷ e ∷ f ∷ rest) x y l = refl
+
+-- the junction that a place names
+pub entry_held : (y : Ynd) (junctions : List (List ℕ)) (p i : ℕ) → Ok i ≡ junction_entry y junctions p
+    → (i < y.junction_count) × (i < length junctions)
+unfolding junction_entry entry_at
+entry_held y junctions p i e =
+    by_test (leb y.junction_count p) (λ t. not_refused (sym (rw t at e))) (λ f₀.
+    by_test (over_limit y) (λ t. not_refused (sym (rw (f₀, t) at e))) (λ o.
+    by_test (ltb (length junctions) y.junction_count) (λ t. not_refused (sym (rw (f₀, o, t) at e))) (λ f₁.
+    let q : ◌≡◌ {A = Result ℕ Refusal} (Ok i) (Ok p) = rw (f₀, o, f₁) at e in
+    let same : i ≡ p = cc in (
+      omega (arith, leb-false y.junction_count p f₀),
+      omega (
+        arith,
+        leb-false y.junction_count p f₀,
+        ltb-false (length junctions) y.junction_count f₁,
+      ),
+    ))))

@@ -13,8 +13,9 @@ use lib.Seq.{take-take, get_or-drop}
 use borrow.Author.Tests.{ne_eqb, ltb-true, ltb-false, leb-true, leb-false, eqb-true, eqb-false}
 use Rattle.cells.specs.NodeWords.{area_of, number_of, link_start, link_count}
 use Rattle.cells.specs.Cell.{Link, Node, no_node, node_at}
-use Rattle.cells.specs.CellOf.{link_of, body_of, node_with}
-use Rattle.cells.specs.CellOf.{bits_in}
+use Rattle.cells.specs.CellOf.{link_of, node_with}
+use Rattle.cells.specs.Cell.{body_of}
+use Rattle.cells.specs.Cell.{bits_in}
 use Rattle.cells.specs.Words.{to_node}
 use Rattle.cells.specs.Edit.{held_in}
 use Rattle.cells.specs.AddLink.{held_at, behind, at_in, inserted, ranged, shifted, nodes_after}
@@ -194,6 +195,42 @@ own_links P s c y = go (held s c (length P)) refl
         ∙ part_own (behind s e (length P) - e) e (behind s e (length P)) y P (omega (arith, b.1)) b.0
         ∙ ap (λ (t : List Link). t ++ (y ∷ [])) (own_before P s c e q ∙ part_held s c P)
 
+-- ---- the words afterwards
+
+module _ (n l p : ℕ) (nodes : List (List ℕ)) (place : p < n) (nodes-fit : n ≤ length nodes) where
+  abbrev moved_to : ℕ
+  moved_to = at_in nodes p l
+
+  abbrev moved_own : List ℕ
+  moved_own = get_or nodes p []
+
+  pub moved_long : length (map (shifted moved_to l) (take n nodes)) ≡ n
+  moved_long = length-map (take n nodes) (shifted moved_to l) ∙ length-take-le n nodes nodes-fit
+
+  pub word_own : get_or (nodes_after n l p nodes) p []
+      ≡ ranged (moved_to - held_at nodes p l) (held_at nodes p l + 1) moved_own
+  unfolding nodes_after
+  word_own = get_or-set_same (map (shifted moved_to l) (take n nodes) ++ drop n nodes) p
+      (ranged (moved_to - held_at nodes p l) (held_at nodes p l + 1) moved_own) []
+      (omega (arith, length-append (map (shifted moved_to l) (take n nodes)) (drop n nodes), moved_long))
+
+  pub word_other : (q : ℕ) → q < n → (q ≡ p → ⊥) → get_or (nodes_after n l p nodes) q []
+      ≡ shifted moved_to l (get_or nodes q [])
+  unfolding nodes_after
+  word_other q lt ne =
+      get_or-set_other (map (shifted moved_to l) (take n nodes) ++ drop n nodes) p q
+      (ranged (moved_to - held_at nodes p l) (held_at nodes p l + 1) moved_own) [] ne
+      ∙ get_or-append (map (shifted moved_to l) (take n nodes)) (drop n nodes) [] q (omega (arith, moved_long))
+      ∙ get_or-map (shifted moved_to l) (take n nodes) q [] [] (omega (arith, length-take-le n nodes nodes-fit))
+      ∙ ap (shifted moved_to l) (get_or-take n nodes q [] lt)
+
+  pub after_long : length (nodes_after n l p nodes) ≡ length nodes
+  unfolding nodes_after
+  after_long = length-set (map (shifted moved_to l) (take n nodes) ++ drop n nodes) p
+      (ranged (moved_to - held_at nodes p l) (held_at nodes p l + 1) moved_own)
+      ∙ length-append (map (shifted moved_to l) (take n nodes)) (drop n nodes)
+      ∙ omega (arith, moved_long, length-drop n nodes)
+
 -- ---- the whole
 
 module _ (n l p : ℕ) (nodes links : List (List ℕ)) (x : List ℕ) (place : p < n) (nodes-fit : n ≤ length nodes)
@@ -233,32 +270,6 @@ module _ (n l p : ℕ) (nodes links : List (List ℕ)) (x : List ℕ) (place : p
       rw f (⊎_elim (λ h. inl (omega arith)) (λ h. inr (h, omega (arith, apart.inside q lt ne some)))
       (apart.apart q lt ne some (omega arith))))
 
-  -- the words afterwards
-  moved_long : length (map (shifted at l) (take n nodes)) ≡ n
-  moved_long = length-map (take n nodes) (shifted at l) ∙ length-take-le n nodes nodes-fit
-
-  word_own : get_or (nodes_after n l p nodes) p [] ≡ ranged (at - held_at nodes p l) (held_at nodes p l + 1) own
-  unfolding nodes_after
-  word_own = get_or-set_same (map (shifted at l) (take n nodes) ++ drop n nodes) p
-      (ranged (at - held_at nodes p l) (held_at nodes p l + 1) own) []
-      (omega (arith, length-append (map (shifted at l) (take n nodes)) (drop n nodes), moved_long))
-
-  word_other : (q : ℕ) → q < n → (q ≡ p → ⊥) → get_or (nodes_after n l p nodes) q [] ≡ shifted at l (get_or nodes q [])
-  unfolding nodes_after
-  word_other q lt ne =
-      get_or-set_other (map (shifted at l) (take n nodes) ++ drop n nodes) p q
-      (ranged (at - held_at nodes p l) (held_at nodes p l + 1) own) [] ne
-      ∙ get_or-append (map (shifted at l) (take n nodes)) (drop n nodes) [] q (omega (arith, moved_long))
-      ∙ get_or-map (shifted at l) (take n nodes) q [] [] (omega (arith, length-take-le n nodes nodes-fit))
-      ∙ ap (shifted at l) (get_or-take n nodes q [] lt)
-
-  after_long : length (nodes_after n l p nodes) ≡ length nodes
-  unfolding nodes_after
-  after_long = length-set (map (shifted at l) (take n nodes) ++ drop n nodes) p
-      (ranged (at - held_at nodes p l) (held_at nodes p l + 1) own)
-      ∙ length-append (map (shifted at l) (take n nodes)) (drop n nodes)
-      ∙ omega (arith, moved_long, length-drop n nodes)
-
   -- the nodes before and afterwards
   abbrev before : List Node
   before = nodes_over n nodes l links
@@ -274,12 +285,16 @@ module _ (n l p : ℕ) (nodes links : List (List ℕ)) (x : List ℕ) (place : p
       ≡ node_with (ins at (link_of x) pool) (get_or (nodes_after n l p nodes) q [])
   after_at q lt =
       get_or-map (node_with (map link_of (take (l + 1) (inserted at l x links)))) (take n (nodes_after n l p nodes))
-      q [] no_node (omega (arith, length-take-le n (nodes_after n l p nodes) (omega (arith, after_long))))
+      q [] no_node (omega (
+        arith,
+        length-take-le n (nodes_after n l p nodes)
+            (omega (arith, after_long n l p nodes place nodes-fit)),
+      ))
       ∙ (λ i. node_with (pool_new i) (get_or-take n (nodes_after n l p nodes) q [] lt i))
 
   node_own : get_or after p no_node ≡ with_link (link_of x) (node_at before p)
   node_own =
-      after_at p place ∙ ap (node_with (ins at (link_of x) pool)) word_own
+      after_at p place ∙ ap (node_with (ins at (link_of x) pool)) (word_own n l p nodes place nodes-fit)
       ∙ node_ranged (ins at (link_of x) pool) (at - held_at nodes p l) (held_at nodes p l + 1) own (omega arith)
       ∙ ap (λ (ls : List Link). with_links own ls) links_own
       ∙ sym (ap (with_link (link_of x)) (before_at p place))
@@ -290,7 +305,7 @@ module _ (n l p : ℕ) (nodes links : List (List ℕ)) (x : List ℕ) (place : p
 
   node_other : (q : ℕ) → q < n → (q ≡ p → ⊥) → get_or after q no_node ≡ node_at before q
   node_other q lt ne =
-      after_at q lt ∙ ap (node_with (ins at (link_of x) pool)) (word_other q lt ne)
+      after_at q lt ∙ ap (node_with (ins at (link_of x) pool)) ((word_other n l p nodes place nodes-fit) q lt ne)
       ∙ (rw pool_long at (other pool at (link_of x) (omega (arith, at_few.0, pool_long)) (omega (arith, pool_long))
       (get_or nodes q []) (λ h. rw pool_long (lies q lt ne h))))
       ∙ sym (before_at q lt)
@@ -301,7 +316,7 @@ module _ (n l p : ℕ) (nodes links : List (List ℕ)) (x : List ℕ) (place : p
   nodes_long : length after ≡ n
   nodes_long = length-map (take n (nodes_after n l p nodes))
       (node_with (map link_of (take (l + 1) (inserted at l x links))))
-      ∙ length-take-le n (nodes_after n l p nodes) (omega (arith, after_long))
+      ∙ length-take-le n (nodes_after n l p nodes) (omega (arith, after_long n l p nodes place nodes-fit))
 
   -- the cell afterwards is the cell before, with one link more at the node
   pub link_added : after ≡ add_to p (link_of x) before

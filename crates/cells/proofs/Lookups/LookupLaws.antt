@@ -12,7 +12,7 @@ use lib.Seq.{take_all, length-take-le, get_or-take}
 use borrow.Author.Tests.{eq-eqb, ne_eqb, lt-ltb, le-ltb, ltb-false}
 use Rattle.cells.specs.NodeWords.{number_of, first_area}
 use Rattle.cells.specs.Cell.{numbers, first_of}
-use Rattle.cells.specs.Memory.{Memory, over_limit}
+use Rattle.cells.specs.Memory.{Memory, over_limit, nodes_causes}
 use Rattle.cells.specs.CellOf.{link_of, ref_of as to_ref, node_with, junction_with, nodes_of, junctions_of, refs_of}
 use Rattle.cells.specs.CellOf.{cell_of}
 use Rattle.cells.specs.Lookup.{first_with, find, ref_matches, ref_of, or_later, or_else_ref, junction_at, junction_of}
@@ -25,7 +25,7 @@ use Rattle.std.specs.Option.{option_map}
 use Rattle.std.proofs.lemmas.Iterator.Adapters.{position_from-zero}
 use native.Mathlib.Nat.{zero-add, add-zero}
 
-first_found : (xs : List ℕ) (k i : ℕ) → i < length xs → get_or xs i 0 ≡ k
+pub first_found : (xs : List ℕ) (k i : ℕ) → i < length xs → get_or xs i 0 ≡ k
     → ((j : ℕ) → j < i → get_or xs j 0 ≡ k → ⊥) → first_with xs k ≡ some i
 unfolding first_with
 first_found [] k i lt e h = absurd (omega arith)
@@ -33,7 +33,7 @@ first_found (x ∷ xs) k zero lt e h = rw (eq-eqb x k e)
 first_found (x ∷ xs) k (suc i) lt e h =
     rw (ne_eqb x k (h 0 (omega arith)), first_found xs k i (omega arith) e (λ j l. h (suc j) (omega arith)))
 
-first_none : (xs : List ℕ) (k : ℕ) → ((j : ℕ) → j < length xs → get_or xs j 0 ≡ k → ⊥) → first_with xs k ≡ none
+pub first_none : (xs : List ℕ) (k : ℕ) → ((j : ℕ) → j < length xs → get_or xs j 0 ≡ k → ⊥) → first_with xs k ≡ none
 unfolding first_with
 first_none [] k h = refl
 first_none (x ∷ xs) k h = rw (ne_eqb x k (h 0 (omega arith)), first_none xs k (λ j l. h (suc j) (omega arith)))
@@ -153,7 +153,7 @@ area_held m = first (take m.ynd.node_count m.nodes)
 -- `node` finds what the cell's nodes have
 pub node_held : (m : Memory) (k : ℕ) → over_limit m.ynd ≡ false → m.ynd.node_count ≤ length m.nodes
     → node_call m.ynd m.nodes k ≡ Ok (place_of (find (numbers (nodes_of m)) k))
-unfolding node_call find_in
+unfolding node_call find_in nodes_causes
 node_held m k o h = rw (o, le-ltb _ _ h) (ap (λ (ns : List ℕ). Ok (place_of (find ns k))) (sym (numbers_held m)))
 
 past_none : {A : Type 0} (l : List A) (j : ℕ) → length l ≤ j → get_elem? l j ≡ none
@@ -175,7 +175,7 @@ junctions_few m =
 pub junction_held : (m : Memory) (a k : ℕ) → over_limit m.ynd ≡ false → m.ynd.node_count ≤ length m.nodes
     → m.ynd.ref_count ≤ length m.refs
     → junction_of (cell_of m) a k ≡ at_place (junctions_of m) (junction_of_call m.ynd m.nodes m.refs a k)
-unfolding junction_of_call junction_of cell_of ref_in refs_of
+unfolding junction_of_call junction_of cell_of ref_in refs_of nodes_causes
 junction_held m a k o hn hr =
     rw (o, le-ltb _ _ hn, le-ltb _ _ hr)
     (ap (λ (own : ℕ). junction_at (junctions_of m) (ref_of own (map to_ref (take m.ynd.ref_count m.refs)) a k))

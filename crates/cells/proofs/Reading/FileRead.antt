@@ -21,17 +21,19 @@ use Rattle.cells.specs.Read.{links_from, values_from, node_in, links_in, junctio
 use Rattle.cells.specs.Read.{cell_read, filled, if_held, if_found, read_arrays, read_of}
 use Rattle.cells.specs.NodeWords.{area_of, number_of}
 use Rattle.cells.specs.Cell.{Link}
-use Rattle.cells.specs.CellOf.{link_of, ref_of, body_of, node_with, junction_with, nodes_of, junctions_of, refs_of}
+use Rattle.cells.specs.CellOf.{link_of, ref_of, node_with, junction_with, nodes_of, junctions_of, refs_of}
+use Rattle.cells.specs.Cell.{body_of}
 use Rattle.cells.specs.CellOf.{cell_of}
 use Rattle.cells.specs.Words.{to_node}
-use Rattle.cells.specs.CellOf.{bits_of, marks_of}
+use Rattle.cells.specs.CellOf.{bits_of}
+use Rattle.cells.specs.Cell.{marks_of}
 use Rattle.records.proofs.RecordBack.{NodeFits, node_fits_law}
 use Rattle.cells.proofs.Forms.Entries.{unstep_fits, byte0, byte1, byte2, byte3, low8, high8, low16, high16, half, word}
 use Rattle.cells.specs.FileCell.{file_link_of, file_ref_of, file_body, file_node_of, file_junction_of, file_nodes}
 use Rattle.cells.specs.FileCell.{file_junctions, file_refs, cell_from, cell_by, file_cell}
 use Rattle.records.specs.declared.root.Root.{Root}
 use Rattle.records.specs.declared.section.Part.{Part}
-use Rattle.cells.specs.declared.count.Counts.{Counts}
+use Rattle.cells.specs.declared.counts.Counts.{Counts}
 use Rattle.records.specs.declared.node.Node as raw-node
 use Rattle.std.proofs.lemmas.List.{take-map, drop-map, map-append}
 use Rattle.cells.proofs.Reading.ReadLaws.{length_up_to, length_join_to, own_part, length_links, length_values}
@@ -162,11 +164,11 @@ node_one n l count i h =
       body = file_body r;
     })
 
-width_small : (s : List ℕ) (at : ℕ) → (junction_at s at).heightmap_dim_x < 256
+pub width_small : (s : List ℕ) (at : ℕ) → (junction_at s at).heightmap_dim_x < 256
 unfolding junction_at
 width_small s at = omega arith
 
-height_small : (s : List ℕ) (at : ℕ) → (junction_at s at).heightmap_dim_y < 256
+pub height_small : (s : List ℕ) (at : ℕ) → (junction_at s at).heightmap_dim_y < 256
 unfolding junction_at
 height_small s at = omega arith
 

@@ -2,23 +2,14 @@
 -- Assumes nothing.
 use Prim.Native.Nat.{ℕ}
 use mathlib.Core.Path.{◌≡◌, refl}
-use mathlib.Core.List.{List, []}
+use mathlib.Core.List.{List}
 use Rattle.cells.specs.Memory.{memory}
 use Rattle.cells.specs.CellOf.{nodes_of, junctions_of, refs_of, cell_of}
-use Rattle.cells.specs.NewYnd.{new_ynd}
+use Rattle.cells.specs.NewYnd.{new_cell, new_ynd}
 
 pub new_empty :
     (nodes links junctions : List (List ℕ)) (heights : List ℕ) (refs : List (List ℕ))
     → cell_of (memory new_ynd nodes links junctions heights refs)
-    ≡ record {
-      nodes = [];
-      junctions = [];
-      refs = [];
-      vehicles = 0;
-      peds = 0;
-      vft = new_ynd.vft;
-      words =
-          new_ynd.unknowns;
-    }
+    ≡ new_cell
 unfolding new_ynd cell_of nodes_of junctions_of refs_of
 new_empty nodes links junctions heights refs = refl

@@ -16,7 +16,7 @@ use Rattle.records.specs.declared.section.Section.{Section}
 use Rattle.records.specs.declared.section.Section.TheVariants.{System, Graphics}
 use Rattle.records.specs.declared.section.Part.{Part}
 use Rattle.records.specs.Sections.{extent, section_of, bytes_of}
-use Rattle.cells.specs.declared.count.Counts.{Counts}
+use Rattle.cells.specs.declared.counts.Counts.{Counts}
 use Rattle.cells.specs.Checks.{too_few, sizes_check}
 use Rattle.cells.specs.Read.{room_check}
 use Rattle.records.specs.Bytes.{byte_at}

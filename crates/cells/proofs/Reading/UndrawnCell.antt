@@ -11,7 +11,7 @@ use Rattle.records.specs.Layout.{gap_for, total}
 use Rattle.records.proofs.Laid.{section_length}
 use Rattle.records.specs.Sections.{located, extent, bytes_of, array_at}
 use Rattle.cells.specs.Lists.{up_to, join_to, sum_to}
-use Rattle.cells.specs.NewYnd.{new_ynd, new_root}
+use Rattle.cells.specs.NewYnd.{new_cell, new_ynd, new_root}
 use Rattle.cells.specs.Checks.{sizes_check, arrays_found, scan, arrays_check}
 use Rattle.cells.specs.Memory.{Memory, memory, refuse}
 use Rattle.cells.specs.Read.{room_check, cell_read, filled, read_arrays, read_of}
@@ -45,16 +45,7 @@ module _ (g : List ℕ) (m : Memory) where
 
 -- the cell: nothing in it, and the default words
 pub undrawn_cell : (g : List ℕ) → file_cell [] g
-    ≡ record {
-      nodes = [];
-      junctions = [];
-      refs = [];
-      vehicles = 0;
-      peds = 0;
-      vft = new_ynd.vft;
-      words =
-          new_ynd.unknowns;
-    }
+    ≡ new_cell
 unfolding file_cell cell_by cell_from file_nodes file_junctions file_refs new_root new_ynd array_at located bytes_of
     extent up_to
 undrawn_cell g = refl

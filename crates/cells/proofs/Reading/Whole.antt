@@ -18,7 +18,7 @@ use Rattle.numbers.specs.declared.refusal.Refusal.TheVariants.{TooManyNodes, Too
 use Rattle.records.specs.Bytes.{byte_at, le16, number_at, signed16}
 use Rattle.records.specs.Records.{node_at, link_at, junction_at, ref_at}
 use Rattle.records.specs.StoredLaws.{node_same}
-use Rattle.cells.specs.declared.count.Counts.{Counts}
+use Rattle.cells.specs.declared.counts.Counts.{Counts}
 use Rattle.cells.specs.Checks.{scan, links_at, values_at, bad_node, bad_junction, nodes_scan, junctions_scan}
 use Rattle.cells.specs.Checks.{counts_of, arrays_check}
 use Rattle.cells.specs.Lists.{up_to}

@@ -4,8 +4,8 @@ use Prim.Native.Nat.{ℕ, suc, ◌+◌, ◌*◌, ◌/◌, ◌%◌, ◌≤◌, �
 use native.Mathlib.Omega.{arith}
 use mathlib.Core.Path.{◌≡◌, refl, ap, sym, ◌∙◌}
 use mathlib.Core.Bool.{Bool}
-use mathlib.Core.List.{List, [], ◌∷◌, map}
-use lib.ListN.{length, get_or, take, drop, length-map}
+use mathlib.Core.List.{List, [], ◌∷◌, ◌++◌, map}
+use lib.ListN.{length, get_or, take, drop, length-map, length-append, length-drop}
 use lib.Seq.{take_at, length-take-le, get_or-drop}
 use lib.ListN.{get_or-append}
 use Rattle.cells.specs.Order.{keep, parted, Old, new_place, new_places}
@@ -26,7 +26,8 @@ pub use Rattle.cells.proofs.Renumbering.Reordered.{number_length}
 use Rattle.cells.specs.Cell.{Link, Node, is_ped_node, is_vehicle_node, first_of, old_nodes, relink, reref, renode}
 use Rattle.cells.specs.Cell.{number_nodes, renumber_cell, ped_flags}
 use Rattle.cells.specs.Memory.{Memory, over_limit, short}
-use Rattle.cells.specs.CellOf.{link_of, ref_of, body_of, node_with, nodes_of, junctions_of, refs_of, cell_of}
+use Rattle.cells.specs.CellOf.{link_of, ref_of, node_with, nodes_of, junctions_of, refs_of, cell_of}
+use Rattle.cells.specs.Cell.{body_of}
 use Rattle.cells.specs.Words.{to_node}
 use Rattle.std.specs.Prelude.{Ok, Err}
 use Rattle.numbers.specs.Refusals.{Answer, unless}
@@ -35,6 +36,23 @@ use Rattle.numbers.proofs.Refusing.{not_refused}
 
 pub parted_length : (ns : List (List ℕ)) → length (parted is_ped ns) ≡ length ns
 parted_length ns = any.parted_length is_ped ns
+
+-- ---- the lists stay as long
+
+over_long : {A : Type 0} (f : List A → List A) (n : ℕ) (l : List A) → length (f (take n l)) ≡ length (take n l)
+    → n ≤ length l → length (over f n l) ≡ length l
+over_long f n l e h =
+    omega (arith, length-append (f (take n l)) (drop n l), e, length-take-le n l h, length-drop n l)
+
+pub reordered_long : (n : ℕ) (nodes : List (List ℕ)) → n ≤ length nodes
+    → length (number_from 0 (parted is_ped (take n nodes)) ++ drop n nodes) ≡ length nodes
+unfolding reordered
+reordered_long n nodes h = over_long reordered n nodes
+    (number_length 0 (parted is_ped (take n nodes)) ∙ parted_length (take n nodes)) h
+
+pub all_relinked_long : (o : Old) (n : ℕ) (l : List (List ℕ)) → n ≤ length l
+    → length (over (map (relinked o)) n l) ≡ length l
+all_relinked_long o n l h = over_long (map (relinked o)) n l (length-map (take n l) (relinked o)) h
 
 -- what an accepted call has room for
 pub accepted : (m : Memory) (scratch places : ℕ)

@@ -1,6 +1,7 @@
 -- The scratch as a map from numbers to places. It is never cleared: an entry counts if the node there has the number.
 -- Assumes nothing.
-use Rattle.std.proofs.lemmas.List.{map-append}
+use Rattle.std.proofs.lemmas.List.{map-append, get_or-map}
+use Rattle.std.specs.Prelude as Opt
 use Prim.Native.Nat.{ℕ, zero, suc, ◌+◌, ◌<◌}
 use native.Mathlib.Omega.{arith}
 use native.Mathlib.Numerals.{add-one}
@@ -14,7 +15,9 @@ use lib.Seq.{take-suc, length-take-le, get_or-set_same, get_or-set_other}
 use borrow.Author.Tests.{eqb-true, eqb-false, eq-eqb}
 use Rattle.cells.specs.Order.{last_with, or_else}
 use Rattle.cells.specs.NodeWords.{number_of}
-use Rattle.cells.specs.RenumberParts.{Indexed}
+use Rattle.cells.specs.Lookup.{first_with, or_later, is_some}
+use Rattle.cells.specs.LookupCall.{place_of}
+use Rattle.cells.specs.RenumberParts.{Indexed, Leads}
 use Rattle.cells.proofs.Sequences.Tests.{by_test}
 
 abbrev pub pick : Bool → ℕ → Option ℕ → Option ℕ
@@ -96,3 +99,47 @@ module _ (ns s : List ℕ) (ix : Indexed ns s) (k t : ℕ) (is-t : get_or s k 0 
           let same : p ≡ t = sym (ix.at k p e) ∙ is-t in
           let r = last_inside ns k p e in
           absurd (nowhere (omega (arith, r.0)) (rw (← same) r.1))
+
+pub placed_at : (o : Option ℕ) (p : ℕ) → place_of o ≡ Opt.Some p → o ≡ some p
+placed_at (some i) p e = cc
+placed_at none p e = cc
+
+-- ---- by the scratch of nodes
+
+module _ (nodes : List (List ℕ)) (s : List ℕ) (l : Leads (map number_of nodes) s) (k t : ℕ) (is-t : get_or s k 0 ≡ t)
+  where
+    pub last_here : t < length nodes → number_of (get_or nodes t []) ≡ k → Opt.Some t
+        ≡ place_of (last_with (map number_of nodes) k)
+    last_here lt e = sym (ap place_of (named (map number_of nodes) s l.indexed k t is-t
+        (omega (arith, length-map nodes number_of)) (get_or-map number_of nodes t [] 0 lt ∙ e)))
+
+    pub last_nowhere : (t < length nodes → number_of (get_or nodes t []) ≡ k → ⊥) → Opt.None
+        ≡ place_of (last_with (map number_of nodes) k)
+    last_nowhere nowhere = sym (ap place_of (unnamed (map number_of nodes) s l.indexed k t is-t
+        (λ lt e. let below : t < length nodes = omega (arith, length-map nodes number_of) in nowhere below
+        (sym (get_or-map number_of nodes t [] 0 below) ∙ e))))
+
+-- the last place that a number has is one of the places
+pub last_below : (ns : List ℕ) (k p : ℕ) → place_of (last_with ns k) ≡ Opt.Some p → p < length ns
+last_below ns k p e = (last_inside ns k p (placed_at (last_with ns k) p e)).0
+
+-- where the first is there, the last is
+pub first_last : (ns : List ℕ) (k : ℕ) → is_some (last_with ns k) ≡ is_some (first_with ns k)
+unfolding first_with last_with
+first_last [] k = refl
+first_last (n ∷ ns) k = go (eqb n k) (last_with ns k) (first_with ns k) (first_last ns k)
+  where
+    go : (b : Bool) (l f : Option ℕ) → is_some l ≡ is_some f → is_some (or_else l b) ≡ is_some (or_later b f)
+    go true (some l) f h = refl
+    go true none f h = refl
+    go false (some l) (some f) h = refl
+    go false (some l) none h = h
+    go false none (some f) h = h
+    go false none none h = refl
+
+pub has_last : (ns : List ℕ) (k : ℕ) → Opt.is_some (place_of (last_with ns k)) ≡ is_some (first_with ns k)
+has_last ns k = told (last_with ns k) ∙ first_last ns k
+  where
+    told : (o : Option ℕ) → Opt.is_some (place_of o) ≡ is_some o
+    told (some i) = refl
+    told none = refl

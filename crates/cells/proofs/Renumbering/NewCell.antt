@@ -1,5 +1,7 @@
 -- What a renumbered cell holds: each node at its new place, which is its number.
 -- Assumes nothing.
+use Rattle.cells.specs.Words.{to_node}
+use Rattle.cells.specs.Cell.{body_of}
 use Prim.Native.Nat.{ℕ, zero, suc, ◌+◌, ◌<◌}
 use native.Mathlib.Omega.{arith}
 use native.Mathlib.Nat.{zero-add, suc-add, add-suc, add-zero}
@@ -27,7 +29,7 @@ number_is ns p = get_or-map (λ n. n.number) ns p no_node
 
 -- no node is no ped node
 pub none_ped : is_ped_node no_node ≡ false
-unfolding no_node no_body
+unfolding no_node no_body body_of to_node
 none_ped = refl
 
 -- the node first at place p stands at its new place

@@ -17,7 +17,7 @@ use Rattle.cells.proofs.Renumbering.Parted.{places_length, places_at}
 use Rattle.cells.proofs.Renumbering.Parted as any
 
 -- no words are no ped node's
-none_ped : is_ped [] ≡ false
+pub none_ped : is_ped [] ≡ false
 unfolding is_ped
 none_ped = refl
 

@@ -19,7 +19,7 @@ use Rattle.cells.specs.Blocks.{written}
 use Rattle.cells.specs.Memory.{Memory, over_limit}
 use Rattle.cells.specs.Write.{WriteLeft, left, refuse, or_else, after, stored, write_held}
 use Rattle.cells.specs.WriteCounts.{write_counts, Cut, Counted}
-use Rattle.cells.specs.declared.count.Counts.{Counts}
+use Rattle.cells.specs.declared.counts.Counts.{Counts}
 use Rattle.cells.proofs.Sequences.Tests.{by_test}
 use Rattle.cells.proofs.Forms.Limits.{within}
 use Rattle.cells.proofs.Writing.BlockLaws.{nodes_length, links_length, junctions_length, refs_length}

@@ -18,7 +18,7 @@ use Rattle.cells.specs.BackAnswer.{back_answer}
 use Rattle.records.specs.Sections.{bytes_of}
 use Rattle.records.specs.declared.root.Root.{Root}
 use Rattle.cells.specs.declared.arrays.Arrays.{Arrays}
-use Rattle.cells.specs.declared.count.Counts.{Counts}
+use Rattle.cells.specs.declared.counts.Counts.{Counts}
 use Rattle.cells.specs.WriteCounts.{Counted}
 use Rattle.cells.proofs.Writing.WriteSteps.{counts_of, counts_refused, list_refused, goes_on}
 use Rattle.cells.proofs.WritingBack.WrittenBack.{Told, write_told}

@@ -30,7 +30,7 @@ use Rattle.cells.specs.Blocks.{nodes_block, written}
 use Rattle.cells.specs.Write.{held, write_call}
 use Rattle.cells.specs.WriteRead.{if_read, if_written, write_read_of}
 use Rattle.cells.specs.BackCheck.{held_counts, lengths, back_tests, back_check}
-use Rattle.cells.specs.declared.count.Counts.{Counts}
+use Rattle.cells.specs.declared.counts.Counts.{Counts}
 use Rattle.cells.specs.declared.arrays.Arrays.{Arrays}
 use Rattle.cells.proofs.Reading.ReadLaws.{part_short}
 use Rattle.cells.proofs.Writing.Starts.{start_most}

@@ -5,10 +5,10 @@ use Prim.Native.Nat.{ℕ, zero, suc, ◌+◌, ◌*◌, ◌/◌, ◌%◌, ◌≤�
 use native.Mathlib.Omega.{arith}
 use native.Mathlib.Nat.{zero-add, mod-eq_of_lt}
 use mathlib.Core.Path.{◌≡◌, refl, sym, ap, ◌∙◌}
-use mathlib.Core.Bool.{Bool, true}
+use mathlib.Core.Bool.{true, ◌&&◌}
 use mathlib.Core.List.{List, [], ◌∷◌, ◌++◌, map}
-use lib.Dec.{eqb, ltb}
-use lib.ListN.{length, get_or, take, drop, length-map, length-append, length-take, length-drop, get_or-map}
+use lib.Dec.{ltb}
+use lib.ListN.{length, get_or, take, drop, length-append, length-take, length-drop}
 use lib.Seq.{get_or-take, get_or-drop}
 use lib.Ieee.{binary32, of_bits, to_bits}
 use borrow.Author.Tests.{eqb-true, ltb-true, ltb-false}
@@ -23,20 +23,23 @@ use Rattle.records.proofs.RecordBack.{junction_back, junction_length, ref_back, 
 use Rattle.cells.specs.Lists.{up_to, every}
 use Rattle.cells.specs.NodeWords.{area_of, number_of}
 use Rattle.cells.specs.Words.{to_node, to_link, to_junction, to_ref}
-use Rattle.cells.specs.CellOf.{link_of, ref_of, body_of, node_with, junction_with}
+use Rattle.cells.specs.CellOf.{link_of, ref_of, node_with, junction_with}
+use Rattle.cells.specs.Cell.{body_of}
 use Rattle.cells.specs.Words.{path_node}
 use Rattle.cells.specs.NodeAccess.{changed}
-use Rattle.cells.specs.CellOf.{marks_of}
+use Rattle.cells.specs.Cell.{marks_of}
 use Rattle.cells.specs.FileCell.{file_link_of, file_ref_of, file_body, file_node_of, file_junction_of, file_nodes}
 use Rattle.cells.specs.FileCell.{file_junctions, file_refs}
 use Rattle.cells.proofs.WritingBack.KeptCells.{kept_step, kept_link, kept_body, kept_node, is_byte, kept_junction}
-use Rattle.cells.proofs.WritingBack.KeptCells.{kept_ref}
+use Rattle.cells.proofs.WritingBack.KeptCells.{kept_ref, kept_links, kept_values}
+use Rattle.cells.proofs.WritingBack.AsRead.{whole_map}
+use Rattle.cells.specs.Cell.{Node, NodeBody, Junction}
 use Rattle.cells.specs.Entries.{links_in, values_in, stored_start, file_node, file_link, file_junction}
 use Rattle.cells.specs.WriteChecks.{accepted, start_over, check_nodes, check_junctions}
 use Rattle.cells.specs.Blocks.{link_record, ref_record, junction_record, node_record, refs_block, heights_block}
 use Rattle.cells.specs.Blocks.{junctions_block, links_block, nodes_block}
-use Rattle.cells.proofs.Sequences.Tests.{and_left, and_right, by_test, every_at, true_false}
-use Rattle.cells.proofs.Reading.FileRead.{up_to_same}
+use Rattle.cells.proofs.Sequences.Tests.{and_left, and_right, by_test, every_at, every_imp, kept_at, true_false}
+use Rattle.cells.proofs.Reading.FileRead.{up_to_same, map_up_to}
 use Rattle.cells.proofs.Writing.Starts.{start_some}
 use Rattle.cells.proofs.Sequences.Joined.{joined_at, laid_at, part_back, joined_joined}
 use Rattle.cells.proofs.Writing.BlockLaws.{record_length, nodes_length, junctions_length, refs_length}
@@ -54,13 +57,6 @@ unfolding up_to
 up_to_all f [] z = refl
 up_to_all {B = B} f (x ∷ xs) z = up_to_first (λ i. f (get_or (x ∷ xs) i z)) (length xs)
     ∙ ap (λ (l : List B). f x ∷ l) (up_to_all f xs z)
-
--- what a test says of the entry at a place
-kept_at : {A B : Type 0} (t : B → Bool) (f : A → B) (xs : List A) (i : ℕ) (z : A) → every t (map f xs) ≡ true → i
-    < length xs → t (f (get_or xs i z)) ≡ true
-kept_at {B = B} t f xs i z h lt =
-    ap t (sym (get_or-map f xs i z)) ∙ every_at t (map f xs) i (f z) h
-    (let q : i < length (map f xs) = omega (arith, length-map xs f) in q)
 
 -- ---- what an accepted check says of each entry
 
@@ -214,8 +210,8 @@ module _ (links nodes : List (List ℕ)) where
       ∙ up_to_all link_of own []
 
   -- a node without links has none to look up, so that its start does not matter
-  links_stored_law : (i : ℕ) → i < length nodes → every kept_link (map link_of (links_in links (get_or nodes i [])))
-      ≡ true
+  links_stored_law : (i : ℕ) → i < length nodes
+      → every kept_link (map link_of (links_in links (get_or nodes i []))) ≡ true
       → up_to (λ k. file_link_of (link_at (links_block links nodes)
       ((stored_start (length (joined (links_in links) (take i nodes)))
       (length (links_in links (get_or nodes i []))) + k) * 8))) (length (links_in links (get_or nodes i [])))
@@ -230,28 +226,6 @@ module _ (links nodes : List (List ℕ)) where
       ∙ links_entry i lt t
 
 -- ---- nodes
-
-body_back : (start count : ℕ) (w : List ℕ) → kept_body (body_of w) ≡ true
-    → file_body (file_node start count (to_node w)) ≡ body_of w
-unfolding file_node to_node body_of path_node changed
-body_back start count w t =
-    let t₁ = and_right (kept_step 2 (get_or w 2 0)) _ t in
-    let t₂ = and_right (kept_step 2 (get_or w 3 0)) _ t₁ in
-    let f = get_or w 6 0 / 256 % 256 in
-    let e : f % 8 ≡ f = eqb-true (f % 8) f (and_right (kept_step 5 (get_or w 4 0)) _ t₂) in
-    λ i. record {
-      position = record {
-        x = step_back 2 (get_or w 2 0) (and_left _ _ t) i;
-        y = step_back 2 (get_or w 3 0)
-            (and_left _ _ t₁) i;
-        z = step_back 5 (get_or w 4 0) (and_left _ _ t₂) i;
-      };
-      marks = marks_of (changed (to_node w) (to_node w).position (to_node w).flags0 (to_node w).flags1
-          (to_node w).flags2 (to_node w).flags3 (to_node w).flags4 ((low count f ∙ e) i) 0 0);
-    }
-  where
-    low : (c f : ℕ) → (c * 8 + f % 8) % 8 ≡ f % 8
-    low c f = omega arith
 
 pub node_in : (start count : ℕ) (w : List ℕ) → start < 65536 → count ≤ 31
     → NodeFits (file_node start count (to_node w))
@@ -302,44 +276,106 @@ node_record_law links nodes ok i lt =
     (laid_at (links_in links) (node_record links) 40 (record_length links) 0 nodes i [] lt
     ∙ ap (λ (b : ℕ). node_record links b w) (zero-add before)))
 
+-- a node with another body
+abbrev pub with_body : Node → NodeBody → Node
+with_body n b = record { area = n.area; number = n.number; links = n.links; body = b }
+
+-- a junction with other values
+abbrev pub with_values : Junction → List ℕ → Junction
+with_values j v = record {
+  x = j.x;
+  y = j.y;
+  low = j.low;
+  high = j.high;
+  width = j.width;
+  height = j.height;
+  values = v;
+}
+
+-- node i as it is written, read: all but its body is as it was
+abbrev pub node_read : List (List ℕ) → List (List ℕ) → ℕ → Node
+node_read links nodes i =
+    with_body (node_with (map link_of links) (get_or nodes i []))
+    (file_body (file_node (start_of links nodes i) (length (links_in links (get_or nodes i [])))
+    (to_node (get_or nodes i []))))
+
 module _ (links nodes : List (List ℕ))
     (ok : accepted (check_nodes (λ n. length (links_in links n)) 0 0 nodes) ≡ true)
-    (t : every kept_node (map (node_with (map link_of links)) nodes) ≡ true) where
+    (t : every kept_links (map (node_with (map link_of links)) nodes) ≡ true) where
   abbrev block : List ℕ
   block = nodes_block links nodes
 
-  node_entry_law : (i : ℕ) → i < length nodes → file_node_of (links_block links nodes) (node_at block (i * 40))
-      ≡ node_with (map link_of links) (get_or nodes i [])
+  node_entry_law : (i : ℕ) → i < length nodes
+      → file_node_of (links_block links nodes) (node_at block (i * 40)) ≡ node_read links nodes i
   unfolding file_node to_node area_of number_of links_in
   node_entry_law i lt =
       let w = get_or nodes i [] in
       let count = length (links_in links w) in
       let start = start_of links nodes i in
-      let k : kept_node (node_with (map link_of links) w)
-      ≡ true = kept_at kept_node (node_with (map link_of links)) nodes i [] t lt in
+      let k : kept_links (node_with (map link_of links) w)
+      ≡ true = kept_at kept_links (node_with (map link_of links)) nodes i [] t lt in
       let same : take (get_or w 6 0 / 65536 % 256) (drop (get_or w 7 0) (map link_of links))
       ≡ map link_of (links_in links w) =
       ap (take (get_or w 6 0 / 65536 % 256)) (drop-map link_of (get_or w 7 0) links)
       ∙ take-map link_of (get_or w 6 0 / 65536 % 256) (drop (get_or w 7 0) links) in
-      let kl : every kept_link (map link_of (links_in links w)) ≡ true = ap (every kept_link) (sym same)
-      ∙ and_right (kept_body (body_of w)) _ k in
+      let kl : every kept_link (map link_of (links_in links w)) ≡ true = ap (every kept_link) (sym same) ∙ k in
       ap (file_node_of (links_block links nodes)) (node_record_law links nodes ok i lt)
       ∙ (λ j. record {
         area = get_or w 0 0 % 65536;
         number = get_or w 0 0 / 65536 % 65536;
         links = (ap (up_to (λ q. file_link_of (link_at (links_block links nodes) ((start + q) * 8))))
             (high count (get_or w 6 0 / 256 % 256)) ∙ links_stored_law links nodes i lt kl ∙ sym same) j;
-        body = body_back start count w (and_left _ _ k) j;
+        body = file_body (file_node start count (to_node w));
       })
 
-  pub nodes_back : file_nodes block (links_block links nodes) ≡ map (node_with (map link_of links)) nodes
+  -- what is known of each, as it is read, is known of the list
+  pub nodes_by : {B : Type 0} (f : Node → B) (g : List ℕ → B)
+      → ((i : ℕ) → i < length nodes → f (node_read links nodes i) ≡ g (get_or nodes i []))
+      → map f (file_nodes block (links_block links nodes)) ≡ map g nodes
   unfolding file_nodes
-  nodes_back =
+  nodes_by f g e =
       let n : length block / 40 ≡ length nodes = omega (arith, nodes_length links nodes) in
-      ap (up_to (λ i. file_node_of (links_block links nodes) (node_at block (i * 40)))) n
-      ∙ up_to_same (λ i. file_node_of (links_block links nodes) (node_at block (i * 40)))
-      (λ i. node_with (map link_of links) (get_or nodes i [])) (length nodes) node_entry_law
-      ∙ up_to_all (node_with (map link_of links)) nodes []
+      let file : ℕ → Node = λ i. file_node_of (links_block links nodes) (node_at block (i * 40)) in
+      ap (λ (k : ℕ). map f (up_to file k)) n ∙ map_up_to f file (length nodes)
+      ∙ up_to_same (λ i. f (file i)) (λ i. g (get_or nodes i [])) (length nodes)
+      (λ i lt. ap f (node_entry_law i lt) ∙ e i lt)
+      ∙ up_to_all g nodes []
+
+body_back : (start count : ℕ) (w : List ℕ) → kept_body (body_of w) ≡ true
+    → file_body (file_node start count (to_node w)) ≡ body_of w
+unfolding file_node to_node body_of path_node changed
+body_back start count w t =
+    let t₁ = and_right (kept_step 2 (get_or w 2 0)) _ t in
+    let t₂ = and_right (kept_step 2 (get_or w 3 0)) _ t₁ in
+    let f = get_or w 6 0 / 256 % 256 in
+    let e : f % 8 ≡ f = eqb-true (f % 8) f (and_right (kept_step 5 (get_or w 4 0)) _ t₂) in
+    λ i. record {
+      position = record {
+        x = step_back 2 (get_or w 2 0) (and_left _ _ t) i;
+        y = step_back 2 (get_or w 3 0)
+            (and_left _ _ t₁) i;
+        z = step_back 5 (get_or w 4 0) (and_left _ _ t₂) i;
+      };
+      marks = marks_of (changed (to_node w) (to_node w).position (to_node w).flags0 (to_node w).flags1
+          (to_node w).flags2 (to_node w).flags3 (to_node w).flags4 ((low count f ∙ e) i) 0 0);
+    }
+  where
+    low : (c f : ℕ) → (c * 8 + f % 8) % 8 ≡ f % 8
+    low c f = omega arith
+
+pub nodes_back : (links nodes : List (List ℕ))
+    → accepted (check_nodes (λ n. length (links_in links n)) 0 0 nodes) ≡ true
+    → every kept_node (map (node_with (map link_of links)) nodes) ≡ true
+    → file_nodes (nodes_block links nodes) (links_block links nodes) ≡ map (node_with (map link_of links)) nodes
+nodes_back links nodes ok t =
+    let own = node_with (map link_of links) in
+    let k : every kept_links (map own nodes) ≡ true = every_imp kept_node kept_links
+    (λ n h. and_right (kept_body n.body) _ h) (map own nodes) t in
+    sym (map-id (file_nodes (nodes_block links nodes) (links_block links nodes)))
+    ∙ nodes_by links nodes ok k (λ n. n) own
+    (λ i lt. ap (with_body (own (get_or nodes i [])))
+    (body_back (start_of links nodes i) (length (links_in links (get_or nodes i []))) (get_or nodes i [])
+    (and_left _ _ (kept_at kept_node own nodes i [] t lt))))
 
 -- ---- junctions
 
@@ -355,9 +391,14 @@ junction_in_law start w h = record {
   heightmap_dim_y = omega arith;
 }
 
+-- a junction as it is written, read: with its own values
+abbrev pub junction_read : List ℕ → List ℕ → Junction
+junction_read heights w = with_values (file_junction_of [] (file_junction 0 (to_junction w))) (values_in heights w)
+
 module _ (heights : List ℕ) (js : List (List ℕ))
     (ok : accepted (check_junctions (λ j. length (values_in heights j)) 0 0 js) ≡ true)
-    (t : every kept_junction (map (junction_with heights) js) ≡ true) where
+    (t : every kept_values (map (junction_with heights) js) ≡ true)
+    (maps : every whole_map (map (junction_with heights) js) ≡ true) where
   values_entry : (i : ℕ) → i < length js → every is_byte (values_in heights (get_or js i [])) ≡ true
       → up_to (λ k. byte_at (heights_block heights js) (length (joined (values_in heights) (take i js)) + k))
       (length (values_in heights (get_or js i []))) ≡ values_in heights (get_or js i [])
@@ -373,21 +414,16 @@ module _ (heights : List ℕ) (js : List (List ℕ))
 
   junction_entry_law : (i : ℕ) → i < length js
       → file_junction_of (heights_block heights js) (junction_at (junctions_block heights js) (i * 12))
-      ≡ junction_with heights (get_or js i [])
+      ≡ junction_read heights (get_or js i [])
   unfolding file_junction to_junction values_in
   junction_entry_law i lt =
       let w = get_or js i [] in
       let own = values_in heights w in
       let start = length (joined (values_in heights) (take i js)) in
       let low : 0 + start ≤ 65535 = junctions_ok (values_in heights) 0 0 js i ok lt in
-      let k : kept_junction (junction_with heights w)
-      ≡ true = kept_at kept_junction (junction_with heights) js i [] t lt in
-      let k₁ = and_right (kept_step 2 (get_or w 0 0)) _ k in
-      let k₂ = and_right (kept_step 2 (get_or w 1 0)) _ k₁ in
-      let k₃ = and_right (kept_step 5 (get_or w 2 0)) _ k₂ in
-      let k₄ = and_right (kept_step 5 (get_or w 3 0)) _ k₃ in
       let size = get_or w 4 0 % 256 * (get_or w 4 0 / 256 % 256) in
-      let full : length own ≡ size = eqb-true (length own) size (and_left _ _ k₄) in
+      let full : length own ≡ size = eqb-true (length own) size
+      (kept_at whole_map (junction_with heights) js i [] maps lt) in
       let bytes = laid_at (values_in heights) junction_record 12
       (λ s j. junction_length (file_junction s (to_junction j))) 0 js i [] lt
       ∙ ap (λ (s : ℕ). junction_bytes (file_junction s (to_junction w))) (zero-add start) in
@@ -396,28 +432,59 @@ module _ (heights : List ℕ) (js : List (List ℕ))
       (junctions_block heights js) (i * 12)
       (stands_at (junctions_block heights js) (junction_record start w) 12 i
       (junction_length (file_junction start (to_junction w))) bytes))
-      ∙ (λ j. record {
-        x = step_back 2 (get_or w 0 0) (and_left _ _ k) j;
-        y = step_back 2 (get_or w 1 0) (and_left _ _ k₁) j;
-        low = step_back 5 (get_or w 2 0) (and_left _ _ k₂) j;
-        high = step_back 5 (get_or w 3 0) (and_left _ _ k₃) j;
-        width = get_or w 4 0 % 256;
-        height = get_or w 4 0 / 256 % 256;
-        values = (ap (up_to (λ q. byte_at (heights_block heights js) (start + q))) (sym full)
-            ∙ values_entry i lt (and_right (eqb (length own) size) _ k₄)) j;
-      })
+      ∙ ap (with_values (file_junction_of [] (file_junction 0 (to_junction w))))
+      (ap (up_to (λ q. byte_at (heights_block heights js) (start + q))) (sym full)
+      ∙ values_entry i lt (kept_at kept_values (junction_with heights) js i [] t lt))
 
-  pub junctions_back : file_junctions (junctions_block heights js) (heights_block heights js)
-      ≡ map (junction_with heights) js
+  pub junctions_by : {B : Type 0} (f : Junction → B) (g : List ℕ → B)
+      → ((i : ℕ) → i < length js → f (junction_read heights (get_or js i [])) ≡ g (get_or js i []))
+      → map f (file_junctions (junctions_block heights js) (heights_block heights js)) ≡ map g js
   unfolding file_junctions
-  junctions_back =
+  junctions_by f g e =
       let h = heights_block heights js in
       let b = junctions_block heights js in
       let n : length b / 12 ≡ length js = omega (arith, junctions_length heights js) in
-      ap (up_to (λ i. file_junction_of h (junction_at b (i * 12)))) n
-      ∙ up_to_same (λ i. file_junction_of h (junction_at b (i * 12))) (λ i. junction_with heights (get_or js i []))
-      (length js) junction_entry_law
-      ∙ up_to_all (junction_with heights) js []
+      let file : ℕ → Junction = λ i. file_junction_of h (junction_at b (i * 12)) in
+      ap (λ (k : ℕ). map f (up_to file k)) n ∙ map_up_to f file (length js)
+      ∙ up_to_same (λ i. f (file i)) (λ i. g (get_or js i [])) (length js)
+      (λ i lt. ap f (junction_entry_law i lt) ∙ e i lt)
+      ∙ up_to_all g js []
+
+-- a junction whose coordinates are in whole steps is as it was
+junction_back_law : (heights w : List ℕ) → kept_junction (junction_with heights w) ≡ true
+    → junction_read heights w ≡ junction_with heights w
+unfolding file_junction to_junction values_in
+junction_back_law heights w k =
+    let k₁ = and_right (kept_step 2 (get_or w 0 0)) _ k in
+    let k₂ = and_right (kept_step 2 (get_or w 1 0)) _ k₁ in
+    let k₃ = and_right (kept_step 5 (get_or w 2 0)) _ k₂ in
+    λ j. record {
+      x = step_back 2 (get_or w 0 0) (and_left _ _ k) j;
+      y = step_back 2 (get_or w 1 0) (and_left _ _ k₁) j;
+      low = step_back 5 (get_or w 2 0) (and_left _ _ k₂) j;
+      high = step_back 5 (get_or w 3 0) (and_left _ _ k₃) j;
+      width = get_or w 4 0 % 256;
+      height = get_or w 4 0 / 256 % 256;
+      values = take (get_or w 4 0 % 256 * (get_or w 4 0 / 256 % 256)) (drop (get_or w 5 0) heights);
+    }
+
+pub junctions_back : (heights : List ℕ) (js : List (List ℕ))
+    → accepted (check_junctions (λ j. length (values_in heights j)) 0 0 js) ≡ true
+    → every kept_junction (map (junction_with heights) js) ≡ true
+    → file_junctions (junctions_block heights js) (heights_block heights js) ≡ map (junction_with heights) js
+junctions_back heights js ok t =
+    let own = junction_with heights in
+    let values : every kept_values (map own js) ≡ true = every_imp kept_junction kept_values
+    (λ j k. and_right (whole_map j) _ (behind j k)) (map own js) t in
+    let maps : every whole_map (map own js) ≡ true = every_imp kept_junction whole_map
+    (λ j k. and_left _ _ (behind j k)) (map own js) t in
+    sym (map-id (file_junctions (junctions_block heights js) (heights_block heights js)))
+    ∙ junctions_by heights js ok values maps (λ j. j) own
+    (λ i lt. junction_back_law heights (get_or js i []) (kept_at kept_junction own js i [] t lt))
+  where
+    behind : (j : Junction) → kept_junction j ≡ true → whole_map j && kept_values j ≡ true
+    behind j k = and_right (kept_step 5 j.high) _ (and_right (kept_step 5 j.low) _
+        (and_right (kept_step 2 j.y) _ (and_right (kept_step 2 j.x) _ k)))
 
 -- ---- refs
 

@@ -52,7 +52,15 @@ every_up_to t f e (suc n) = every_append t (up_to f n) (f n ∷ []) (every_up_to
 le16_below : (s : List ℕ) (at : ℕ) → le16 s at < 65536
 le16_below s at = number_below 2 s at
 
--- steps within 16 bits
+-- a coordinate in whole steps within 16 bits, stored again
+pub step_again : (k : ℕ) (z : ℤ) → k ≤ 5 → mag z < 32768
+    → to_bits binary32 (unstep k (step_of k (of_bits binary32 (to_bits binary32 (unstep k z)))))
+    ≡ to_bits binary32 (unstep k z)
+step_again k z h q =
+    ap (λ (x : Float). to_bits binary32 (unstep k (step_of k x)))
+    (of_bits-to_bits binary32 (unstep k z) (unstep_fits k z))
+    ∙ ap (λ (x : ℤ). to_bits binary32 (unstep k x)) (round_trip k z h q)
+
 step_kept : (k n : ℕ) → k ≤ 5 → n < 65536 → kept_step k (to_bits binary32 (unstep k (signed16 n))) ≡ true
 unfolding kept_step signed16
 step_kept k n h l = by_test (ltb n 32768)
@@ -62,9 +70,7 @@ step_kept k n h l = by_test (ltb n 32768)
   where
     again : (z : ℤ) → mag z < 32768 → eqb (to_bits binary32 (unstep k
         (step_of k (of_bits binary32 (to_bits binary32 (unstep k z)))))) (to_bits binary32 (unstep k z)) ≡ true
-    again z q = eq-eqb _ _ (ap (λ (x : Float). to_bits binary32 (unstep k (step_of k x)))
-        (of_bits-to_bits binary32 (unstep k z) (unstep_fits k z))
-        ∙ ap (λ (x : ℤ). to_bits binary32 (unstep k x)) (round_trip k z h q))
+    again z q = eq-eqb _ _ (step_again k z h q)
 
 link_kept : (s : List ℕ) (at : ℕ) → kept_link (file_link_of (link_at s at)) ≡ true
 unfolding link_at
@@ -134,7 +140,7 @@ read_kept s g = from_kept s _ _ _ _ _
 
 -- ---- what is renumbered
 
-new_small : (ns : List Node) (k : ℕ) → length ns ≤ 65536 → k < 65536 → new_number (old_nodes ns) k < 65536
+pub new_small : (ns : List Node) (k : ℕ) → length ns ≤ 65536 → k < 65536 → new_number (old_nodes ns) k < 65536
 unfolding new_number
 new_small ns k few h = go (last_with (numbers ns) k) (λ p e. (last_inside (numbers ns) k p e).0)
   where
@@ -145,7 +151,7 @@ new_small ns k few h = go (last_with (numbers ns) k) (λ p e. (last_inside (numb
         omega (arith, q, few)
     go none inside = h
 
-renamed_small : (ns : List Node) (a k : ℕ) → length ns ≤ 65536 → ltb k 65536 ≡ true
+pub renamed_small : (ns : List Node) (a k : ℕ) → length ns ≤ 65536 → ltb k 65536 ≡ true
     → ltb (renamed (old_nodes ns) a k) 65536 ≡ true
 unfolding renamed
 renamed_small ns a k few t = go (belongs (old_nodes ns).area a)
@@ -158,11 +164,11 @@ module _ (c : Cell) (few : length c.nodes ≤ 65536) where
   abbrev old : Old
   old = old_nodes c.nodes
 
-  link_again : (l : Link) → kept_link l ≡ true → kept_link (relink old l) ≡ true
+  pub link_again : (l : Link) → kept_link l ≡ true → kept_link (relink old l) ≡ true
   link_again l t = and_from (ltb l.area 65536) (ltb (renamed old l.area l.number) 65536) (and_left _ _ t)
       (renamed_small c.nodes l.area l.number few (and_right (ltb l.area 65536) _ t))
 
-  ref_again : (r : Ref) → kept_ref r ≡ true → kept_ref (reref old r) ≡ true
+  pub ref_again : (r : Ref) → kept_ref r ≡ true → kept_ref (reref old r) ≡ true
   ref_again r t =
       let t₁ = and_right (ltb r.area 65536) _ t in
       cc (

@@ -21,8 +21,11 @@ abbrev pub kept_body : NodeBody → Bool
 kept_body b = kept_step 2 b.position.x
     && (kept_step 2 b.position.y && (kept_step 5 b.position.z && eqb (b.marks.flags5 % 8) b.marks.flags5))
 
+abbrev pub kept_links : Node → Bool
+kept_links n = every kept_link n.links
+
 abbrev pub kept_node : Node → Bool
-kept_node n = kept_body n.body && every kept_link n.links
+kept_node n = kept_body n.body && kept_links n
 
 abbrev pub is_byte : ℕ → Bool
 is_byte v = ltb v 256
@@ -30,11 +33,14 @@ is_byte v = ltb v 256
 abbrev pub is_word : ℕ → Bool
 is_word v = ltb v 4294967296
 
+abbrev pub kept_values : Junction → Bool
+kept_values j = every is_byte j.values
+
 abbrev pub kept_junction : Junction → Bool
 kept_junction j =
     kept_step 2 j.x && (kept_step 2 j.y
     && (kept_step 5 j.low && (kept_step 5 j.high && (eqb (length j.values) (j.width * j.height)
-    && every is_byte j.values))))
+    && kept_values j))))
 
 abbrev pub kept_ref : Ref → Bool
 kept_ref r = ltb r.area 65536 && (ltb r.number 65536 && (ltb r.junction 65536 && ltb r.unk0 65536))

@@ -34,7 +34,7 @@ use Rattle.cells.proofs.Worked.WritePairs.{wrote}
 use Rattle.std.specs.Prelude.{Result, Ok}
 use Rattle.numbers.specs.declared.refusal.Refusal.{Refusal}
 use Rattle.numbers.specs.declared.refusal.Refusal.TheVariants.{SystemTooShort, SystemTooLong, GraphicsTooLong}
-use Rattle.cells.specs.declared.count.Counts.{Counts}
+use Rattle.cells.specs.declared.counts.Counts.{Counts}
 
 -- ---- a section that holds something
 

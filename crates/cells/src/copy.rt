@@ -1,0 +1,36 @@
+// What is copied of the bytes of a file's arrays.
+ghost use Rattle.std.specs.Prelude.{◌≡◌, ◌+◌, ◌*◌, ◌/◌, ◌≤◌, length, take, drop};
+ghost use Rattle.cells.specs.Read.{links_from, values_from};
+
+use crate::link::{LinkWords, PathLink};
+use records::link::link_at;
+
+// Record i of an array of records of `size` bytes.
+pub(crate) fn record(array: &[u8], i: usize, size: usize) -> &[u8]
+    requires { i * size + size ≤ length array.now }
+    ensures { result.now ≡ take size (drop (i * size) array.now) }
+{
+    let at = i * size;
+    &array[at..at + size]
+}
+
+// The links of the file's list from `from` on.
+#[tactic(auto, using(crate::proofs::Reading::ReadLaws::fill_turn, crate::proofs::Reading::Whole::link_whole), unfolding(crate::specs::Read::links_from, crate::specs::Lists::up_to))]
+pub(crate) fn copy_links(l: &[u8], from: usize, links: &mut [LinkWords])
+    requires { from + length links.old ≤ length l.now / 8 }
+    ensures { links.new ≡ links_from l.now from (length links.old) }
+{
+    for (k, w) in links.iter_mut().enumerate() {
+        let link = PathLink::from(link_at(record(l, from + k, 8), 0));
+        *w = LinkWords::from(link);
+    }
+}
+
+// The heightmap bytes from `from` on.
+#[tactic(auto, using(crate::proofs::Reading::Whole::values_whole))]
+pub(crate) fn copy_values(h: &[u8], from: usize, values: &mut [u8])
+    requires { from + length values.old ≤ length h.now }
+    ensures { values.new ≡ values_from h.now from (length values.old) }
+{
+    values.copy_from_slice(&h[from..from + values.len()]);
+}
