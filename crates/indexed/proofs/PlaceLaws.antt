@@ -5,12 +5,13 @@ use borrow.Author.Tests.{le-ltb, lt-ltb, ltb-true, eqb-true, eq-eqb}
 use Rattle.std.proofs.lemmas.Bool.{cases_lt}
 use mathlib.Core.Logic.{⊎_elim}
 use Rattle.std.specs.Prelude.{Option, Some, None, Ok}
-use Rattle.cells.specs.Memory.{over_limit}
+use Rattle.cells.specs.Memory.{over_limit, nodes_causes}
 use Rattle.cells.specs.declared.ynd.Ynd.{Ynd}
 use Rattle.cells.specs.LookupCall.{first_in, find_in, node_call}
 use Rattle.cells.proofs.Sequences.Tests.{and_left, and_right, true_false}
 use Rattle.cells.proofs.Lookups.LookupLaws.{first_at, first_no, find_at, find_other, find_past}
-use Rattle.indexed.specs.FirstPlaces.{FirstPlaces, number_at, has_number}
+use Rattle.indexed.specs.FirstPlaces.{FirstPlaces, has_number}
+use Rattle.cells.specs.NodeWords.{number_at}
 
 module _ (y : Ynd) (within : over_limit y ≡ false) (nodes : List (List ℕ)) (fits : y.node_count ≤ length nodes)
     (s : List ℕ) (h : FirstPlaces nodes 0 y.node_count s) (k : ℕ) where
@@ -21,7 +22,7 @@ module _ (y : Ynd) (within : over_limit y ≡ false) (nodes : List (List ℕ)) (
   has p = has_number nodes n p k
 
   in_call : (r : Option ℕ) → r ≡ find_in n nodes k → Ok r ≡ node_call y nodes k
-  unfolding node_call
+  unfolding node_call nodes_causes
   in_call r e = rw (within, le-ltb _ _ fits, e)
 
   inside : (p : ℕ) → has p ≡ true → p < n

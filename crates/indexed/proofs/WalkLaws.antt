@@ -1,16 +1,13 @@
 -- What the call answers, by what it asks before the walk.
 use Rattle.std.proofs.Common.{◌≡◌, ℕ, ◌+◌, ◌<◌, ◌≤◌, Bool, true, false, List, [], get_or, length, take}
 use Rattle.std.proofs.Common.{◌∷◌, refl, sym, ap, ◌∙◌, arith}
-use lib.ListN.{drop}
 use lib.Seq.{length-take-le, get_or-take}
 use borrow.Author.Tests.{le-ltb, lt-leb}
 use lib.Dec.{leb, ltb}
 use Rattle.cells.proofs.Sequences.Tests.{by_test}
-use Rattle.std.specs.Prelude.{Result, Err}
-use Rattle.numbers.specs.Refusals.{Answer, done, decided}
-use Rattle.cells.specs.declared.ynd.Ynd.{Ynd}
+use Rattle.std.specs.Prelude.{Result}
+use Rattle.numbers.specs.Refusals.{done, decided}
 use Rattle.walks.specs.PlaceCauses.{place_causes}
-use Rattle.std.specs.Result.{IsErrAnd}
 use Rattle.numbers.specs.declared.refusal.Refusal.{Refusal}
 use Rattle.cells.specs.LookupCall.{node_call}
 use Rattle.cells.specs.Memory.{Memory, over_limit}
@@ -19,20 +16,12 @@ use Rattle.walks.specs.Walk.{walk_in}
 use Rattle.walks.specs.WalkCall.{walk_left, walk_call}
 use Rattle.walks.specs.WalkParts.{lent_world, trail_left, stored_in}
 use Rattle.walks.specs.declared.walk.Walked.{Walked}
-use Rattle.walks.proofs.PlaceCases.{refused_before}
 use Rattle.walks.proofs.WalkCases.{ends}
 use Rattle.rounds.specs.Follow.{starting_at, follow_round}
 use Rattle.indexed.specs.FollowIndexed.{follow_round_indexed}
-use Rattle.indexed.specs.FirstPlaces.{FirstPlaces, number_at, led}
+use Rattle.indexed.specs.FirstPlaces.{FirstPlaces, led}
+use Rattle.cells.specs.NodeWords.{number_at}
 use Rattle.indexed.specs.WalkIndexed.{indexed_causes, asked, walk_indexed}
-
--- a refusal before the scratch is asked for
-pub refused_first : (y : Ynd) (nodes links start room : ℕ) {cause : Refusal}
-    → Err cause ≡ decided (place_causes y nodes links start) → (r : Answer) → IsErrAnd r (λ x. x ≡ cause)
-    → r ≡ asked y nodes links start room
-unfolding indexed_causes place_causes
-refused_first y nodes links start room =
-    refused_before y nodes links start (drop 4 (indexed_causes y nodes links start room))
 
 module _ (m : Memory) (bs : List ℕ) (start room : ℕ) (visited : List ℕ) where
   pub walked_then : done ≡ asked m.ynd (length m.nodes) (length m.links) start room

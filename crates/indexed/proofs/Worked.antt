@@ -7,7 +7,7 @@ use Rattle.cells.specs.Area.{belongs}
 use Rattle.cells.specs.CellOf.{nodes_of}
 use Rattle.cells.specs.Lookup.{find, first_with}
 use Rattle.cells.specs.LookupCall.{node_call, find_in, numbers_in}
-use Rattle.cells.specs.Memory.{Memory, memory, over_limit}
+use Rattle.cells.specs.Memory.{Memory, memory, over_limit, nodes_causes}
 use Rattle.cells.specs.NodeWords.{area_of, number_of}
 use Rattle.walks.specs.Walk.{next}
 use Rattle.walks.specs.WalkCall.{route, walk_left, walk_call}
@@ -98,11 +98,11 @@ links_before = refl
 -- the round starts at the node with the number 1, which stands at place 0
 pub round_from_1 : follow_round_indexed turned 65536 1 (0 ∷ []) (9 ∷ 9 ∷ [])
     ≡ walk_left (Ok (record { end = Done; count = 2 })) (0 ∷ 1 ∷ [])
-unfolding follow_round_indexed node_call find_in numbers_in walk_indexed indexed_causes walk_call over_limit route next
-    nodes_of find first_with belongs area_of number_of
+unfolding follow_round_indexed node_call nodes_causes find_in numbers_in walk_indexed indexed_causes walk_call
+    over_limit route next nodes_of find first_with belongs area_of number_of
 round_from_1 = refl
 
 -- a number that no node has comes before the scratch
 pub no_start : follow_round_indexed turned 0 9 [] [] ≡ walk_left (Err NoSuchPlace) []
-unfolding follow_round_indexed node_call find_in numbers_in over_limit find first_with number_of
+unfolding follow_round_indexed node_call nodes_causes find_in numbers_in over_limit find first_with number_of
 no_start = refl

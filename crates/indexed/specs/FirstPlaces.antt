@@ -1,10 +1,6 @@
 -- What the scratch of an indexed walk holds. No public function's contract cites it.
-use Rattle.std.specs.Prelude.{ℕ, ◌≤◌, ◌<◌, ◌≡◌, Bool, ◌&&◌, List, [], eqb, ltb, get_or}
-use Rattle.cells.specs.NodeWords.{number_of}
-
--- the number of the node at a place
-abbrev pub number_at : List (List ℕ) → ℕ → ℕ
-number_at nodes j = number_of (get_or nodes j [])
+use Rattle.std.specs.Prelude.{ℕ, ◌≤◌, ◌<◌, ◌≡◌, Bool, ◌&&◌, List, eqb, ltb, get_or}
+use Rattle.cells.specs.NodeWords.{number_at}
 
 -- whether the node at the place, one of n, has the number k
 abbrev pub has_number : List (List ℕ) → ℕ → ℕ → ℕ → Bool

@@ -13,7 +13,8 @@ use Rattle.cells.specs.LookupCall.{first_in}
 use Rattle.cells.proofs.Lookups.LookupLaws.{first_at, first_no}
 use Rattle.paths.specs.Scratch.{chain_at}
 use Rattle.paths.proofs.ScratchLaws.{low_kept, high_put}
-use Rattle.paths.specs.Index.{number_at, head_at, next_at, followed, headed, linked, First, Index, Found}
+use Rattle.paths.specs.Index.{head_at, next_at, followed, headed, linked, First, Index, Found}
+use Rattle.cells.specs.NodeWords.{number_at}
 use Rattle.paths.specs.Index.{Reach, here, there}
 use mathlib.Core.Bool.{true, false}
 use Rattle.std.specs.Option.{is_some}

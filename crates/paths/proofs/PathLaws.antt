@@ -7,16 +7,14 @@ use mathlib.Core.List.{List, map, ◌++◌}
 use mathlib.Core.Logic.{◌⊎◌}
 use lib.ListN.{length, take, drop}
 use lib.Seq.{take-length, length-take-le}
-use borrow.Author.Tests.{leb-false, ltb-false, lt-leb}
-use Rattle.numbers.specs.Refusals.{Answer, decided, done}
+use borrow.Author.Tests.{leb-false, ltb-false}
+use Rattle.numbers.specs.Refusals.{decided, done}
 use Rattle.numbers.proofs.Refusing.{passed}
 use Rattle.cells.specs.Cell.{Node}
 use Rattle.cells.specs.Memory.{memory, over_limit}
 use Rattle.cells.specs.CellOf.{nodes_of, node_with, link_of}
 use Rattle.cells.specs.declared.ynd.Ynd.{Ynd}
 use Rattle.cells.proofs.Forms.Limits.{within}
-use Rattle.walks.specs.PlaceCauses.{place_causes}
-use Rattle.walks.proofs.PlaceCases.{refused_before}
 use Rattle.walks.specs.WalkCall.{route}
 use Rattle.walks.specs.WalkParts.{lent, over}
 use Rattle.paths.specs.ShortestPath.{distance, Unreachable, ShortestPath}
@@ -31,7 +29,6 @@ use Rattle.paths.proofs.SearchLaws.{finished}
 use Rattle.paths.proofs.EdgeLaws.{link_within}
 use Rattle.paths.proofs.RelaxLaws.{all_links}
 use Rattle.std.specs.Prelude.{Result, Ok, Err}
-use Rattle.std.specs.Result.{IsErrAnd}
 use Rattle.numbers.specs.declared.refusal.Refusal.{Refusal}
 use Rattle.numbers.specs.declared.refusal.Refusal.TheVariants.{TooShort, NoPath}
 use Rattle.numbers.specs.declared.refusal.Lent.TheVariants as lent
@@ -60,14 +57,6 @@ accepted y nodes links p q room e =
       links_fit = ltb-false links y.link_count (passed cs 4 e);
       scratch_fits = ltb-false room (4 * y.node_count) (passed cs 5 e);
     }
-
--- a refusal of the place q or of a list
-pub refused_first : (y : Ynd) (nodes links p q room : ℕ) → p < y.node_count → {cause : Refusal}
-    → Err cause ≡ decided (place_causes y nodes links q) → (r : Answer) → IsErrAnd r (λ x. x ≡ cause)
-    → r ≡ decided (path_causes y nodes links p q room)
-unfolding path_causes place_causes
-refused_first y nodes links p q room inside e r is =
-    rw (lt-leb _ _ inside) (refused_before y nodes links q (drop 5 (path_causes y nodes links p q room)) e r is)
 
 -- ---- after the search
 

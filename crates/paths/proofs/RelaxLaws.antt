@@ -15,7 +15,8 @@ use Rattle.paths.specs.ShortestPath.{length_at}
 use Rattle.paths.specs.Labels.{unlabelled, weight, Links}
 use Rattle.paths.specs.Scratch.{label_at, from_at, by_at, chain_at, Fits, Popped, Cleared}
 use Rattle.paths.specs.Search.{Lent, edge_by, edge_of, Offered, passed, taken, Searching, work}
-use Rattle.paths.specs.Index.{number_at, AllEntered}
+use Rattle.paths.specs.Index.{AllEntered}
+use Rattle.cells.specs.NodeWords.{number_at}
 use Rattle.paths.specs.Going.{Ready}
 use Rattle.paths.specs.declared.search.Edge.{Edge}
 use Rattle.paths.specs.declared.search.Search.{Search}

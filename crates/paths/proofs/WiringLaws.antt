@@ -16,7 +16,7 @@ use Rattle.cells.specs.Cell.{Link, Node, Ref, Cell, no_node, node_at, is_ped_nod
 use Rattle.cells.specs.Cell.{first_of, old_nodes, ordered, relink, reref, renumber_cell}
 use Rattle.cells.proofs.Sequences.Tests.{every_map, every_append, every_keep}
 use Rattle.cells.proofs.Renumbering.NewCell.{every_number}
-use Rattle.paths.proofs.WiringBack.{link_again, ref_again}
+use Rattle.cells.proofs.WritingBack.Kept.{link_again, ref_again}
 use Rattle.paths.proofs.WiringBack.{Wiring, wiring_of, SameWiring}
 use Rattle.walks.specs.Sound.{sound, node_sound, ref_named, is_empty, differing}
 use Rattle.walks.specs.Walk.{stop, link_at, arrive, take_link, next}

@@ -1,7 +1,8 @@
 // Places by their nodes' numbers: chains in the fourth entry of each place. Every chain ends at place 0.
 ghost use Rattle.std.specs.Prelude.{◌≡◌, ℕ, ◌+◌, ◌*◌, ◌<◌, ◌≤◌, length};
 ghost use Rattle.cells.specs.LookupCall.{find_in};
-ghost use Rattle.paths.specs.Index.{number_at, head_at, next_at, linked, Index, Found, AllEntered, Room};
+ghost use Rattle.paths.specs.Index.{head_at, next_at, linked, Index, Found, AllEntered, Room};
+ghost use Rattle.cells.specs.NodeWords.{number_at};
 
 use cells::node::NodeWords;
 use cells::node_words::number_of;

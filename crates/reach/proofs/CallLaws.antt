@@ -13,10 +13,10 @@ use lib.Seq.{take_at, drop_at, get_or-take}
 use borrow.Author.Tests.{le-ltb}
 use Rattle.numbers.specs.Refusals.{Answer, when, decided, unless}
 use Rattle.cells.specs.declared.ynd.Ynd.{Ynd}
-use Rattle.cells.specs.Memory.{over_limit}
+use Rattle.cells.specs.Memory.{over_limit, nodes_causes}
 use Rattle.reach.specs.Reach.{stored, distances, within, nearest_of, places_within, near, times}
 use Rattle.reach.specs.Reach.{Precedes}
-use Rattle.reach.specs.Reach.{Left, left, listed, within_causes, within_call, nearest_causes, nearest_answer}
+use Rattle.reach.specs.Reach.{Left, left, listed, within_causes, within_call, nearest_answer}
 use Rattle.reach.specs.Reach.{nearest_call}
 use Rattle.reach.specs.declared.reach.NearestNode.{NearestNode}
 use Rattle.reach.proofs.DistanceLaws.{on_spot, spot}
@@ -122,7 +122,7 @@ module _ (ynd : Ynd) (nodes : List (List ℕ)) (x y : ℤ) (radius : ℕ) (place
     listed_long = ap length first_entries ∙ both.0
 
     tests : (over_limit ynd ≡ false) × (ltb (length nodes) ynd.node_count ≡ false)
-    unfolding within_call within_causes
+    unfolding within_call within_causes nodes_causes
     tests =
         let l = places_within ynd nodes x y radius in
         passed (over_limit ynd) (ltb (length nodes) ynd.node_count) (ltb (length places) (length l)) l places
@@ -195,11 +195,11 @@ module _ (ynd : Ynd) (nodes : List (List ℕ)) (x y : ℤ) where
   nothing_empty h =
       let d = distances x y nodes in
       nearest_none d ynd.node_count
-      (no_answer d (decided (nearest_causes ynd (length nodes))) (nearest_of d ynd.node_count) h)
+      (no_answer d (decided (nodes_causes ynd (length nodes))) (nearest_of d ynd.node_count) h)
 
   -- and the other; a struct with too many junctions is refused, whatever its nodes
   pub empty_nothing : over_limit ynd ≡ false → ynd.node_count ≡ 0 → nearest_call ynd nodes x y ≡ Ok None
-  unfolding nearest_call nearest_causes
+  unfolding nearest_call nodes_causes
   empty_nothing o e =
       let held = le-ltb (length nodes) ynd.node_count (omega arith) in
       rw (o, held, none_nearest (distances x y nodes) ynd.node_count e) refl
@@ -209,7 +209,7 @@ module _ (ynd : Ynd) (nodes : List (List ℕ)) (x y : ℤ) where
     unfolding nearest_call
     taken =
         let d = distances x y nodes in
-        at_answer d q s (decided (nearest_causes ynd (length nodes))) (nearest_of d ynd.node_count) h
+        at_answer d q s (decided (nodes_causes ynd (length nodes))) (nearest_of d ynd.node_count) h
 
     -- its squared distance comes with it
     pub nearest_distance : s ≡ distances x y nodes q
@@ -297,7 +297,7 @@ module _ (ynd : Ynd) (nodes : List (List ℕ)) (x y : ℤ) (radius : ℕ) (place
   -- T-08: the first entry is what `nearest` gives
   pub first_nearest : nearest_call ynd nodes x y
       ≡ Ok (Some (record { place = get_or after 0 0; square = distances x y nodes (get_or after 0 0) }))
-  unfolding nearest_call nearest_causes
+  unfolding nearest_call nodes_causes
   first_nearest =
       let d = distances x y nodes in
       let t = tests ynd nodes x y radius places after count h in

@@ -11,7 +11,7 @@ use lib.IntN.{ℤ}
 use mir.Syntax.{w16}
 use mir.Val.{SFits, to_z, of_z}
 use mir.ValLaws.{to_z-of_z}
-use lib.ListN.{length, take}
+use lib.ListN.{get_or, length, take}
 use lib.Seq.{get_or-take, length-take-le}
 use Rattle.reach.specs.Reach.{only_if, squared, distances, within, near_first, ordered}
 use Rattle.reach.specs.Reach.{nearer, nearest_of, nearest_answer}
@@ -85,14 +85,15 @@ module _ (d e : ℕ → ℕ) (m n : ℕ) (c : Cut d e m n) where
       ∙ answer_same d e n c.same (nearest_of e n) (λ q f. (nearest_is e n q f).place)
 
 -- the distances of the first n nodes from a point
-pub cut_nodes : (x y : ℤ) (nodes first : List (List ℕ)) (far : ℕ → ℕ) (n : ℕ) → SFits w16 x → SFits w16 y
-    → n ≤ length nodes → first ≡ take n nodes
-    → far ≡ distances (to_z w16 (of_z w16 x)) (to_z w16 (of_z w16 y)) (take n nodes)
+pub cut_nodes : (x y : ℤ) (nodes own first : List (List ℕ)) (far : ℕ → ℕ) (n : ℕ) → SFits w16 x → SFits w16 y
+    → n ≤ length nodes → own ≡ take n nodes → first ≡ own
+    → far ≡ distances (to_z w16 (of_z w16 x)) (to_z w16 (of_z w16 y)) own
     → Cut far (distances x y nodes) (length first) n
 unfolding distances
-cut_nodes x y nodes first far n fx fy le e f = record {
-  long = ap length e ∙ length-take-le n nodes le;
+cut_nodes x y nodes own first far n fx fy le eo e f = record {
+  long = ap length (e ∙ eo) ∙ length-take-le n nodes le;
   same = λ p lt.
       (λ i. f i p)
+      ∙ (λ i. squared (to_z w16 (of_z w16 x)) (to_z w16 (of_z w16 y)) (get_or (eo i) p []))
       ∙ (λ i. squared (to_z-of_z w16 x fx i) (to_z-of_z w16 y fy i) (get_or-take n nodes p [] lt i));
 }

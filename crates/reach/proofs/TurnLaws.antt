@@ -14,6 +14,7 @@ use lib.Seq.{drop-cons, set_at, append_snoc}
 use borrow.Author.Tests.{le-leb, lt-leb, lt-ltb, le-ltb, ltb-true, ltb-false}
 use Rattle.std.specs.List.{filter}
 use Rattle.std.proofs.Math.Seq.{take-length}
+use Rattle.std.proofs.lemmas.List.{get_or-drop, get_or-take, length-drop, length-take-le}
 use Rattle.std.proofs.lemmas.List.Filters.{length-filter_more}
 use Rattle.std.proofs.lemmas.Bool.Decides.{nat_tests}
 use Rattle.numbers.specs.Steps.{step_of}
@@ -154,6 +155,18 @@ module _ (d : ℕ → ℕ) where
   pub nearest_one : nearest_of d 1 ≡ some 0
   unfolding nearest_of
   nearest_one = refl
+
+-- a node behind the first
+pub nearest_rest : (x y i : ℕ) (nodes : List (List ℕ)) → i < length (take (length nodes - 1) (drop 1 nodes))
+    → far_from x y (get_or (take (length nodes - 1) (drop 1 nodes)) i []) ≡ far x y nodes (i + 1)
+unfolding far
+nearest_rest x y i nodes h = ap (far_from x y) (get_or-take (length nodes - 1) (drop 1 nodes) i []
+    (omega (arith, length-take-le (length nodes - 1) (drop 1 nodes) (omega (arith, length-drop 1 nodes))))
+    ∙ get_or-drop 1 nodes i []
+    ∙ ap (λ (k : ℕ). get_or nodes k []) (swap i))
+  where
+    swap : (i : ℕ) → 1 + i ≡ i + 1
+    swap i = omega arith
 
 -- ---- the laws that each function goes by, for the check
 

@@ -10,11 +10,11 @@ use Rattle.cells.specs.Lists.{join_to}
 use Rattle.cells.specs.Order.{one_if}
 use Rattle.cells.specs.Words.{to_node}
 use Rattle.cells.specs.declared.ynd.Ynd.{Ynd}
-use Rattle.cells.specs.Memory.{over_limit}
+use Rattle.cells.specs.Memory.{nodes_causes}
 use Rattle.reach.specs.Sorted.{sorted}
 use Rattle.std.specs.Prelude.{Option, Result, Ok, Err, Some, None}
 use Rattle.numbers.specs.declared.refusal.Refusal.{Refusal}
-use Rattle.numbers.specs.declared.refusal.Refusal.TheVariants.{TooShort, AtLimit}
+use Rattle.numbers.specs.declared.refusal.Refusal.TheVariants.{TooShort}
 use Rattle.numbers.specs.declared.refusal.Lent.TheVariants as lent
 use Rattle.reach.specs.declared.reach.NearestNode.{NearestNode}
 
@@ -82,13 +82,8 @@ abbrev pub listed : Answer → List ℕ → List ℕ → Left
 listed (Ok _) l places = left (Ok (length l)) (l ++ drop (length l) places)
 listed (Err cause) l places = left (Err cause) places
 
-unfoldable pub nearest_causes : Ynd → ℕ → List Cause
-nearest_causes ynd nodes = when (over_limit ynd) AtLimit ∷ when (ltb nodes ynd.node_count) (TooShort lent.Nodes) ∷ []
-
 unfoldable pub within_causes : Ynd → ℕ → ℕ → ℕ → List Cause
-within_causes ynd nodes count room =
-    when (over_limit ynd) AtLimit ∷ when (ltb nodes ynd.node_count) (TooShort lent.Nodes)
-    ∷ when (ltb room count) (TooShort lent.List) ∷ []
+within_causes ynd nodes count room = nodes_causes ynd nodes ++ (when (ltb room count) (TooShort lent.List) ∷ [])
 
 -- the places to list
 unfoldable pub places_within : Ynd → List (List ℕ) → ℤ → ℤ → ℕ → List ℕ
@@ -108,7 +103,7 @@ nearest_answer d (some p) = Ok (Some (record { place = p; square = d p }))
 -- T-01: the nearest node's place with its squared distance, or none in an empty cell
 unfoldable pub nearest_call : Ynd → List (List ℕ) → ℤ → ℤ → Result (Option NearestNode) Refusal
 nearest_call ynd nodes x y =
-    unless (decided (nearest_causes ynd (length nodes)))
+    unless (decided (nodes_causes ynd (length nodes)))
     (nearest_answer (distances x y nodes) (nearest_of (distances x y nodes) ynd.node_count))
 
 -- ---- for the laws

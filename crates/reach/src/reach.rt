@@ -5,7 +5,7 @@ ghost use Rattle.reach.specs.Parts.{distances_from};
 
 use crate::distance::{Point, beyond};
 use cells::node::NodeWords;
-use cells::room::over_limit;
+use cells::room::own_nodes;
 use cells::ynd::Ynd;
 use numbers::refusal::{Lent, Refusal};
 
@@ -65,10 +65,10 @@ impl Point<'_> {
     {
         let mut best = 0;
         let mut least = self.square_distance(&self.nodes[0]);
-        for (i, w) in self.nodes.iter().enumerate().skip(1) {
+        for (i, w) in self.nodes[1..].iter().enumerate() {
             let d = self.distance_up_to(w, least);
             if d < least {
-                best = i;
+                best = i + 1;
                 least = d;
             }
         }
@@ -81,7 +81,7 @@ impl Point<'_> {
 
 // Fills the first entries with the place of every node whose stored x and y lie at most the radius away, each once and
 // no other, ascending by squared distance, equal distances by place; later entries stay. Answers how many.
-#[tactic(auto, using(numbers::proofs::Refusing::tested), unfolding(crate::specs::Reach::within_call, crate::specs::Reach::within_causes))]
+#[tactic(auto, using(crate::proofs::Answers::within_laws), unfolding(crate::specs::Reach::within_call, crate::specs::Reach::within_causes, cells::specs::Memory::nodes_causes))]
 pub fn within(
     ynd: Ynd,
     nodes: &[NodeWords],
@@ -93,14 +93,8 @@ pub fn within(
     ensures { left result places.new
         ≡ within_call ynd nodes.now x y radius places.old }
 {
-    let n = ynd.node_count as usize;
-    if over_limit(ynd) {
-        return Err(Refusal::AtLimit);
-    }
-    if nodes.len() < n {
-        return Err(Refusal::TooShort(Lent::Nodes));
-    }
-    let point = Point::new(&nodes[..n], x, y);
+    let own = own_nodes(ynd, nodes)?;
+    let point = Point::new(own, x, y);
     if !point.has_room(radius, places.len()) {
         return Err(Refusal::TooShort(Lent::List));
     }
@@ -110,7 +104,7 @@ pub fn within(
 }
 
 // The node with the least squared distance, the lowest place where equal; nothing in a cell without nodes.
-#[tactic(auto, using(crate::proofs::Answers::nearest_laws), unfolding(crate::specs::Reach::nearest_call, crate::specs::Reach::nearest_causes, crate::specs::Reach::nearest_of))]
+#[tactic(auto, using(crate::proofs::Answers::nearest_laws), unfolding(crate::specs::Reach::nearest_call, crate::specs::Reach::nearest_of))]
 pub fn nearest(
     ynd: Ynd,
     nodes: &[NodeWords],
@@ -119,15 +113,9 @@ pub fn nearest(
 ) -> Result<Option<NearestNode>, Refusal>
     ensures { result ≡ nearest_call ynd nodes.now x y }
 {
-    let n = ynd.node_count as usize;
-    if over_limit(ynd) {
-        return Err(Refusal::AtLimit);
-    }
-    if nodes.len() < n {
-        return Err(Refusal::TooShort(Lent::Nodes));
-    }
-    if n == 0 {
+    let own = own_nodes(ynd, nodes)?;
+    if own.is_empty() {
         return Ok(None);
     }
-    Ok(Some(Point::new(&nodes[..n], x, y).nearest_of()))
+    Ok(Some(Point::new(own, x, y).nearest_of()))
 }

@@ -7,7 +7,7 @@ use mathlib.Core.List.{List, [], ◌∷◌}
 use lib.ListN.{replicate}
 use Rattle.records.specs.Bytes.{number_at, number_bytes}
 use Rattle.records.specs.Put.{put}
-use Rattle.cells.specs.Memory.{Memory, memory, over_limit}
+use Rattle.cells.specs.Memory.{Memory, memory, over_limit, nodes_causes}
 use Rattle.cells.specs.NodeWords.{number_of}
 use Rattle.cells.specs.CellOf.{nodes_of}
 use Rattle.cells.specs.Lookup.{first_with, find}
@@ -100,26 +100,28 @@ nodes = memory (cell 3) (node 7 ∷ node 4 ∷ node 4 ∷ []) [] [] [] []
 
 -- the start is a number, no place
 pub by_number : follow_round nodes 7 [] (9 ∷ []) ≡ walk_left (Ok (record { end = Done; count = 1 })) (0 ∷ [])
-unfolding follow_round node_call over_limit find_in numbers_in number_of find first_with walk_call route nodes_of
+unfolding follow_round node_call nodes_causes over_limit find_in numbers_in number_of find first_with walk_call route
+    nodes_of
 by_number = refl
 
 -- no node has the number 0, though there is a place 0
 pub no_such_number : follow_round nodes 0 [] (9 ∷ []) ≡ walk_left (Err NoSuchPlace) (9 ∷ [])
-unfolding follow_round node_call over_limit find_in numbers_in number_of find first_with
+unfolding follow_round node_call nodes_causes over_limit find_in numbers_in number_of find first_with
 no_such_number = refl
 
 -- of two nodes with the number, what `node` finds: the first
 pub first_of_two : follow_round nodes 4 [] (9 ∷ []) ≡ walk_left (Ok (record { end = Done; count = 1 })) (1 ∷ [])
-unfolding follow_round node_call over_limit find_in numbers_in number_of find first_with walk_call route nodes_of
+unfolding follow_round node_call nodes_causes over_limit find_in numbers_in number_of find first_with walk_call route
+    nodes_of
 first_of_two = refl
 
 -- a number can't be missed in a list that isn't there: 7 at 0 before 13
 pub nodes_not_there : follow_round (memory (cell 1) [] [] [] [] []) 0 [] (9 ∷ [])
     ≡ walk_left (Err (TooShort lent.Nodes)) (9 ∷ [])
-unfolding follow_round node_call over_limit
+unfolding follow_round node_call nodes_causes over_limit
 nodes_not_there = refl
 
 -- 13 before 7 at 8
 pub number_before_visited : follow_round nodes 0 [] [] ≡ walk_left (Err NoSuchPlace) []
-unfolding follow_round node_call over_limit find_in numbers_in number_of find first_with
+unfolding follow_round node_call nodes_causes over_limit find_in numbers_in number_of find first_with
 number_before_visited = refl

@@ -5,7 +5,7 @@ use mathlib.Core.Path.{◌≡◌, refl}
 use mathlib.Core.List.{[], ◌∷◌}
 use Rattle.records.specs.Bytes.{number_at, number_bytes}
 use Rattle.records.specs.Put.{put}
-use Rattle.cells.specs.Memory.{Memory, memory, over_limit}
+use Rattle.cells.specs.Memory.{Memory, memory, over_limit, nodes_causes}
 use Rattle.cells.specs.NodeWords.{area_of, number_of}
 use Rattle.cells.specs.CellOf.{nodes_of}
 use Rattle.cells.specs.Lookup.{first_with, find}
@@ -79,28 +79,28 @@ one area = memory (cell 1) (((area + 7 * 65536) ∷ 0 ∷ 0 ∷ 0 ∷ 0 ∷ 0 �
 -- the cell's area: followed from the number, as a round of version 1
 pub own_round : follow_version (one 5) (Two 5) 7 [] (9 ∷ [])
     ≡ walk_left (Ok (record { end = Done; count = 1 })) (0 ∷ [])
-unfolding follow_version follow_round area_id_call area_of node_call over_limit find_in numbers_in number_of find
-    first_with walk_call route nodes_of
+unfolding follow_version follow_round area_id_call area_of node_call nodes_causes over_limit find_in numbers_in
+    number_of find first_with walk_call route nodes_of
 own_round = refl
 
 -- 19 before 13: another area, and a number that no node has
 pub another_area : follow_version (one 5) (Two 6) 99 [] (9 ∷ []) ≡ walk_left (Err OtherArea) (9 ∷ [])
-unfolding follow_version area_id_call area_of over_limit
+unfolding follow_version area_id_call nodes_causes area_of over_limit
 another_area = refl
 
 -- an island's area is compared in full: with the bit 1024 it isn't the area without it
 pub island_in_full : follow_version (one 1029) (Two 5) 7 [] (9 ∷ []) ≡ walk_left (Err OtherArea) (9 ∷ [])
-unfolding follow_version area_id_call area_of over_limit
+unfolding follow_version area_id_call nodes_causes area_of over_limit
 island_in_full = refl
 
 -- an empty cell's area is 0: it is the cell that was meant, and the number isn't there
 pub empty_cell : follow_version (memory (cell 0) [] [] [] [] []) (Two 0) 7 [] (9 ∷ [])
     ≡ walk_left (Err NoSuchPlace) (9 ∷ [])
-unfolding follow_version follow_round area_id_call node_call over_limit find_in numbers_in find first_with
+unfolding follow_version follow_round area_id_call node_call nodes_causes over_limit find_in numbers_in find first_with
 empty_cell = refl
 
 -- version 1 belongs to the cell it is followed in
 pub any_cell : follow_version (one 1029) One 7 [] (9 ∷ []) ≡ walk_left (Ok (record { end = Done; count = 1 })) (0 ∷ [])
-unfolding follow_version follow_round area_id_call node_call over_limit find_in numbers_in number_of find first_with
-    walk_call route nodes_of
+unfolding follow_version follow_round area_id_call node_call nodes_causes over_limit find_in numbers_in number_of find
+    first_with walk_call route nodes_of
 any_cell = refl

@@ -6,7 +6,7 @@ use mathlib.Core.Path.{◌≡◌, refl, sym, ap, ◌∙◌}
 use mathlib.Core.List.{List, [], ◌∷◌, map}
 use lib.ListN.{length, take}
 use borrow.Author.Tests.{le-ltb}
-use Rattle.cells.specs.Memory.{Memory}
+use Rattle.cells.specs.Memory.{Memory, nodes_causes}
 use Rattle.cells.specs.Cell.{Link, first_of}
 use Rattle.cells.specs.CellOf.{link_of, node_with, nodes_of, cell_of}
 use Rattle.cells.specs.LookupCall.{Place, area_of_first, area_id_call}
@@ -27,7 +27,7 @@ use Rattle.std.specs.Prelude.{Ok, Err, Some}
 -- where the lists hold a cell with a node, asking for its own area answers it
 own_area_call : (m : Memory) → Lies m → 0 < length (nodes_of m)
     → area_id_call m.ynd m.nodes ≡ Ok (Some (first_of (nodes_of m)))
-unfolding area_id_call nodes_of
+unfolding area_id_call nodes_causes nodes_of
 own_area_call m lies some =
     rw (lies.within, le-ltb (length m.nodes) m.ynd.node_count lies.nodes_lie)
     (of_first (map link_of (take m.ynd.link_count m.links)) (take m.ynd.node_count m.nodes) some)

@@ -1,15 +1,15 @@
 -- T-11 in a set: in which member a round starts, and when it is 19.
 -- Assumes nothing.
-use Rattle.std.proofs.Common.{◌≡◌, ℕ, List, [], ◌∷◌, refl, sym, ap, ◌∙◌, eqb, ltb, length}
+use Rattle.std.proofs.Common.{◌≡◌, ℕ, List, [], ◌∷◌, refl, sym, ap, ◌∙◌, eqb, length}
 use Rattle.std.proofs.Math.Option.{Option as Found, none, some}
 use Rattle.std.specs.Prelude.{Bool, true, false, not, ◌&&◌, cond, Option, Some, None, Result, Ok, Err}
 use Rattle.numbers.specs.declared.refusal.Refusal.{Refusal}
-use Rattle.numbers.specs.declared.refusal.Refusal.TheVariants.{OtherArea, AtLimit, TooShort}
-use Rattle.numbers.specs.declared.refusal.Lent.TheVariants as lent
+use Rattle.numbers.specs.declared.refusal.Refusal.TheVariants.{OtherArea}
 use Rattle.numbers.specs.Refusals.{number_of, Answer, Cause, decided}
+use Rattle.numbers.specs.Refusals.{unless as otherwise}
 use Rattle.cells.specs.LookupCall.{place_of, node_call, find_in}
 use Rattle.cells.proofs.Sequences.Tests.{true_false}
-use Rattle.cells.specs.Memory.{Memory, over_limit}
+use Rattle.cells.specs.Memory.{Memory, nodes_causes}
 use Rattle.walks.specs.Walk.{Trail}
 use Rattle.walks.specs.Claim.{places}
 use Rattle.rounds.specs.declared.file.Version.{Version}
@@ -69,22 +69,14 @@ unfolding without_19 ask_causes set_causes lack_of
 asked_no_19 y j = decided_no_19 (ask_causes y j) refl
 
 found_no_19 : (m : Memory) (k : ℕ) → is_number 19 (there (node_call m.ynd m.nodes k)) ≡ false
-unfolding node_call
-found_no_19 m k = by_limit (over_limit m.ynd)
+unfolding without_19 node_call nodes_causes
+found_no_19 m k = go (decided (nodes_causes m.ynd (length m.nodes)))
+    (decided_no_19 (nodes_causes m.ynd (length m.nodes)) refl) (find_in m.ynd.node_count m.nodes k)
   where
-    found : (o : Option ℕ) → is_number 19 (there (Ok o)) ≡ false
-    found (Some p) = refl
-    found None = refl
-
-    by_room : (b : Bool) (o : Option ℕ) → is_number 19 (there (cond b (Err (TooShort lent.Nodes)) (Ok o))) ≡ false
-    by_room true o = refl
-    by_room false o = found o
-
-    by_limit : (b : Bool) → is_number 19 (there (cond b (Err AtLimit)
-        (cond (ltb (length m.nodes) m.ynd.node_count) (Err (TooShort lent.Nodes))
-        (Ok (find_in m.ynd.node_count m.nodes k))))) ≡ false
-    by_limit true = refl
-    by_limit false = by_room (ltb (length m.nodes) m.ynd.node_count) (find_in m.ynd.node_count m.nodes k)
+    go : (a : Answer) → is_number 19 a ≡ false → (o : Option ℕ) → is_number 19 (there (otherwise a (Ok o))) ≡ false
+    go (Ok x) e (Some p) = refl
+    go (Ok x) e None = refl
+    go (Err r) e o = e
 
 start_no_19 : (y : CellSet) (j k : ℕ) → is_number 19 (start_in_member y j k) ≡ false
 unfolding ask_member

@@ -33,7 +33,8 @@ use Rattle.sets.specs.Members.{no_cell, cell_at}
 use Rattle.sets.specs.MemberList.{unless}
 use Rattle.sets.specs.MemberLookup.{ask_member, there, start_in_member}
 use Rattle.sets.specs.SetCalls.{SetCall}
-use Rattle.sets.specs.SetCallsClaim.{cells_in, CallsUnnoticed}
+use Rattle.sets.specs.SetCallsClaim.{CallsUnnoticed}
+use Rattle.sets.specs.CellSet.{cells_in}
 use Rattle.sets.specs.SetClaim.{Stands, CellAsRead}
 use Rattle.sets.specs.SetRun.{run_set, moved_on}
 use Rattle.sets.specs.SetSound.{set_sound}

@@ -2,7 +2,7 @@
 use Rattle.std.proofs.Math.Bool.{and-true}
 use Prim.Native.Nat.{ℕ, zero, suc, ◌<◌}
 use native.Mathlib.Omega.{arith}
-use mathlib.Core.Path.{◌≡◌, refl, ap, sym, subst, ◌∙◌}
+use mathlib.Core.Path.{◌≡◌, refl, ap, sym, ◌∙◌}
 use mathlib.Core.Bool.{Bool, true, not, ◌&&◌, ◌||◌}
 use native.Mathlib.Numerals.{add-one}
 use mathlib.Core.List.{List, [], ◌∷◌, map}
@@ -11,15 +11,12 @@ use Rattle.std.proofs.lemmas.List.Folds.{list_all-append, list_all-map}
 use Rattle.std.proofs.lemmas.List.FromFn.{map-range_with_len_more}
 use mathlib.Core.Option.{Option, none, some}
 use lib.ListN.{length, get_or, take, drop}
-use lib.Seq.{take_all}
 use Rattle.cells.specs.NodeWords.{number_of}
 use borrow.Author.Tests.{eq-eqb, ne_eqb}
 use Rattle.cells.specs.Lists.{every}
 use Rattle.cells.specs.Lookup.{first_with, is_some}
 use Rattle.cells.specs.LookupCall.{numbers_in}
 use Rattle.cells.specs.NodeWords.{link_start, link_count}
-use Rattle.cells.specs.RenumberParts.{Indexed}
-use Rattle.walks.specs.SoundParts.{Ready}
 use Rattle.sets.specs.Members.{member_for}
 use Rattle.sets.specs.SetRenumber.{is_member}
 use Rattle.sets.specs.Leave.{start_of}
@@ -82,17 +79,6 @@ below_all f (suc n) =
 
 -- ---- the member that is named, by its own nodes
 
-pub numbers_taken : (n : ℕ) (l : List (List ℕ)) → numbers_in (length (take n l)) (take n l) ≡ numbers_in n l
-unfolding numbers_in
-numbers_taken n l = ap (map number_of) (take_all (length (take n l)) (take n l) (omega arith))
-
-pub ready_taken : (n : ℕ) (l : List (List ℕ)) (s : List ℕ) → Ready n l s → Ready (length (take n l)) (take n l) s
-ready_taken n l s r = record {
-  nodes_fit = omega arith;
-  scratch_fits = r.scratch_fits;
-  leads = subst (λ (ks : List ℕ). Indexed ks s) (sym (numbers_taken n l)) r.leads;
-}
-
 -- whether the links of each member that name the member k name one of these numbers
 abbrev pub meets_by : List ℕ → List (List ℕ) → List (List ℕ) → List (List ℕ) → ℕ → List ℕ → ℕ → Bool
 meets_by all ws nodes links k ks i =
@@ -101,11 +87,10 @@ meets_by all ws nodes links k ks i =
 
 pub meets_all : (all : List ℕ) (ws nodes links : List (List ℕ)) (k : ℕ) (T : List (List ℕ))
     → T ≡ take (count_of 10 ws k) (drop (start_of 15 ws k) nodes)
-    → list_all (meets_by all ws nodes links k (numbers_in (length T) T)) (range_with_len 0 (length ws))
+    → list_all (meets_by all ws nodes links k (map number_of T)) (range_with_len 0 (length ws))
     ≡ all_below (part_meets all ws nodes links k) (length ws)
-unfolding part_meets numbers_of
+unfolding part_meets numbers_of numbers_in
 meets_all all ws nodes links k T e =
     ap (λ (ks : List ℕ). list_all (meets_by all ws nodes links k ks) (range_with_len 0 (length ws)))
-    (ap (λ (t : List (List ℕ)). numbers_in (length t) t) e
-    ∙ numbers_taken (count_of 10 ws k) (drop (start_of 15 ws k) nodes))
+    (ap (map number_of) e)
     ∙ below_all (part_meets all ws nodes links k) (length ws)

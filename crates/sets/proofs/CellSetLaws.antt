@@ -1,18 +1,18 @@
 -- A set in six lists: its members, and their areas.
-use Prim.Native.Nat.{ℕ, zero, suc, ◌<◌}
+pub use Rattle.cells.proofs.Lookups.LookupLaws.{first_found, first_none}
+use Prim.Native.Nat.{ℕ, ◌<◌}
 use native.Mathlib.Omega.{arith}
 use native.Mathlib.Nat.{zero-add}
-use mathlib.Core.Path.{◌≡◌, refl, ap, sym, ◌∙◌}
-use mathlib.Core.List.{List, [], ◌∷◌}
-use mathlib.Core.Option.{none, some}
+use mathlib.Core.Path.{◌≡◌, ap, sym, ◌∙◌}
+use mathlib.Core.List.{List, []}
+use mathlib.Core.Option.{some}
 use lib.ListN.{length, get_or, take, drop, length-map}
 use lib.Seq.{ext_get_or}
-use borrow.Author.Tests.{eq-eqb, ne_eqb}
 use Rattle.cells.specs.Memory.{Memory}
 use Rattle.cells.specs.CellOf.{nodes_of, cell_of}
 use Rattle.cells.specs.Cell.{Cell, first_of}
-use Rattle.cells.specs.Lookup.{first_with}
 use Rattle.cells.specs.NodeWords.{first_area}
+use Rattle.cells.specs.Lookup.{first_with}
 use Rattle.cells.proofs.Lookups.LookupLaws.{area_held}
 use Rattle.sets.specs.Members.{areas, area_of}
 use Rattle.sets.specs.MemberList.{no_memory, member_at, cells_of}
@@ -82,18 +82,15 @@ areas_held y =
 
 -- ---- the first with an area
 
-pub first_found : (xs : List ℕ) (k i : ℕ) → i < length xs → get_or xs i 0 ≡ k
-    → ((j : ℕ) → j < i → get_or xs j 0 ≡ k → ⊥) → first_with xs k ≡ some i
-unfolding first_with
-first_found [] k i lt e h = absurd (omega arith)
-first_found (x ∷ xs) k zero lt e h = rw (eq-eqb x k e)
-first_found (x ∷ xs) k (suc i) lt e h =
-    rw (ne_eqb x k (h 0 (omega arith)), first_found xs k i (omega arith) e (λ j l. h (suc j) (omega arith)))
-
-pub first_none : (xs : List ℕ) (k : ℕ) → ((j : ℕ) → j < length xs → get_or xs j 0 ≡ k → ⊥) → first_with xs k ≡ none
-unfolding first_with
-first_none [] k h = refl
-first_none (x ∷ xs) k h = rw (ne_eqb x k (h 0 (omega arith)), first_none xs k (λ j l. h (suc j) (omega arith)))
+-- the first with an area, by its own part
+pub first_there : (ws nodes : List (List ℕ)) (area i start room n a : ℕ) (own : List (List ℕ)) → i < length ws
+    → n ≡ count_of 10 ws i → room ≡ count_of 15 ws i → drop start nodes ≡ drop (start_of 15 ws i) nodes
+    → own ≡ take room (drop start nodes) → a ≡ first_area (take n own) → a ≡ area
+    → ((j : ℕ) → j < i → get_or (areas_of ws nodes) j 0 ≡ area → ⊥) → first_with (areas_of ws nodes) area ≡ some i
+first_there ws nodes area i start room n a own lt en er e eo ea is h =
+    first_found (areas_of ws nodes) area i (omega (arith, areas_many ws nodes))
+    (sym (area_there ws nodes i start room n lt en er e)
+    ∙ ap (λ (p : List (List ℕ)). first_area (take n p)) (sym eo) ∙ sym ea ∙ is) h
 
 -- for the check
 pub ruleset place_laws = (first_found, first_none)

@@ -1,6 +1,4 @@
 -- What the call of a crossing walk answers.
-use Rattle.std.proofs.lemmas.Result.{err_from_is_err_and}
-use Rattle.std.specs.Result.{IsErrAnd}
 use Rattle.std.proofs.lemmas.Bool.{not-false, or_parts}
 use Prim.Native.Nat.{ℕ, ◌≤◌, ◌<◌}
 use native.Mathlib.Omega.{arith}
@@ -136,21 +134,11 @@ module _ (y : CellSet) (bs : List ℕ) (s : Location) (visited : List (List ℕ)
       ∷ [])
       (when (ltb room count) (TooShort lent.List) ∷ [])))
 
-  call_split : cross_member y bs s visited
+  pub call_split : cross_member y bs s visited
       ≡ crossed_by (unless start
       (decided (when (ltb (length visited) (length (places trail))) (TooShort lent.List) ∷ []))) trail visited
   unfolding cross_member
   call_split = ap (λ (a : Answer). crossed_by a trail visited) (causes_split (length (places trail)) (length visited))
-
-  pub start_refused : {x : Refusal} {a : Answer} {r : Result Walked Refusal} → a ≡ Err x → a ≡ start
-      → IsErrAnd r (λ z. z ≡ x) → crossing_left r visited ≡ cross_member y bs s visited
-  start_refused is e er =
-      let k = err_from_is_err_and _ er in
-      ap (λ (q : Result Walked Refusal). crossing_left q visited) (k.1 ∙ ap Err k.2)
-      ∙ sym (call_split ∙ ap
-      (λ (b : Answer). crossed_by (unless b
-      (decided (when (ltb (length visited) (length (places trail))) (TooShort lent.List) ∷ []))) trail visited)
-      (sym e ∙ is))
 
   -- the other three lists don't count
   abbrev seen : Trail Location

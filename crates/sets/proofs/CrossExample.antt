@@ -9,7 +9,8 @@ use Rattle.cells.specs.Memory.{over_limit}
 use Rattle.cells.specs.Words.{to_node}
 use Rattle.cells.specs.Area.{belongs}
 use Rattle.cells.specs.NodeWords.{area_of, number_of}
-use Rattle.cells.specs.CellOf.{body_of, nodes_of, junctions_of, refs_of, cell_of}
+use Rattle.cells.specs.CellOf.{nodes_of, junctions_of, refs_of, cell_of}
+use Rattle.cells.specs.Cell.{body_of}
 use Rattle.cells.specs.Lookup.{first_with, find}
 use Rattle.walks.specs.Sound.{differing, sound}
 use Rattle.walks.specs.SoundCall.{indexed}

@@ -11,7 +11,7 @@ use Rattle.cells.specs.CellOf.{link_of, nodes_of, cell_of}
 use Rattle.cells.proofs.Forms.Limits.{within as limits}
 use Rattle.std.proofs.lemmas.List.{get_or_past}
 use Rattle.std.specs.declared.option.Option as std
-use Rattle.cells.specs.Memory.{Memory}
+use Rattle.cells.specs.Memory.{Memory, nodes_causes}
 use Rattle.cells.specs.Lookup.{find}
 use Rattle.cells.specs.LookupCall.{Place, numbers_in, place_of, find_in, node_call}
 use Rattle.cells.specs.declared.ynd.Ynd.{Ynd}
@@ -68,7 +68,7 @@ module _ (x : World) (number : ℕ) {k start : ℕ} {v : Ynd} {o : Place} (lt : 
   numbers_here = numbers_at (walked_set ws x.nodes.now x.links.now) k lt (x.lent.nodes_hold.held k lt)
 
   told : o ≡ Ok (place_of (find ks number))
-  unfolding node_call find_in ynd_of
+  unfolding node_call nodes_causes find_in ynd_of
   told =
       e
       ∙ ap (λ (l : List (List ℕ)). node_call v l number) (rest x.nodes.now start)

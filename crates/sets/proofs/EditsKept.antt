@@ -17,7 +17,8 @@ use Rattle.cells.specs.declared.ynd.Ynd.{Ynd}
 use Rattle.cells.specs.declared.junction.PathJunction.{PathJunction}
 use Rattle.cells.specs.declared.link.PathLink.{PathLink}
 use Rattle.cells.specs.declared.node.PathNode.{PathNode}
-use Rattle.sets.specs.MemberEdit.{put_words, nodes_left, links_left, junctions_left, heights_left, refs_left}
+use Rattle.sets.specs.MemberEdit.{put_words}
+use Rattle.cells.specs.Edit.{nodes_left, links_left, junctions_left, heights_left, refs_left}
 use Rattle.std.specs.Prelude.{Result, Ok, Err}
 use Rattle.numbers.specs.Refusals.{Answer}
 use Rattle.numbers.proofs.Refusing.{not_refused}

@@ -9,7 +9,7 @@ use lib.Seq.{length-take-le, take_at}
 use borrow.Author.Tests.{lt-leb}
 use Rattle.numbers.specs.Refusals.{decided}
 use Rattle.numbers.specs.Refusals.{unless as otherwise}
-use Rattle.cells.specs.Memory.{Memory, memory, Left, left, unless, refuse}
+use Rattle.cells.specs.Memory.{Memory, memory, Left, left, unless, refuse, short_of}
 use Rattle.std.specs.Result.{IsErrAnd}
 use Rattle.std.proofs.lemmas.Result.{err_from_is_err_and}
 use Rattle.cells.specs.Add.{done}
@@ -20,12 +20,12 @@ use Rattle.cells.proofs.Reading.Fits.{Whole, whole}
 use Rattle.sets.specs.CellSet.{CellSet, ynd_of, set_causes}
 use Rattle.sets.specs.Leave.{first_of_area, leave_causes, start_of}
 use Rattle.sets.specs.Join.{stored, set_lengths, cell_lengths}
-use Rattle.cells.specs.RenumberParts.{counts_of}
+use Rattle.cells.specs.RenumberParts.{counts_of, lengths_of}
 use Rattle.sets.specs.SetParts.{named_of, areas_of, count_of, Holding}
 use Rattle.sets.specs.SetStored.{member_in, ask_causes}
 use Rattle.sets.specs.HandBack.{copied, leaver, lack_of_back, hand_causes, hand_back}
 use Rattle.sets.specs.MemberParts.{between, part_memory, Given, Giving}
-use Rattle.cells.specs.declared.count.Counts.{Counts}
+use Rattle.cells.specs.declared.counts.Counts.{Counts}
 use Rattle.sets.specs.declared.member.MemberPart.{MemberPart}
 use Rattle.sets.proofs.PartLaws.{start_next}
 use Rattle.sets.proofs.LeaveLaws.{found_is, named_some, named_none}
@@ -37,6 +37,14 @@ use Rattle.std.specs.Prelude.{Result, Ok, Err, Some, None}
 use Rattle.numbers.specs.Refusals.{Answer}
 use Rattle.numbers.specs.declared.refusal.Refusal.{Refusal}
 use Rattle.numbers.specs.declared.refusal.Refusal.TheVariants.{NoSuchPlace}
+
+-- what is asked of the lists lent, by how long they are
+pub lack_told : (y : Ynd) (nodes links junctions refs : List (List ℕ)) (heights : List ℕ) {lent : Counts} {a : Answer}
+    → lent ≡ lengths_of nodes links junctions heights refs
+    → a ≡ short_of y lent.nodes lent.links lent.junctions lent.heights lent.refs
+    → short_of y (length nodes) (length links) (length junctions) (length heights) (length refs) ≡ a
+lack_told y nodes links junctions refs heights el ea =
+    sym (ea ∙ ap (λ (k : Counts). short_of y k.nodes k.links k.junctions k.heights k.refs) el)
 
 -- ---- what is copied
 

@@ -21,7 +21,7 @@ use Rattle.sets.specs.Leave.{SetLeft, set_left, left_after, used, start_of, firs
 use Rattle.sets.specs.Join.{entry_of, stored, lack_for, set_lengths, cell_lengths, join_causes, with_cell, join_cell}
 use Rattle.cells.specs.RenumberParts.{counts_of}
 use Rattle.sets.specs.SetParts.{starts_of, areas_of, bare, bare_cell, entry_causes}
-use Rattle.cells.specs.declared.count.Counts.{Counts}
+use Rattle.cells.specs.declared.counts.Counts.{Counts}
 use Rattle.sets.proofs.PartLaws.{start_all}
 use Rattle.sets.proofs.CellSetLaws.{members_many, areas_held}
 use Rattle.sets.proofs.RoomLaws.{bare_many, from_together, from_over}

@@ -13,8 +13,9 @@ use Rattle.sets.specs.Members.{map_from}
 use Rattle.sets.specs.MemberList.{nodes_together, any_over, over_set}
 use Rattle.sets.specs.CellSet.{CellSet, cell_set, ynd_of, words_at, total, parts_of, parts_in, members_of, holds_list}
 use Rattle.sets.specs.Leave.{set_left, first_of_area}
-use Rattle.sets.specs.Join.{per_list, stored, part_fits, lack_for, join_causes, with_cell, join_cell}
-use Rattle.cells.specs.declared.count.Counts.{Counts}
+use Rattle.sets.specs.Join.{stored, part_fits, lack_for, join_causes, with_cell, join_cell}
+use Rattle.cells.specs.Memory.{per_list}
+use Rattle.cells.specs.declared.counts.Counts.{Counts}
 use Rattle.std.specs.Prelude.{Ok, Err}
 use Rattle.numbers.specs.declared.refusal.Refusal.TheVariants.{TooShort, AtLimit, AreaTaken}
 use Rattle.numbers.specs.declared.refusal.Lent.TheVariants as lent

@@ -1,6 +1,4 @@
 -- What a cell that joins is asked, by the entries and the lists' lengths.
-use Rattle.std.proofs.lemmas.Result.{err_from_is_err_and}
-use Rattle.std.specs.Result.{IsErrAnd}
 use Rattle.std.proofs.Math.Bool.{or-false}
 use Rattle.std.proofs.lemmas.Bool.{not-false}
 use Prim.Native.Nat.{ℕ, ◌+◌, ◌-◌, ◌≤◌, ◌<◌}
@@ -23,11 +21,10 @@ use Rattle.cells.specs.Lists.{every}
 use Rattle.sets.specs.CellSet.{words_at, total, room_for, holds_list}
 use Rattle.sets.specs.Join.{part_fits, lack_for}
 use Rattle.sets.specs.SetParts.{bare, bare_cell, areas_of, entry_causes}
-use Rattle.cells.specs.declared.count.Counts.{Counts}
+use Rattle.cells.specs.declared.counts.Counts.{Counts}
 use Rattle.sets.proofs.RoomLaws.{bare_many, bare_together, tail_done}
 use Rattle.std.specs.Prelude.{Ok, Err}
 use Rattle.numbers.specs.Refusals.{Answer}
-use Rattle.numbers.specs.declared.refusal.Refusal.{Refusal}
 use Rattle.numbers.specs.declared.refusal.Refusal.TheVariants.{TooShort, AtLimit, AreaTaken}
 use Rattle.numbers.specs.declared.refusal.Lent.TheVariants as lent
 
@@ -189,38 +186,6 @@ module _ (ws nodes : List (List ℕ)) (lens haves : Counts) (y : Ynd) (sizes : C
 
   abbrev answer : Answer
   answer = decided (entry_causes ws nodes lens haves y sizes area room)
-
-  pub area_there : is_some found ≡ true → Err AreaTaken ≡ answer
-  unfolding entry_causes
-  area_there t = rw t
-
-  module _ (n : is_some found ≡ false) where
-    pub limit_passed : over_set (bare ws ++ (bare_cell y ∷ [])) ≡ true → Err AtLimit ≡ answer
-    unfolding entry_causes
-    limit_passed o = rw (n, o)
-
-    module _ (o : over_set (bare ws ++ (bare_cell y ∷ [])) ≡ false) where
-      abbrev asked : List Cause
-      asked = lack_for ws lens haves y sizes
-
-      abbrev last : Answer → Answer
-      last a = unless a (decided (when (leb room (length ws)) (TooShort lent.Members) ∷ []))
-
-      joins_as : answer ≡ last (decided asked)
-      unfolding entry_causes
-      joins_as = rw (n, o) (decided_append asked (when (leb room (length ws)) (TooShort lent.Members) ∷ []))
-
-      pub list_short : {x : Refusal} {r : Answer} → decided asked ≡ Err x → IsErrAnd r (λ z. z ≡ x) → r ≡ answer
-      list_short {x} {r} e er =
-          let k = err_from_is_err_and r er in
-          k.1 ∙ ap Err k.2 ∙ sym (joins_as ∙ ap last e)
-
-      module _ (e : decided asked ≡ (Ok tt)) where
-        pub list_full : room ≤ length ws → Err (TooShort lent.Members) ≡ answer
-        list_full f = sym (joins_as ∙ ap last e ∙ rw (le-leb room (length ws) f) refl)
-
-        pub may_join : length ws < room → (Ok tt) ≡ answer
-        may_join f = sym (joins_as ∙ ap last e ∙ rw (lt-leb room (length ws) f) refl)
 
   pub record May : Type 0 where
     pub few : length ws < 9

@@ -1,40 +1,24 @@
 -- Cells that storing keeps are kept so by the correction of links.
 use Prim.Native.Nat.{ℕ, ◌≤◌, ◌<◌}
-use native.Mathlib.Omega.{arith}
-use mathlib.Core.Path.{◌≡◌, refl}
+use mathlib.Core.Path.{◌≡◌}
 use mathlib.Core.Bool.{Bool, true, false, ◌&&◌, cond}
 use mathlib.Core.List.{List, map}
-use mathlib.Core.Option.{Option, none, some}
 use lib.Dec.{ltb}
-use lib.ListN.{length, length-map}
+use lib.ListN.{length}
 use borrow.Author.Tests.{lt-ltb, ltb-true}
 use Rattle.std.proofs.lemmas.Bool.{and_from}
 use Rattle.cells.specs.Lists.{every}
-use Rattle.cells.specs.Order.{last_with, new_place, new_number, place_or}
-use Rattle.cells.specs.Cell.{Link, Node, Cell, old_nodes, numbers, ped_flags}
+use Rattle.cells.specs.Order.{new_number}
+use Rattle.cells.specs.Cell.{Link, Node, Cell}
 use Rattle.cells.proofs.WritingBack.KeptCells.{kept_link, kept_body, kept_node, kept_junction, kept_ref, kept_root}
 use Rattle.cells.proofs.WritingBack.KeptCells.{kept}
-use Rattle.cells.proofs.WritingBack.Kept.{kept_again}
-use Rattle.cells.proofs.Renumbering.Named.{last_inside}
-use Rattle.cells.proofs.Renumbering.NewCell.{new_at}
+use Rattle.cells.proofs.WritingBack.Kept.{kept_again, new_small}
 use Rattle.cells.proofs.Sequences.Tests.{and_left, and_right, every_at, every_map}
 use Rattle.sets.specs.Members.{no_cell, cell_at}
 use Rattle.sets.specs.SetSound.{set_sound}
 use Rattle.sets.specs.SetRenumber.{Change, meant, corrected, correct_link, correct_node, correct_cell, change_of}
 use Rattle.sets.specs.SetRenumber.{renumber_cells}
 use Rattle.sets.proofs.RenumberedSet.{members_hold}
-
--- a new number fits 16 bits
-new_small : (ns : List Node) (k : ℕ) → length ns ≤ 65536 → k < 65536 → new_number (old_nodes ns) k < 65536
-unfolding new_number
-new_small ns k few h = go (last_with (numbers ns) k) (λ p e. (last_inside (numbers ns) k p e).0)
-  where
-    go : (r : Option ℕ) → ((p : ℕ) → r ≡ some p → p < length (numbers ns)) → place_or (ped_flags ns) r k < 65536
-    go (some p) inside =
-        let q : new_place (ped_flags ns) p < length ns = (new_at ns p
-        (let i : p < length ns = omega (arith, inside p refl, length-map ns (λ n. n.number)) in i)).0 in
-        omega (arith, q, few)
-    go none inside = h
 
 module _ (x : Change) (small : (k : ℕ) → k < 65536 → new_number x.old k < 65536) (i : ℕ) where
   number_kept : (a k : ℕ) → ltb k 65536 ≡ true → ltb (corrected x i a k) 65536 ≡ true
@@ -45,7 +29,7 @@ module _ (x : Change) (small : (k : ℕ) → k < 65536 → new_number x.old k < 
       go true = lt-ltb (new_number x.old k) 65536 (small k (ltb-true k 65536 t))
       go false = t
 
-  link_kept : (l : Link) → kept_link l ≡ true → kept_link (correct_link x i l) ≡ true
+  pub link_kept : (l : Link) → kept_link l ≡ true → kept_link (correct_link x i l) ≡ true
   link_kept l t = and_from (ltb l.area 65536) (ltb (corrected x i l.area l.number) 65536) (and_left _ _ t)
       (number_kept l.area l.number (and_right (ltb l.area 65536) _ t))
 

@@ -13,7 +13,7 @@ use Rattle.sets.specs.Leave.{SetLeft, set_left, left_after, closed, start_of, wi
 use Rattle.sets.specs.Leave.{left_by, leave_area}
 use Rattle.sets.specs.Join.{set_lengths}
 use Rattle.sets.specs.SetParts.{Holding, named_of, starts_of, areas_of, list_causes}
-use Rattle.cells.specs.declared.count.Counts.{Counts}
+use Rattle.cells.specs.declared.counts.Counts.{Counts}
 use Rattle.sets.proofs.MemberLaws.{first_has}
 use Rattle.sets.proofs.PartLaws.{total_below, start_next, start_all}
 use Rattle.sets.proofs.CellSetLaws.{areas_many, areas_held}
@@ -84,6 +84,10 @@ module _ (y : CellSet) (area : ℕ) where
   pub found_is : found ≡ first_of_area y area
   unfolding first_of_area
   found_is = ap (λ (l : List ℕ). first_with l area) (areas_held y)
+
+  -- for the check: the call shows the set
+  pub found_by : first_of_area y area ≡ found
+  found_by = sym found_is
 
   pub named_some : (j : ℕ) (o : Option ℕ) → Some j ≡ named_of o → o ≡ some j
   named_some j (some q) e = cc

@@ -14,11 +14,12 @@ use Rattle.numbers.specs.Refusals.{Answer, decided}
 use Rattle.numbers.specs.declared.refusal.Refusal.{Refusal}
 use Rattle.numbers.specs.declared.refusal.Refusal.TheVariants.{NoSuchPlace}
 use Rattle.cells.specs.Memory.{Memory}
-use Rattle.cells.specs.declared.count.Counts.{Counts}
+use Rattle.cells.specs.declared.counts.Counts.{Counts}
 use Rattle.cells.proofs.Sequences.Tests.{by_test}
 use Rattle.sets.specs.MemberList.{over_set, unless}
 use Rattle.sets.specs.CellSet.{CellSet, cell_set, words_at, total, holds_list, lack_of}
-use Rattle.sets.specs.Join.{per_list, set_lengths}
+use Rattle.sets.specs.Join.{set_lengths}
+use Rattle.cells.specs.Memory.{per_list}
 use Rattle.sets.specs.Leave.{start_of}
 use Rattle.sets.specs.Lent.{Lies, Unlent}
 use Rattle.cells.specs.LookupCall.{Place}

@@ -16,12 +16,13 @@ use Rattle.cells.proofs.Sequences.Tests.{by_test, true_false}
 use Rattle.sets.specs.MemberList.{nodes_together, over_set}
 use Rattle.sets.specs.CellSet.{CellSet, cell_set, ynd_of, words_at, total, parts_in, members_of}
 use Rattle.sets.specs.CellSet.{set_causes}
-use Rattle.sets.specs.Join.{per_list, set_lengths}
+use Rattle.sets.specs.Join.{set_lengths}
+use Rattle.cells.specs.Memory.{per_list}
 use Rattle.sets.specs.SetParts.{bare}
 use Rattle.sets.specs.SetStored.{member_in, ask_causes, entry_with, with_member}
 use Rattle.sets.specs.MemberParts.{between, entry_ask, opened, part_memory}
 use Rattle.sets.specs.MemberEdit.{set_edited, lists_left, edited_in, edit_by, add_causes}
-use Rattle.cells.specs.declared.count.Counts.{Counts}
+use Rattle.cells.specs.declared.counts.Counts.{Counts}
 use Rattle.sets.specs.declared.member.MemberPart.{MemberPart}
 use Rattle.sets.proofs.RoomLaws.{members_over, few_members, bare_together, from_together}
 use Rattle.sets.proofs.MemberPartLaws.{OpenAt, ask_held, open_in, put_part, put_back}

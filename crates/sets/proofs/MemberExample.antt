@@ -5,7 +5,7 @@ use mathlib.Core.List.{List, [], ◌∷◌}
 use Rattle.records.specs.Put.{put}
 use Rattle.records.specs.declared.junction_ref.NodeJunctionRef.{NodeJunctionRef}
 use Rattle.cells.specs.Lists.{every}
-use Rattle.cells.specs.Memory.{Memory, memory, over_limit, short_of}
+use Rattle.cells.specs.Memory.{Memory, memory, over_limit, nodes_causes, short_of}
 use Rattle.cells.specs.NodeWords.{area_of, number_of}
 use Rattle.cells.specs.CellOf.{nodes_of, cell_of}
 use Rattle.cells.specs.Lookup.{first_with, find}
@@ -123,5 +123,5 @@ back_nobody = refl
 pub found : node_member two 1 0 ≡ Ok (Some 0)
 unfolding ask_member ask_causes set_causes members_of map_from parts_in parts_of words_at total ynd_of over_set
     nodes_together
-    any_over over_limit lack_of holds_list every node_call find_in numbers_in find first_with number_of
+    any_over over_limit lack_of holds_list every node_call nodes_causes find_in numbers_in find first_with number_of
 found = refl

@@ -7,7 +7,7 @@ use native.Mathlib.Omega.{arith}
 use mathlib.Core.Path.{◌≡◌, refl, ap, sym, ◌∙◌, subst}
 use mathlib.Core.Bool.{false}
 use mathlib.Core.List.{List, [], ◌++◌, map, ◌∷◌}
-use lib.ListN.{length, take, drop, length-append, length-drop, length-map}
+use lib.ListN.{length, take, drop, length-append, length-drop}
 use lib.Seq.{length-take-le}
 use borrow.Author.Tests.{le-ltb}
 use Rattle.records.specs.Sections.{located, bytes_of}
@@ -27,12 +27,12 @@ use Rattle.cells.specs.NodeWords.{is_ped, number_from, reordered, old_of, relink
 use Rattle.cells.specs.Order.{parted}
 use Rattle.cells.specs.Renumber.{over, recounted, renumber_lists, new_lists, renumber_memory, answer_of, left_by}
 use Rattle.cells.specs.Renumber.{renumber}
-use Rattle.cells.specs.declared.count.Counts.{Counts}
+use Rattle.cells.specs.declared.counts.Counts.{Counts}
 use Rattle.cells.proofs.Forms.Limits.{not_over}
 use Rattle.cells.proofs.Reading.Fits.{Whole}
 use Rattle.cells.proofs.Reading.ReadLaws as laws
 use Rattle.cells.proofs.Reading.ReadLaws.{length_up_to, length_join_to, length_links, length_values}
-use Rattle.cells.proofs.Renumbering.CellRenumbered.{parted_length, number_length}
+use Rattle.cells.proofs.Renumbering.CellRenumbered.{reordered_long, all_relinked_long}
 use Rattle.cells.proofs.Writing.BlockLaws.{nodes_length}
 use Rattle.cells.proofs.WritingBack.SectionBack.{long_enough, root_read_law, nodes_here, links_here, junctions_here}
 use Rattle.cells.proofs.WritingBack.SectionBack.{heights_here, refs_here}
@@ -77,12 +77,6 @@ stays_same m r = record {
 
 -- ---- renumbering
 
--- as many entries, where the changed ones are as many
-over_length : {A : Type 0} (f : List A → List A) (n : ℕ) (l : List A) → length (f (take n l)) ≡ length (take n l)
-    → n ≤ length l → length (over f n l) ≡ length l
-over_length f n l e h =
-    omega (arith, length-append (f (take n l)) (drop n l), e, length-take-le n l h, length-drop n l)
-
 pub renumber_stays : (m : Memory) (ps : List ℕ) (s : ℕ) → Ready m → Stays m (renumber m s ps).memory
 unfolding renumber renumber_memory new_lists renumber_lists recounted reordered over_limit
 renumber_stays m ps s r = go (answer_of (over_limit m.ynd) m.ynd.node_count (short m) s (length ps))
@@ -91,17 +85,14 @@ renumber_stays m ps s r = go (answer_of (over_limit m.ynd) m.ynd.node_count (sho
     ns = take m.ynd.node_count m.nodes
 
     nodes_as : length (number_from 0 (parted is_ped ns) ++ drop m.ynd.node_count m.nodes) ≡ length m.nodes
-    nodes_as = over_length reordered m.ynd.node_count m.nodes
-        (number_length 0 (parted is_ped ns) ∙ parted_length ns) r.whole.nodes_fit
+    nodes_as = reordered_long m.ynd.node_count m.nodes r.whole.nodes_fit
 
     links_as : length (over (map (relinked (old_of m.ynd.node_count m.nodes))) m.ynd.link_count m.links)
         ≡ length m.links
-    links_as = over_length (map (relinked (old_of m.ynd.node_count m.nodes))) m.ynd.link_count m.links
-        (length-map (take m.ynd.link_count m.links) (relinked (old_of m.ynd.node_count m.nodes))) r.whole.links_fit
+    links_as = all_relinked_long (old_of m.ynd.node_count m.nodes) m.ynd.link_count m.links r.whole.links_fit
 
     refs_as : length (over (map (relinked (old_of m.ynd.node_count m.nodes))) m.ynd.ref_count m.refs) ≡ length m.refs
-    refs_as = over_length (map (relinked (old_of m.ynd.node_count m.nodes))) m.ynd.ref_count m.refs
-        (length-map (take m.ynd.ref_count m.refs) (relinked (old_of m.ynd.node_count m.nodes))) r.whole.refs_fit
+    refs_as = all_relinked_long (old_of m.ynd.node_count m.nodes) m.ynd.ref_count m.refs r.whole.refs_fit
 
     go : (a : Answer) → Stays m (left_by a m ps).memory
     go (Err x) = stays_same m r

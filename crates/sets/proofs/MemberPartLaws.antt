@@ -9,8 +9,6 @@ use lib.ListN.{length, get_or, take, drop, length-drop, take-append-drop}
 use lib.Seq.{length-take-le, drop-drop}
 use borrow.Author.Tests.{leb-false}
 use Rattle.numbers.specs.Refusals.{decided, unless}
-use Rattle.std.specs.Result.{IsErrAnd}
-use Rattle.std.proofs.lemmas.Result.{err_from_is_err_and}
 use Rattle.numbers.proofs.Refusing.{not_refused}
 use Rattle.records.specs.Put.{put}
 use Rattle.cells.specs.Memory.{Memory, memory}
@@ -24,13 +22,13 @@ use Rattle.sets.specs.Join.{set_lengths}
 use Rattle.sets.specs.SetParts.{Holds, count_of, starts_of, bare, list_causes}
 use Rattle.sets.specs.SetStored.{member_in, ask_causes}
 use Rattle.sets.specs.MemberParts.{entry_ask, opened, between, part_memory, PartsLie}
-use Rattle.cells.specs.declared.count.Counts.{Counts}
+use Rattle.cells.specs.declared.counts.Counts.{Counts}
 use Rattle.sets.specs.declared.member.MemberPart.{MemberPart}
 use Rattle.sets.proofs.PartLaws.{total_below, start_next, part_of}
 use Rattle.sets.proofs.CellSetLaws.{member_at_law}
 use Rattle.sets.proofs.MemberStored.{FitsMember}
 use Rattle.sets.proofs.RoomLaws.{lists_of, accepted, causes_held, few_members}
-use Rattle.std.specs.Prelude.{Result, Ok, Err}
+use Rattle.std.specs.Prelude.{Ok, Err}
 use Rattle.numbers.specs.Refusals.{Answer}
 use Rattle.numbers.specs.declared.refusal.Refusal.{Refusal}
 use Rattle.numbers.specs.declared.refusal.Refusal.TheVariants.{NoSuchPlace}
@@ -219,13 +217,6 @@ module _ (ws : List (List ℕ)) (lens : Counts) (j : ℕ) where
   open_done v a e t ev ea ee =
       (λ i. Ok (record { ynd = ev i; a = ea i; e = ee i }))
       ∙ ap (λ (z : Answer). unless z (Ok (member_part ws j))) t
-
-  pub open_not : {x : Refusal} {r : Result MemberPart Refusal} → Err x ≡ decided (entry_ask ws lens j)
-      → IsErrAnd r (λ z. z ≡ x) → r ≡ opened ws lens j
-  unfolding opened
-  open_not {x} {r} e er =
-      let k = err_from_is_err_and r er in
-      k.1 ∙ ap Err k.2 ∙ ap (λ (z : Answer). unless z (Ok (member_part ws j))) e
 
 -- what an opened member is
 pub record OpenAt (y : CellSet) (j : ℕ) (p : MemberPart) : Type 0 where

@@ -19,7 +19,7 @@ use Rattle.sets.specs.CellSet.{CellSet, cell_set, word, ynd_of, words_at, total,
 use Rattle.sets.specs.Leave.{SetLeft, used}
 use Rattle.sets.specs.Join.{entry_of, stored, set_lengths, cell_lengths, part_of_cell, joined_member, with_cell}
 use Rattle.sets.specs.Join.{join_cell}
-use Rattle.cells.specs.declared.count.Counts.{Counts}
+use Rattle.cells.specs.declared.counts.Counts.{Counts}
 use Rattle.sets.proofs.PartLaws.{words_many, parts_many, split}
 use Rattle.sets.proofs.CellSetLaws.{members_many, member_at_law, members_same}
 use Rattle.sets.proofs.JoinLaws.{Fitting, AllFit, may}

@@ -1,4 +1,5 @@
 -- Parts of a list, one after the other, by the words of the members' entries.
+use Rattle.std.proofs.lemmas.Iterator.Adapters.{fits_from_length, at_most_from_yields_List}
 use Prim.Native.Nat.{ℕ, zero, suc, ◌+◌, ◌-◌, ◌≤◌, ◌<◌, min}
 use native.Mathlib.Omega.{arith}
 use native.Mathlib.Numerals.{add-one}
@@ -138,3 +139,6 @@ unfolding put stored
 stored_in n at from l h e =
     let x = take n from in
     put_fits l at x (omega (arith, length-take-le n from h, e)) ∙ append_assoc (take at l) x (drop (at + length x) l)
+
+-- that a sum over the members fits, for the check
+pub ruleset sum_laws = (fits_from_length, at_most_from_yields_List)

@@ -10,7 +10,8 @@ use Rattle.cells.specs.Area.{belongs}
 use Rattle.cells.specs.Order.{keep, rank, parted, new_place, listed, new_places, last_with, new_number, renamed}
 use Rattle.cells.specs.NodeWords.{area_of, number_of, is_ped, numbered, number_from, reordered}
 use Rattle.cells.specs.NodeWords.{first_area, old_of, relinked}
-use Rattle.cells.specs.CellOf.{body_of, nodes_of, cell_of}
+use Rattle.cells.specs.CellOf.{nodes_of, cell_of}
+use Rattle.cells.specs.Cell.{body_of}
 use Rattle.cells.specs.Lookup.{first_with}
 use Rattle.cells.specs.Renumber.{vehicles, peds, renumber_lists, recounted, answer_of}
 use Rattle.cells.specs.Renumber.{new_lists, renumber_memory, renumber}

@@ -39,7 +39,7 @@ use Rattle.sets.specs.CorrectParts.{Table, Tells, change_in}
 use Rattle.sets.specs.declared.member.MemberPart.{MemberPart}
 use Rattle.std.specs.Result.{IsErrAnd}
 use Rattle.std.proofs.lemmas.Result.{err_from_is_err_and}
-use Rattle.cells.specs.declared.count.Counts.{Counts}
+use Rattle.cells.specs.declared.counts.Counts.{Counts}
 use Rattle.sets.proofs.PartLaws.{part_of}
 use Rattle.sets.proofs.CellSetLaws.{member_at_law, areas_held}
 use Rattle.sets.proofs.SetMemory.{cell_at_law}

@@ -27,7 +27,7 @@ use Rattle.sets.specs.RenumberMember.{lists_after, renumbered_at, renumber_membe
 use Rattle.sets.specs.WriteMember as write
 use Rattle.sets.specs.WriteMember.{SetWritten, set_written, wrote_in, write_read_member}
 use Rattle.sets.specs.SetCallLaws.{CallsFollowTheorem, RefusedChangesNone, LaterCorrectsNone, OneMemberWalks}
-use Rattle.cells.specs.declared.count.Counts.{Counts}
+use Rattle.cells.specs.declared.counts.Counts.{Counts}
 use Rattle.sets.proofs.SetMemory.{cell_at_law}
 use Rattle.sets.proofs.SetLaws.{written_refused, places_stay}
 use Rattle.sets.proofs.MembersLeft.{leave_refused}

@@ -30,7 +30,8 @@ use Rattle.sets.specs.CrossMember.{cross_causes, cross_member}
 use Rattle.sets.specs.RenumberMember.{MemberRenumbered, member_renumbered, renumber_member}
 use Rattle.sets.specs.WriteMember.{SetWritten, set_written, write_read_member}
 use Rattle.sets.specs.SetRun.{after_on, run_set, renumbers_on, moved_on, any_renumbers_on}
-use Rattle.sets.specs.SetCallsClaim.{cells_in, CallsUnnoticed, CallsUnnoticedTheorem}
+use Rattle.sets.specs.SetCallsClaim.{CallsUnnoticed, CallsUnnoticedTheorem}
+use Rattle.sets.specs.CellSet.{cells_in}
 use Rattle.sets.proofs.CellSetLaws.{members_many}
 use Rattle.sets.proofs.CrossingHeld.{crossing_held}
 use Rattle.sets.proofs.SetDemand.{set_unnoticed}

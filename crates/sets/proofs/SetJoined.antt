@@ -36,7 +36,7 @@ use Rattle.sets.specs.HandBack.{copied, leaver, lack_of_back, hand_causes, hand_
 use Rattle.sets.specs.SetStored.{member_in}
 use Rattle.sets.specs.SetCallLaws.{joined_set, JoinStores, JoinStoresTheorem, ReadThenJoin, JoinThenLeave}
 use Rattle.sets.specs.SetCallLaws.{JoinThenLeaveTheorem}
-use Rattle.cells.specs.declared.count.Counts.{Counts}
+use Rattle.cells.specs.declared.counts.Counts.{Counts}
 use Rattle.sets.proofs.CellSetLaws.{members_many}
 use Rattle.sets.proofs.JoinLaws.{Fitting, AllFit, all_fit, both_done, together_more, over_more}
 use Rattle.sets.proofs.RoomLaws.{tail_done}

@@ -18,7 +18,8 @@ use Rattle.cells.specs.Memory.{Memory, memory}
 use Rattle.cells.specs.Read.{links_from, node_in, links_in, room_check, cell_read, filled, read_arrays, read_of}
 use Rattle.cells.specs.Area.{belongs}
 use Rattle.cells.specs.NodeWords.{area_of, number_of}
-use Rattle.cells.specs.CellOf.{body_of, nodes_of, junctions_of, refs_of, cell_of}
+use Rattle.cells.specs.CellOf.{nodes_of, junctions_of, refs_of, cell_of}
+use Rattle.cells.specs.Cell.{body_of}
 use Rattle.cells.specs.Lookup.{first_with}
 use Rattle.walks.specs.Sound.{differing, sound}
 use Rattle.sets.specs.Members.{member_for, every_from}

@@ -15,7 +15,8 @@ use Rattle.cells.specs.Memory.{Memory, over_limit}
 use Rattle.cells.specs.Read.{links_from, node_in, links_in, room_check, cell_read, filled, read_arrays, read_of}
 use Rattle.cells.specs.NodeWords.{area_of, number_of}
 use Rattle.cells.specs.Cell.{Cell}
-use Rattle.cells.specs.CellOf.{body_of, nodes_of, junctions_of, refs_of, cell_of}
+use Rattle.cells.specs.CellOf.{nodes_of, junctions_of, refs_of, cell_of}
+use Rattle.cells.specs.Cell.{body_of}
 use Rattle.cells.specs.Lookup.{first_with}
 use Rattle.sets.specs.Members.{map_from}
 use Rattle.sets.specs.SetSound.{set_sound}
@@ -23,12 +24,14 @@ use Rattle.sets.specs.MemberList.{cells_of, nodes_together, any_over, over_set}
 use Rattle.sets.specs.SetCalls.{SetCall}
 use Rattle.sets.specs.CellSet.{CellSet, cell_set, ynd_of, words_at, total, parts_of, parts_in, members_of, holds_list}
 use Rattle.sets.specs.Leave.{used, first_of_area}
-use Rattle.sets.specs.Join.{per_list, stored, part_fits, lack_for, join_causes, with_cell, join_cell}
+use Rattle.sets.specs.Join.{stored, part_fits, lack_for, join_causes, with_cell, join_cell}
+use Rattle.cells.specs.Memory.{per_list}
 use Rattle.sets.specs.SetStored.{member_in}
 use Rattle.sets.specs.SetClaim.{CellAsRead}
-use Rattle.sets.specs.SetCallsClaim.{cells_in, CallsUnnoticed}
+use Rattle.sets.specs.SetCallsClaim.{CallsUnnoticed}
+use Rattle.sets.specs.CellSet.{cells_in}
 use Rattle.sets.specs.SetCallLaws.{joined_set, JoinStores}
-use Rattle.cells.specs.declared.count.Counts.{Counts}
+use Rattle.cells.specs.declared.counts.Counts.{Counts}
 use Rattle.sets.proofs.SetDemand.{as_read}
 use Rattle.sets.proofs.SetRead.{file_of, room, reads_5, reads_6, members, members_sound}
 use Rattle.sets.proofs.SetJoined.{join_stores, seven_read}

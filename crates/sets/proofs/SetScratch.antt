@@ -13,7 +13,7 @@ use Rattle.walks.specs.SoundCall.{indexed}
 use Rattle.walks.proofs.ScratchLaws.{index_starts, index_turn, indexed_turn}
 use Rattle.sets.specs.Members.{cell_at}
 use Rattle.sets.specs.SetSoundCall.{indexed_set}
-use Rattle.sets.specs.SetSoundParts.{indexed_to}
+use Rattle.sets.specs.SetSoundParts.{indexed_to, numbers_of}
 
 pub indexed_long : (ks : List ℕ) (i : ℕ) (s : List ℕ) → length (indexed ks i s) ≡ length s
 unfolding indexed
@@ -43,10 +43,10 @@ pub to_start : (f : ℕ → List ℕ) (s : List ℕ) → s ≡ indexed_to f 0 s
 unfolding indexed_to
 to_start f s = refl
 
-pub to_next : (f : ℕ → List ℕ) (k : ℕ) (s now : List ℕ) → now ≡ indexed_to f k s → indexed (f k) 0 now
-    ≡ indexed_to f (k + 1) s
+pub to_next : (ws nodes : List (List ℕ)) (k : ℕ) (s : List ℕ) → indexed_to (numbers_of ws nodes) (k + 1) s
+    ≡ indexed (numbers_of ws nodes k) 0 (indexed_to (numbers_of ws nodes) k s)
 unfolding indexed_to
-to_next f k s now e = ap (indexed (f k) 0) e ∙ ap (λ (j : ℕ). indexed_to f j s) (sym (add-one k))
+to_next ws nodes k s = ap (λ (j : ℕ). indexed_to (numbers_of ws nodes) j s) (add-one k)
 
 first_first : (f : ℕ → List ℕ) (n : ℕ) (s : List ℕ) → indexed_to f (suc n) s
     ≡ indexed_to (λ k. f (suc k)) n (indexed (f 0) 0 s)

@@ -17,11 +17,10 @@ use Rattle.cells.specs.CellOf.{link_of, node_with, nodes_of, refs_of, cell_of}
 use Rattle.cells.specs.Lookup.{first_with, is_some}
 use Rattle.cells.specs.LookupCall.{numbers_in}
 use Rattle.cells.specs.NodeWords.{link_start, link_count}
-use Rattle.cells.specs.RenumberParts.{Indexed}
+use Rattle.cells.specs.RenumberParts.{Indexed, Leads}
 use Rattle.cells.specs.declared.ynd.Ynd.{Ynd}
 use Rattle.walks.specs.Sound.{differing, node_sound, ref_named, is_empty, sound}
 use Rattle.walks.specs.SoundCall.{verdict, indexed, SoundLeft, sound_left, sound_call}
-use Rattle.walks.specs.SoundParts.{Ready}
 use Rattle.walks.proofs.Ranges.{every_mapped}
 use Rattle.walks.proofs.SoundWords.{numbers_same}
 use Rattle.walks.proofs.SoundCases.{says}
@@ -35,7 +34,8 @@ use Rattle.sets.specs.SetSoundCall.{indexed_set, sound_causes, set_sound_call}
 use Rattle.sets.specs.SetParts.{Holding, count_of, bare, areas_of}
 use Rattle.sets.specs.SetSoundParts.{all_below, link_meets, node_meets, member_meets, judged_at, word_meets}
 use Rattle.sets.specs.SetSoundParts.{words_meet}
-use Rattle.sets.specs.SetSoundParts.{numbers_of, part_meets, SetHeld, indexed_to, entries_causes, cells_in}
+use Rattle.sets.specs.SetSoundParts.{numbers_of, part_meets, SetHeld, indexed_to, entries_causes}
+use Rattle.sets.specs.CellSet.{cells_in}
 use Rattle.sets.proofs.PartLaws.{rest}
 use Rattle.sets.proofs.CellSetLaws.{members_many, areas_held}
 use Rattle.sets.proofs.RoomLaws.{few_members, members_over, holding}
@@ -43,12 +43,11 @@ use Rattle.sets.proofs.PartLaws.{part_inside}
 use Rattle.sets.proofs.MemberCells.{numbers_at, nodes_at, refs_at}
 use Rattle.sets.proofs.CrossCases.{each_within}
 use Rattle.sets.proofs.SetJudged.{set_judged}
-use Rattle.sets.proofs.SetScratch.{indexed_leads, indexed_long, indexed_set_law, to_start}
+use Rattle.sets.proofs.SetScratch.{indexed_leads, indexed_long, indexed_set_law, to_start, to_next}
 use Rattle.std.specs.Prelude.{Result, Ok, Err}
 use Rattle.sets.specs.declared.world.World.{World}
 use Rattle.sets.specs.WorldParts.{set_of}
-use Rattle.std.specs.Result.{IsErrAnd, result_unwrap_or}
-use Rattle.std.proofs.lemmas.Result.{err_from_is_err_and}
+use Rattle.std.specs.Result.{result_unwrap_or}
 use Rattle.std.proofs.lemmas.List.{take-map, drop-map}
 use Rattle.numbers.specs.Refusals.{Answer}
 use Rattle.numbers.specs.declared.refusal.Refusal.{Refusal}
@@ -126,7 +125,7 @@ module _ (y : CellSet) (h : SetHeld y.members y.nodes y.links y.refs) (k : ℕ) 
 
   -- the scratch after it leads to the member's nodes
   ready_of : (s now : List ℕ) → 65536 ≤ length s → now ≡ indexed (numbers_of ws y.nodes k) 0 s
-      → Ready (count_of 10 ws k) (drop (start_of 15 ws k) y.nodes) now
+      → Leads (numbers_in (count_of 10 ws k) (drop (start_of 15 ws k) y.nodes)) now
   unfolding numbers_of
   ready_of s now room e =
       let d = drop (start_of 15 ws k) y.nodes in
@@ -138,9 +137,8 @@ module _ (y : CellSet) (h : SetHeld y.members y.nodes y.links y.refs) (k : ℕ) 
         h.nodes_hold.held k lt,
       ) in
       record {
-        nodes_fit = fits;
-        scratch_fits = omega (arith, ap length e, indexed_long (numbers_in n d) 0 s);
-        leads = subst (λ (t : List ℕ). Indexed (numbers_in n d) t) (sym e) (indexed_leads n d s fits room);
+        fits = omega (arith, ap length e, indexed_long (numbers_in n d) 0 s);
+        indexed = subst (λ (t : List ℕ). Indexed (numbers_in n d) t) (sym e) (indexed_leads n d s fits room);
       }
 
   -- ---- the links of the member i that name it
@@ -211,10 +209,10 @@ pub none_judged : (ds : List Cell) (n : ℕ) → true ≡ all_below (judged_at d
 unfolding all_below
 none_judged ds n = refl
 
-pub next_judged : (f : ℕ → Bool) (k : ℕ) {good b c : Bool} → c ≡ (good && b) → good ≡ all_below f k → b ≡ f k
-    → c ≡ all_below f (k + 1)
+pub judged_next : (ds : List Cell) (n k : ℕ) → all_below (judged_at ds n) (k + 1)
+    ≡ (all_below (judged_at ds n) k && judged_at ds n k)
 unfolding all_below
-next_judged f k e eg eb = e ∙ (λ i. eg i && eb i) ∙ ap (all_below f) (sym (add-one k))
+judged_next ds n k = ap (all_below (judged_at ds n)) (add-one k)
 
 -- ---- a set that links lead through, with refs that hold its members
 
@@ -255,22 +253,19 @@ module _ (x : World) (refs : List (List ℕ)) (hr : Holding 14 19 x.members.now 
         )
 
     pub ready_at : (s now : List ℕ) → 65536 ≤ length s → now ≡ indexed (numbers_of x.members.now x.nodes.now k) 0 s
-        → Ready (count_of 10 x.members.now k) (drop (start_of 15 x.members.now k) x.nodes.now) now
+        → Leads (numbers_in (count_of 10 x.members.now k) (drop (start_of 15 x.members.now k) x.nodes.now)) now
     ready_at = ready_of (set_of x [] [] refs) held k lt
 
     -- it is not sound, or else its links decide
-    pub unsound_at : {b : Bool} (js : List (List ℕ)) (hs : List ℕ) → b ≡ false
-        → b ≡ sound (cell_at (cells_in (set_of x js hs refs)) k) → b
-        ≡ judged_at (cells_in (set_of x js hs refs)) (length x.members.now) k
+    pub unsound_at : (js : List (List ℕ)) (hs : List ℕ) → sound (cell_at (cells_in (set_of x js hs refs)) k) ≡ false
+        → judged_at (cells_in (set_of x js hs refs)) (length x.members.now) k ≡ false
     unfolding judged_at
-    unsound_at js hs e es = rw (← es, e)
+    unsound_at js hs e = rw e
 
-    pub judged_told : {b v : Bool} (js : List (List ℕ)) (hs : List ℕ) → v ≡ true
-        → v ≡ sound (cell_at (cells_in (set_of x js hs refs)) k)
-        → b ≡ all_below (part_meets x.areas.now x.members.now x.nodes.now x.links.now k) (length x.members.now)
-        → b ≡ judged_at (cells_in (set_of x js hs refs)) (length x.members.now) k
-    judged_told js hs e es eb =
-        eb ∙ judged_by (set_of x js hs refs) held x.areas.now x.lent.areas_are k lt (sym e ∙ es)
+    pub judged_told : (js : List (List ℕ)) (hs : List ℕ) → sound (cell_at (cells_in (set_of x js hs refs)) k) ≡ true
+        → judged_at (cells_in (set_of x js hs refs)) (length x.members.now) k
+        ≡ all_below (part_meets x.areas.now x.members.now x.nodes.now x.links.now k) (length x.members.now)
+    judged_told js hs e = sym (judged_by (set_of x js hs refs) held x.areas.now x.lent.areas_are k lt (sym e))
 
 -- ---- the call
 
@@ -308,21 +303,11 @@ module _ (y : CellSet) (s : List ℕ) where
   unfolding sound_causes entries_causes
   causes_are = rw (members_over y) refl
 
-  by_start : set_sound_call y s ≡ unless start (λ cause. sound_left (Err cause) s)
+  pub by_start : set_sound_call y s ≡ unless start (λ cause. sound_left (Err cause) s)
       (sound_left (verdict (set_sound (cells_in y))) (indexed_set (cells_in y) s))
   unfolding set_sound_call
   by_start = ap (λ (a : Answer). unless a (λ cause. sound_left (Err cause) s)
       (sound_left (verdict (set_sound (cells_in y))) (indexed_set (cells_in y) s))) causes_are
-
-  pub call_refused : {x : Refusal} {a : Answer} {r : Result Bool Refusal} → a ≡ Err x → a ≡ start
-      → IsErrAnd r (λ z. z ≡ x)
-      → sound_left r s ≡ set_sound_call y s
-  call_refused {x} {r} is e er =
-      let k = err_from_is_err_and r er in
-      ap (λ (q : Result Bool Refusal). sound_left q s) (k.1 ∙ ap Err k.2)
-      ∙ sym (by_start ∙ ap
-      (λ (a : Answer). unless a (λ cause. sound_left (Err cause) s)
-      (sound_left (verdict (set_sound (cells_in y))) (indexed_set (cells_in y) s))) (sym e ∙ is))
 
   pub call_judged : (Ok tt) ≡ start → {v : Bool} {now : List ℕ} → v ≡ set_sound (cells_in y)
       → now ≡ indexed_to (numbers_of y.members y.nodes) (length y.members) s → sound_left (Ok v) now
@@ -334,6 +319,8 @@ module _ (y : CellSet) (s : List ℕ) where
       (sound_left (verdict (set_sound (cells_in y))) (indexed_set (cells_in y) s))) (sym e))
 
 -- for the check
-pub ruleset judge_laws = (held_of, room_of_law)
+pub ruleset judge_laws = (held_of, room_of_law, call_judged)
 
-pub ruleset loop_laws = (to_start, none_judged)
+pub ruleset one_laws = (ready_at, unsound_at, judged_told)
+
+pub ruleset loop_laws = (to_start, to_next, none_judged, judged_next, all_told)

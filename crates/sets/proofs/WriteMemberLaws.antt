@@ -12,7 +12,7 @@ use Rattle.sets.specs.CellSet.{CellSet, cell_set}
 use Rattle.sets.specs.SetStored.{entry_with, with_member}
 use Rattle.sets.specs.MemberParts.{part_memory}
 use Rattle.sets.specs.WriteMember.{set_written, lists_after, wrote_in, write_read_member}
-use Rattle.cells.specs.declared.count.Counts.{Counts}
+use Rattle.cells.specs.declared.counts.Counts.{Counts}
 use Rattle.sets.specs.declared.member.MemberPart.{MemberPart}
 use Rattle.sets.proofs.SetLaws.{written_refused}
 use Rattle.sets.proofs.MemberPartLaws.{OpenAt, put_back}

@@ -8,7 +8,8 @@ use Rattle.cells.specs.Lists.{every}
 use Rattle.cells.specs.Memory.{Memory, memory}
 use Rattle.cells.specs.declared.ynd.Ynd.{Ynd}
 use Rattle.sets.specs.Members.{map_from}
-use Rattle.sets.specs.MemberList.{over_set}
+use Rattle.cells.specs.Cell.{Cell}
+use Rattle.sets.specs.MemberList.{cells_of, over_set}
 use Rattle.numbers.specs.declared.refusal.Refusal.TheVariants.{TooShort, AtLimit}
 use Rattle.numbers.specs.declared.refusal.Lent.TheVariants as lent
 
@@ -85,6 +86,10 @@ member_with p i w =
 -- what the set's calls are said of: each member as a cell's memory of its own
 unfoldable pub members_of : CellSet → List Memory
 members_of y = map_from (member_with (parts_in y)) 0 y.members
+
+-- and as a cell, in the order of joining
+abbrev pub cells_in : CellSet → List Cell
+cells_in y = cells_of (members_of y)
 
 -- ---- a set made by hand
 

@@ -12,7 +12,7 @@ use Rattle.sets.specs.Members.{area_of}
 use Rattle.sets.specs.MemberList.{over_set, unless}
 use Rattle.sets.specs.CellSet.{CellSet, words_at, total, members_of, holds_list}
 use Rattle.sets.specs.Leave.{SetLeft, set_left, used, first_of_area}
-use Rattle.cells.specs.declared.count.Counts.{Counts}
+use Rattle.cells.specs.declared.counts.Counts.{Counts}
 use Rattle.std.specs.Prelude.{Ok, Err}
 use Rattle.numbers.specs.declared.refusal.Refusal.TheVariants.{TooShort, AtLimit, AreaTaken}
 use Rattle.numbers.specs.declared.refusal.Lent.TheVariants as lent
@@ -47,16 +47,6 @@ lack_for ws lens haves y sizes =
     (TooShort lent.Heightmap)
     ∷ when (not (part_fits 14 19 ws lens.refs haves.refs y.ref_count sizes.refs)) (TooShort lent.Refs)
     ∷ []
-
--- a number for each of the five lists
-abbrev pub per_list : ℕ → ℕ → ℕ → ℕ → ℕ → Counts
-per_list nodes links junctions heights refs = record {
-  nodes = nodes;
-  links = links;
-  junctions = junctions;
-  heights = heights;
-  refs = refs;
-}
 
 abbrev pub set_lengths : CellSet → Counts
 set_lengths y = lengths_of y.nodes y.links y.junctions y.heights y.refs

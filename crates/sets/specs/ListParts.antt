@@ -2,7 +2,7 @@
 use Rattle.std.specs.Prelude.{◌≡◌, ℕ, List}
 use Rattle.cells.specs.Memory.{Memory, memory}
 use Rattle.cells.specs.RenumberParts.{lengths_of}
-use Rattle.cells.specs.declared.count.Counts.{Counts}
+use Rattle.cells.specs.declared.counts.Counts.{Counts}
 use Rattle.cells.specs.declared.ynd.Ynd.{Ynd}
 use Rattle.sets.specs.CellSet.{CellSet, cell_set}
 use Rattle.sets.specs.declared.lists.Given.{Given}

@@ -5,7 +5,6 @@ use Rattle.numbers.specs.declared.math.Vec3.{Vec3}
 use Rattle.cells.specs.Memory.{Memory, memory, Left}
 use Rattle.cells.specs.Add.{done, add_node}
 use Rattle.cells.specs.OwnWords.{with_own}
-use Rattle.cells.specs.Edit.{Stored}
 use Rattle.sets.specs.MemberList.{nodes_together, over_set, unless}
 use Rattle.sets.specs.CellSet.{CellSet, members_of, lack}
 use Rattle.sets.specs.SetStored.{member_in, ask_causes, with_member}
@@ -53,20 +52,3 @@ add_node_member y j area at = edit_by (add_causes y j) y j (λ m. add_node m are
 abbrev pub put_words : Memory → ℕ → ℕ → ℕ → List ℕ → Left
 put_words m vft vehicles peds unknowns =
     done (memory (with_own m.ynd vft vehicles peds unknowns) m.nodes m.links m.junctions m.heights m.refs)
-
--- ---- an edit of one list is one of the memory
-
-abbrev pub nodes_left : Memory → Stored (List ℕ) → Left
-nodes_left m s = record { answer = s.answer; memory = memory m.ynd s.list m.links m.junctions m.heights m.refs }
-
-abbrev pub links_left : Memory → Stored (List ℕ) → Left
-links_left m s = record { answer = s.answer; memory = memory m.ynd m.nodes s.list m.junctions m.heights m.refs }
-
-abbrev pub junctions_left : Memory → Stored (List ℕ) → Left
-junctions_left m s = record { answer = s.answer; memory = memory m.ynd m.nodes m.links s.list m.heights m.refs }
-
-abbrev pub heights_left : Memory → Stored ℕ → Left
-heights_left m s = record { answer = s.answer; memory = memory m.ynd m.nodes m.links m.junctions s.list m.refs }
-
-abbrev pub refs_left : Memory → Stored (List ℕ) → Left
-refs_left m s = record { answer = s.answer; memory = memory m.ynd m.nodes m.links m.junctions m.heights s.list }

@@ -4,9 +4,9 @@ use Rattle.numbers.specs.Refusals.{Cause, when, decided, unless}
 use Rattle.cells.specs.Memory.{Memory, memory}
 use Rattle.cells.specs.declared.ynd.Ynd.{Ynd}
 use Rattle.sets.specs.CellSet.{CellSet, ynd_of}
-use Rattle.sets.specs.Join.{per_list}
+use Rattle.cells.specs.Memory.{per_list}
 use Rattle.sets.specs.SetParts.{starts_of, list_causes}
-use Rattle.cells.specs.declared.count.Counts.{Counts}
+use Rattle.cells.specs.declared.counts.Counts.{Counts}
 use Rattle.sets.specs.declared.member.MemberPart.{MemberPart}
 use Rattle.std.specs.Prelude.{Result, Ok}
 use Rattle.numbers.specs.declared.refusal.Refusal.{Refusal}

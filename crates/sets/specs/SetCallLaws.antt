@@ -22,8 +22,8 @@ use Rattle.sets.specs.RenumberMember.{renumber_member}
 use Rattle.sets.specs.WriteMember.{write_read_member}
 use Rattle.sets.specs.CrossMember.{cross_member}
 use Rattle.sets.specs.SetRun.{run_set}
-use Rattle.sets.specs.SetCallsClaim.{cells_in}
-use Rattle.cells.specs.declared.count.Counts.{Counts}
+use Rattle.sets.specs.CellSet.{cells_in}
+use Rattle.cells.specs.declared.counts.Counts.{Counts}
 use Rattle.std.specs.Prelude.{Ok, Err}
 use Rattle.numbers.specs.declared.refusal.Refusal.{Refusal}
 

@@ -3,17 +3,16 @@
 -- definitions that the calls' contracts cite.
 use Rattle.std.specs.Prelude.{ℕ, ◌<◌, ◌≡◌, true, List, map, length, get_or, take}
 use Rattle.numbers.specs.Refusals.{decided}
-use Rattle.cells.specs.Cell.{Cell, node_at}
+use Rattle.cells.specs.Cell.{node_at}
 use Rattle.walks.specs.Claim.{SameWalk}
 use Rattle.walks.specs.declared.walk.End.{End}
 use Rattle.sets.specs.Members.{cell_at, areas}
 use Rattle.sets.specs.Crossing.{Location, location, crossing}
 use Rattle.sets.specs.SetSound.{set_sound}
-use Rattle.sets.specs.MemberList.{cells_of}
 use Rattle.sets.specs.SetCalls.{SetCall}
 use Rattle.sets.specs.CrossingCall.{location_words}
 use Rattle.sets.specs.SetClaim.{Stands, CellAsRead}
-use Rattle.sets.specs.CellSet.{CellSet, members_of, set_causes}
+use Rattle.sets.specs.CellSet.{CellSet, cells_in, set_causes}
 use Rattle.sets.specs.SetStored.{member_in}
 use Rattle.sets.specs.CrossMember.{cross_member}
 use Rattle.sets.specs.SetRun.{run_set, moved_on, any_renumbers_on}
@@ -25,9 +24,6 @@ use Rattle.std.specs.Prelude.{Ok}
 --   moved_on y calls s                 where the node first at s, a member and a place, stands after the calls
 --   crossing cells choices s          all of a crossing walk: its end, and each location visited with what is shown
 --   cross_member y choices s visited   what the call `crossing_walk` answers, and the visited list after it
-
-abbrev pub cells_in : CellSet → List Cell
-cells_in y = cells_of (members_of y)
 
 -- an entry of the visited list, with its node where that stands after the calls
 abbrev pub entry_moved : CellSet → List SetCall → List ℕ → List ℕ

@@ -13,7 +13,7 @@ use Rattle.sets.specs.MemberList.{over_set}
 use Rattle.sets.specs.CellSet.{CellSet, word, ynd_of, words_at, total, parts_of, lack_of}
 use Rattle.sets.specs.Leave.{start_of}
 use Rattle.sets.specs.Join.{lack_for}
-use Rattle.cells.specs.declared.count.Counts.{Counts}
+use Rattle.cells.specs.declared.counts.Counts.{Counts}
 use Rattle.std.specs.Prelude.{Option}
 use Rattle.numbers.specs.declared.refusal.Refusal.TheVariants.{TooShort, AtLimit, AreaTaken}
 use Rattle.numbers.specs.declared.refusal.Lent.TheVariants as lent

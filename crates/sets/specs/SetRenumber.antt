@@ -1,4 +1,5 @@
 -- T-09: renumbering one member, with the correction of the others' links, and write-then-read of one member.
+use Rattle.cells.specs.EditedCell.{with_nodes, node_linked}
 use Rattle.std.specs.Prelude.{ℕ, Bool, false, cond, List, [], ◌∷◌, map, eqb, get_or, set}
 use Rattle.std.proofs.Math.Option.{Option, none, some}
 use Rattle.numbers.specs.Refusals.{Answer, decided}
@@ -40,19 +41,11 @@ abbrev pub correct_link : Change → ℕ → Link → Link
 correct_link x i l = record { area = l.area; number = corrected x i l.area l.number; body = l.body }
 
 abbrev pub correct_node : Change → ℕ → Node → Node
-correct_node x i n = record { area = n.area; number = n.number; links = map (correct_link x i) n.links; body = n.body }
+correct_node x i n = node_linked (map (correct_link x i) n.links) n
 
 -- the links of the member i; its refs stay
 abbrev pub correct_cell : Change → ℕ → Cell → Cell
-correct_cell x i c = record {
-  nodes = map (correct_node x i) c.nodes;
-  junctions = c.junctions;
-  refs = c.refs;
-  vehicles = c.vehicles;
-  peds = c.peds;
-  vft = c.vft;
-  words = c.words;
-}
+correct_cell x i c = with_nodes (map (correct_node x i) c.nodes) c
 
 abbrev pub change_of : List Cell → ℕ → Change
 change_of cs j = record { areas = areas cs; member = j; old = old_nodes (cell_at cs j).nodes }

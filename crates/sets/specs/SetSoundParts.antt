@@ -11,9 +11,9 @@ use Rattle.cells.specs.NodeWords.{link_start, link_count}
 use Rattle.walks.specs.Sound.{sound}
 use Rattle.walks.specs.SoundCall.{indexed}
 use Rattle.sets.specs.Members.{cell_at, areas, member_for}
-use Rattle.sets.specs.MemberList.{cells_of, over_set}
+use Rattle.sets.specs.MemberList.{over_set}
 use Rattle.sets.specs.SetRenumber.{is_member}
-use Rattle.sets.specs.CellSet.{CellSet, ynd_of, members_of, holds_list}
+use Rattle.sets.specs.CellSet.{ynd_of, holds_list}
 use Rattle.sets.specs.Leave.{start_of}
 use Rattle.sets.specs.SetParts.{count_of, Holding, bare}
 use Rattle.numbers.specs.declared.refusal.Refusal.TheVariants.{TooShort, AtLimit}
@@ -81,6 +81,3 @@ entries_causes ws nodes links refs room =
     ∷ when (not (holds_list 14 19 ws refs)) (TooShort lent.Refs)
     ∷ when (ltb room 65536) (TooShort lent.Scratch)
     ∷ []
-
-abbrev pub cells_in : CellSet → List Cell
-cells_in y = cells_of (members_of y)

@@ -8,7 +8,8 @@ use Rattle.cells.specs.declared.ynd.Ynd.{Ynd}
 use Rattle.sets.specs.MemberList.{member_at}
 use Rattle.sets.specs.CellSet.{CellSet, word, members_of, set_causes}
 use Rattle.sets.specs.Leave.{start_of}
-use Rattle.sets.specs.Join.{entry_of, per_list}
+use Rattle.sets.specs.Join.{entry_of}
+use Rattle.cells.specs.Memory.{per_list}
 use Rattle.numbers.specs.declared.refusal.Refusal.TheVariants.{NoSuchPlace}
 
 abbrev pub member_in : CellSet → ℕ → Memory

@@ -1,8 +1,9 @@
 // Whether the links that name a member name nodes of it (T-09).
-ghost use Rattle.std.specs.Prelude.{◌≡◌, ◌≤◌, ◌<◌, ◌+◌, length, take, drop};
+ghost use Rattle.std.specs.Prelude.{◌≡◌, ◌≤◌, ◌<◌, ◌+◌, length, map, take, drop};
 ghost use Rattle.cells.specs.Lists.{every};
 ghost use Rattle.cells.specs.LookupCall.{numbers_in};
-ghost use Rattle.walks.specs.SoundParts.{Ready};
+ghost use Rattle.cells.specs.NodeWords.{number_of};
+ghost use Rattle.cells.specs.RenumberParts.{Leads};
 ghost use Rattle.sets.specs.Leave.{start_of};
 ghost use Rattle.sets.specs.SetParts.{count_of};
 ghost use Rattle.sets.specs.SetSoundParts.{all_below, word_meets, words_meet, part_meets};
@@ -12,9 +13,9 @@ use crate::parts::own_entries;
 use crate::world::World;
 use cells::link::LinkWords;
 use cells::node::NodeWords;
+use cells::number_index::Numbers;
 use cells::range::{link_count, link_start, part};
 use numbers::refusal::Array;
-use walks::sound::Numbers;
 
 // A member that links may name: its set, its number there, and its nodes, found by their numbers.
 #[derive(Clone, Copy)]
@@ -30,7 +31,7 @@ impl Target<'_> {
     fn link_meets(&self, i: usize, w: LinkWords) -> bool
         requires { i < length self.now.set.members.now }
         ensures { result ≡ word_meets self.now.set.areas.now self.now.member
-            (numbers_in (length self.now.numbers.nodes.now) self.now.numbers.nodes.now) i w }
+            (map number_of self.now.numbers.nodes.now) i w }
     {
         member_named(self.set.areas, i, w[0]) != Some(self.member) || self.numbers.has(w[1])
     }
@@ -39,7 +40,7 @@ impl Target<'_> {
     fn node_meets(&self, i: usize, links: &[LinkWords], w: NodeWords) -> bool
         requires { i < length self.now.set.members.now }
         ensures { result ≡ words_meet self.now.set.areas.now self.now.member
-            (numbers_in (length self.now.numbers.nodes.now) self.now.numbers.nodes.now) i links.now w }
+            (map number_of self.now.numbers.nodes.now) i links.now w }
     {
         part(links, link_start(w) as usize, link_count(w) as usize)
             .iter()
@@ -50,7 +51,7 @@ impl Target<'_> {
     fn member_meets(&self, i: usize) -> bool
         requires { i < length self.now.set.members.now }
         ensures { result ≡ every (words_meet self.now.set.areas.now self.now.member
-            (numbers_in (length self.now.numbers.nodes.now) self.now.numbers.nodes.now) i
+            (map number_of self.now.numbers.nodes.now) i
             (take (count_of 11 self.now.set.members.now i)
             (drop (start_of 16 self.now.set.members.now i) self.now.set.links.now)))
             (take (count_of 10 self.now.set.members.now i)
@@ -67,11 +68,11 @@ impl Target<'_> {
 impl World<'_> {
     // Whether all links of all members that name the member k name nodes of it. The scratch leads to that member's
     // nodes.
-    #[tactic(auto, using(crate::proofs::ArrivalLaws::ready_taken))]
+    #[tactic(auto, unfolding(cells::specs::LookupCall::numbers_in))]
     pub(crate) fn members_meet(&self, scratch: &[u32], k: usize) -> bool
         requires { (k < length self.now.members.now)
-            × Ready (count_of 10 self.now.members.now k) (drop (start_of 15 self.now.members.now k) self.now.nodes.now)
-            scratch.now }
+            × Leads (numbers_in (count_of 10 self.now.members.now k)
+            (drop (start_of 15 self.now.members.now k) self.now.nodes.now)) scratch.now }
         ensures { result ≡ all_below (part_meets self.now.areas.now self.now.members.now self.now.nodes.now
             self.now.links.now k) (length self.now.members.now) }
     {

@@ -90,6 +90,7 @@ fn walk_started(
 
 // A walk from a member and a place in it, by a byte a choice, that goes on in the member that a link names, whatever
 // the lists that are not lent. `visited` gets member and place of each node visited; a refusal changes nothing.
+#[tactic(auto, using(crate::proofs::CrossCases::call_split))]
 pub fn crossing_walk(
     members: &[MemberWords],
     nodes: &[NodeWords],

@@ -5,7 +5,8 @@ ghost use Rattle.cells.specs.Edit.{put_junction, put_height};
 ghost use Rattle.cells.specs.PutHeightmap.{put_heightmap};
 ghost use Rattle.sets.specs.CellSet.{cell_set};
 ghost use Rattle.sets.specs.Lent.{Unlent};
-ghost use Rattle.sets.specs.MemberEdit.{set_edited, edit_member, heights_left, junctions_left};
+ghost use Rattle.sets.specs.MemberEdit.{set_edited, edit_member};
+ghost use Rattle.cells.specs.Edit.{heights_left, junctions_left};
 
 use crate::entry::MemberWords;
 use crate::member::{held, open_member, store_ynd};

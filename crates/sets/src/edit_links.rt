@@ -5,7 +5,8 @@ ghost use Rattle.cells.specs.Edit.{put_link};
 ghost use Rattle.cells.specs.PutLinks.{put_links};
 ghost use Rattle.sets.specs.CellSet.{cell_set};
 ghost use Rattle.sets.specs.Lent.{Unlent};
-ghost use Rattle.sets.specs.MemberEdit.{set_edited, edit_member, links_left};
+ghost use Rattle.sets.specs.MemberEdit.{set_edited, edit_member};
+ghost use Rattle.cells.specs.Edit.{links_left};
 
 use crate::entry::MemberWords;
 use crate::member::{held, open_member, store_ynd};

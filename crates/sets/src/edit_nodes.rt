@@ -3,7 +3,8 @@ ghost use Rattle.std.specs.Prelude.{◌≡◌, ◌||◌, ltb, leb, length};
 ghost use Rattle.cells.specs.Edit.{put_node, set_position};
 ghost use Rattle.sets.specs.CellSet.{cell_set, words_at, total};
 ghost use Rattle.sets.specs.Lent.{Unlent};
-ghost use Rattle.sets.specs.MemberEdit.{set_edited, edit_member, add_node_member, nodes_left};
+ghost use Rattle.sets.specs.MemberEdit.{set_edited, edit_member, add_node_member};
+ghost use Rattle.cells.specs.Edit.{nodes_left};
 
 use crate::entry::MemberWords;
 use crate::member::{held, open_member, store_ynd};

@@ -4,7 +4,8 @@ ghost use Rattle.cells.specs.Add.{add_ref};
 ghost use Rattle.cells.specs.Edit.{put_ref};
 ghost use Rattle.sets.specs.CellSet.{cell_set};
 ghost use Rattle.sets.specs.Lent.{Unlent};
-ghost use Rattle.sets.specs.MemberEdit.{set_edited, edit_member, refs_left};
+ghost use Rattle.sets.specs.MemberEdit.{set_edited, edit_member};
+ghost use Rattle.cells.specs.Edit.{refs_left};
 
 use crate::entry::MemberWords;
 use crate::member::{held, open_member, store_ynd};

@@ -5,7 +5,7 @@ ghost use Rattle.sets.specs.CellSet.{word, ynd_of};
 ghost use Rattle.sets.specs.Join.{entry_of};
 ghost use Rattle.sets.specs.SetParts.{count_word, size_word};
 
-use cells::count::Counts;
+use cells::counts::Counts;
 use cells::ynd::Ynd;
 use numbers::refusal::Array;
 

@@ -10,7 +10,7 @@ use crate::entry::MemberWords;
 use crate::lists::{Given, Lists};
 use crate::member::{MemberPart, open_member};
 use crate::named::member_of_area;
-use cells::count::{Counts, lengths};
+use cells::counts::{Counts, lengths};
 use cells::junction::JunctionWords;
 use cells::link::LinkWords;
 use cells::node::NodeWords;
@@ -56,11 +56,7 @@ pub fn hand_back(
     let p = open_member(members, lens, j)?;
     check_lent(
         p.ynd,
-        to_nodes.len(),
-        to_links.len(),
-        to_junctions.len(),
-        to_heights.len(),
-        to_refs.len(),
+        lengths(to_nodes, to_links, to_junctions, to_heights, to_refs),
     )?;
     let from = Given {
         nodes,

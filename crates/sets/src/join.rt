@@ -18,7 +18,7 @@ use crate::named::member_of_area;
 use crate::parts::{count_all, nodes_together, number_in, starts_of};
 use crate::room::{any_over, holds_list};
 use cells::area::own_area;
-use cells::count::{Counts, lengths};
+use cells::counts::{Counts, lengths};
 use cells::junction::JunctionWords;
 use cells::link::LinkWords;
 use cells::node::NodeWords;
@@ -115,7 +115,7 @@ fn has_area(members: &[MemberWords], nodes: &[NodeWords], area: u16) -> bool
 }
 
 // What joining answers, for a cell of this area. Nothing is stored.
-#[tactic(auto, using(crate::proofs::Rules::join_laws))]
+#[tactic(auto, using(crate::proofs::Rules::join_laws), unfolding(crate::specs::SetParts::entry_causes))]
 fn join_answer(
     members: &[MemberWords],
     nodes: &[NodeWords],

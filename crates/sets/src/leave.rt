@@ -11,7 +11,7 @@ use crate::moves::close;
 use crate::named::member_of_area;
 use crate::parts::starts_of;
 use crate::room::check_set;
-use cells::count::lengths;
+use cells::counts::lengths;
 use cells::junction::JunctionWords;
 use cells::link::LinkWords;
 use cells::node::NodeWords;

@@ -4,7 +4,7 @@ ghost use Rattle.sets.specs.Join.{stored};
 ghost use Rattle.sets.specs.ListParts.{Same, lengths_given};
 ghost use Rattle.sets.specs.MemberParts.{PartsLie, between};
 
-use cells::count::Counts;
+use cells::counts::Counts;
 use cells::junction::JunctionWords;
 use cells::link::LinkWords;
 use cells::node::NodeWords;

@@ -7,7 +7,7 @@ ghost use Rattle.sets.specs.MemberParts.{entry_ask, opened, held_by};
 use crate::entry::{MemberWords, entry_words, size_in, ynd_of};
 use crate::parts::starts_of;
 use crate::room::check_set;
-use cells::count::Counts;
+use cells::counts::Counts;
 use cells::ynd::Ynd;
 use numbers::refusal::{Array, Refusal};
 
@@ -30,7 +30,7 @@ fn check_member(members: &[MemberWords], lens: Counts, j: usize) -> Result<(), R
     check_set(members, lens)
 }
 
-#[tactic(auto, using(crate::proofs::MemberPartLaws::open_laws))]
+#[tactic(auto, using(crate::proofs::MemberPartLaws::open_laws), unfolding(crate::specs::MemberParts::opened))]
 pub(crate) fn open_member(
     members: &[MemberWords],
     lens: Counts,

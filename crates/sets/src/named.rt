@@ -14,6 +14,7 @@ use cells::range::{cut, part};
 use numbers::refusal::Array;
 
 // The place of the member with this area among the members, whatever the lists that are not lent.
+#[tactic(auto, using(crate::proofs::Rules::area_laws), unfolding(crate::specs::CellSet::total))]
 pub fn member_of_area(members: &[MemberWords], nodes: &[NodeWords], area: u16) -> Option<usize>
     ensures value { result ≡ named_of (first_with (areas_of members.now nodes.now) area) }
     ensures of_set { (links junctions refs : List (List ℕ)) (heights : List ℕ) → result

@@ -5,7 +5,7 @@ ghost use Rattle.sets.specs.Leave.{start_of};
 ghost use Rattle.sets.specs.SetParts.{starts_of, count_of, count_word, size_word, number_in, Holding};
 
 use crate::entry::{MemberWords, count_in, size_in};
-use cells::count::Counts;
+use cells::counts::Counts;
 use numbers::refusal::Array;
 
 // The number for a list.
@@ -22,6 +22,7 @@ pub(crate) fn number_in(list: Array, k: Counts) -> usize
 }
 
 // How many nodes the members have together.
+#[tactic(auto, using(crate::proofs::PartLaws::sum_laws))]
 pub(crate) fn nodes_together(members: &[MemberWords]) -> usize
     requires { length members.now ≤ 9 }
     ensures { result ≡ total (words_at 10 members.now) }

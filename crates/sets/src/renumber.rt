@@ -12,7 +12,7 @@ ghost use Rattle.sets.specs.RenumberMember.{member_renumbered, renumbered_at, re
 use crate::correct::correct_others;
 use crate::entry::MemberWords;
 use crate::member::{MemberPart, open_member, store_ynd};
-use cells::count::{Counts, lengths};
+use cells::counts::{Counts, lengths};
 use cells::junction::JunctionWords;
 use cells::link::LinkWords;
 use cells::new_numbers::new_numbers;

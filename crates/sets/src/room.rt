@@ -9,7 +9,7 @@ ghost use Rattle.numbers.specs.declared.refusal.Refusal.TheVariants.{TooShort};
 
 use crate::entry::{MemberWords, count_in, size_in, ynd_of};
 use crate::parts::{count_all, nodes_together};
-use cells::count::Counts;
+use cells::counts::Counts;
 use cells::room::over_limit;
 use numbers::refusal::{Array, Refusal};
 

@@ -9,7 +9,8 @@ ghost use Rattle.sets.specs.CellSet.{cell_set};
 ghost use Rattle.sets.specs.SetSoundCall.{set_sound_call};
 ghost use Rattle.sets.specs.SetParts.{Holding};
 ghost use Rattle.sets.specs.WorldParts.{set_of};
-ghost use Rattle.sets.specs.SetSoundParts.{judged_at, numbers_of, indexed_to, entries_causes, cells_in};
+ghost use Rattle.sets.specs.SetSoundParts.{judged_at, numbers_of, indexed_to, entries_causes};
+ghost use Rattle.sets.specs.CellSet.{cells_in};
 
 use crate::entry::{MemberWords, ynd_of};
 use crate::parts::count_before;
@@ -38,6 +39,7 @@ impl World<'_> {
     }
 
     // Whether the member k is sound, and all links that name it name nodes of it.
+    #[tactic(auto, using(crate::proofs::SetSoundLaws::one_laws))]
     fn judge_member(&self, refs: &[LinkWords], k: usize, scratch: &mut [u32]) -> bool
         requires { Holding 14 19 self.now.members.now (length refs.now)
             × (k < length self.now.members.now) × (65536 ≤ length scratch.old) }
@@ -113,6 +115,7 @@ fn judge_set(
 // member after the other, each with its last place there; a refusal changes nothing. Each member's nodes are stored in
 // the scratch once, and for each member all nodes of the set and the links that they name are looked at once: at most
 // nine times the whole set.
+#[tactic(auto, using(crate::proofs::SetSoundLaws::by_start))]
 pub fn set_sound(
     members: &[MemberWords],
     nodes: &[NodeWords],

@@ -11,7 +11,7 @@ ghost use Rattle.sets.specs.WriteMember.{set_written, write_read_member, write_m
 use crate::entry::MemberWords;
 use crate::lists::{Given, Lists};
 use crate::member::{MemberPart, open_member, store_ynd};
-use cells::count::lengths;
+use cells::counts::lengths;
 use cells::junction::JunctionWords;
 use cells::link::LinkWords;
 use cells::node::NodeWords;

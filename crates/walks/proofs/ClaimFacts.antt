@@ -21,7 +21,8 @@ use Rattle.cells.specs.Words.{ref_words, to_node}
 use Rattle.cells.specs.Cell.{LinkBody, Junction, Node, Cell, no_body}
 use Rattle.cells.specs.Cell as held-cell
 use Rattle.cells.specs.Memory.{Memory, memory, over_limit, short_of}
-use Rattle.cells.specs.CellOf.{junctions_of, refs_of, cell_of, body_of, nodes_of}
+use Rattle.cells.specs.CellOf.{junctions_of, refs_of, cell_of, nodes_of}
+use Rattle.cells.specs.Cell.{body_of}
 use Rattle.cells.specs.FileCell.{file_nodes, file_junctions, file_refs, cell_from, cell_by, file_cell}
 use Rattle.cells.specs.Lookup.{first_with, find, ref_of, junction_of}
 use Rattle.cells.specs.Renumber.{renumber, vehicles, peds, renumber_lists, recounted, answer_of, new_lists}
@@ -30,6 +31,7 @@ use Rattle.cells.specs.WriteRead.{write_read_of}
 use Rattle.walks.specs.Walk.{Seen, next, see, walk_in, walk}
 use Rattle.walks.specs.Calls.{Call, after, run, any_renumbers, renumbers, moved}
 use Rattle.walks.specs.WalkCall.{route, walk_left, walk_call}
+use Rattle.cells.specs.Edit.{junction_entry, entry_at}
 use Rattle.walks.specs.Shown.{values_at, values_left, shown_values}
 use Rattle.walks.specs.Claim.{shown, followed, SameWalk, Unnoticed}
 use Rattle.walks.specs.declared.walk.End.TheVariants.{NoLink}
@@ -240,5 +242,5 @@ mapped =
     [] [] ((0 ∷ 0 ∷ 0 ∷ 0 ∷ 257 ∷ 0 ∷ []) ∷ []) (77 ∷ []) []
 
 pub values_just_fit : shown_values mapped 0 (9 ∷ []) ≡ values_left (Ok 1) (77 ∷ [])
-unfolding shown_values over_limit values_at cell_of junctions_of put
+unfolding shown_values junction_entry entry_at over_limit values_at cell_of junctions_of put
 values_just_fit = refl

@@ -28,7 +28,8 @@ use Rattle.cells.specs.Area.{belongs}
 use Rattle.cells.specs.Order.{keep, rank, parted, new_place, listed, new_places, last_with, new_number, renamed}
 use Rattle.cells.specs.NodeWords.{area_of, number_of, is_ped, numbered, number_from, reordered, first_area, old_of}
 use Rattle.cells.specs.NodeWords.{relinked}
-use Rattle.cells.specs.CellOf.{body_of, nodes_of, cell_of}
+use Rattle.cells.specs.CellOf.{nodes_of, cell_of}
+use Rattle.cells.specs.Cell.{body_of}
 use Rattle.cells.specs.Unused.{unused_of}
 use Rattle.cells.specs.FileCell.{file_nodes, file_junctions, file_refs, cell_from, cell_by, file_cell}
 use Rattle.cells.specs.Lookup.{first_with}

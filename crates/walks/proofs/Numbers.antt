@@ -2,15 +2,16 @@
 use Prim.Native.Nat.{ℕ, zero, suc, ◌<◌}
 use native.Mathlib.Omega.{arith}
 use mathlib.Core.Path.{◌≡◌, refl, sym}
-use mathlib.Core.Bool.{Bool, true, false, not, ◌&&◌}
+use mathlib.Core.Bool.{true, false, not, ◌&&◌}
 use mathlib.Core.List.{List, [], ◌∷◌}
 use mathlib.Core.Option.{Option, none, some}
 use lib.Dec.{eqb, ltb}
 use lib.ListN.{length, get_or}
 use borrow.Author.Tests.{eqb-true, eq-eqb, ltb-true}
-use Rattle.cells.specs.Order.{last_with, or_else, new_number, new_place, Old}
+use Rattle.cells.specs.Order.{last_with, new_number, new_place, Old}
 use Rattle.cells.specs.Lookup.{first_with, or_later, find, is_some}
 use Rattle.walks.specs.Sound.{differing}
+use Rattle.cells.proofs.Renumbering.Named.{first_last}
 use Rattle.cells.proofs.Sequences.Tests.{and_left, and_right, by_test, true_false}
 
 -- the number at place p is k
@@ -42,19 +43,6 @@ first_is (n ∷ ns) k (suc p) d h =
     by_test (eqb n k)
     (λ t. true_false (cc (ih, eqb-true n k t, and_left (not (is_some (first_with ns n))) _ d)))
     (λ f. cc)
-
-pub first_last : (ns : List ℕ) (k : ℕ) → is_some (last_with ns k) ≡ is_some (first_with ns k)
-unfolding first_with last_with
-first_last [] k = refl
-first_last (n ∷ ns) k = go (eqb n k) (last_with ns k) (first_with ns k) (first_last ns k)
-  where
-    go : (b : Bool) (l f : Option ℕ) → is_some l ≡ is_some f → is_some (or_else l b) ≡ is_some (or_later b f)
-    go true (some l) f h = refl
-    go true none f h = refl
-    go false (some l) (some f) h = refl
-    go false (some l) none h = h
-    go false none (some f) h = h
-    go false none none h = refl
 
 none_is : (r : Option ℕ) → not (is_some r) ≡ true → r ≡ none
 none_is (some i) h = true_false (sym h)

@@ -1,13 +1,10 @@
 -- What a call answers that asks first for a place, the limits and the lists of nodes and links.
 use Prim.Native.Nat.{ℕ}
-use mathlib.Core.Path.{◌≡◌, refl, ap, sym, ◌∙◌}
-use mathlib.Core.List.{List, ◌++◌}
+use mathlib.Core.Path.{◌≡◌, refl, ap, ◌∙◌}
 use mathlib.Core.Bool.{Bool, true, false, cond}
 use lib.Dec.{leb, ltb}
 use Rattle.std.specs.Prelude.{Result, Ok, Err}
-use Rattle.std.specs.Result.{IsErrAnd}
-use Rattle.numbers.specs.Refusals.{Cause, Answer, done, decided, unless}
-use Rattle.numbers.proofs.Refusing.{decided_append}
+use Rattle.numbers.specs.Refusals.{Answer, done, decided}
 use Rattle.numbers.specs.declared.refusal.Refusal.{Refusal}
 use Rattle.numbers.specs.declared.refusal.Refusal.TheVariants.{TooShort, NoSuchPlace, AtLimit}
 use Rattle.numbers.specs.declared.refusal.Lent.TheVariants as lent
@@ -51,18 +48,3 @@ module _ {A B : Type 0} (y : Ynd) (nodes links p : ℕ) (left : Result B Refusal
 
   pub place_asked : done ≡ decided (place_causes y nodes links p) → answer ≡ at_place
   place_asked e = ap told e ∙ told_at
-
-  -- a refusal handed on
-  pub place_refused : {cause : Refusal} → Err cause ≡ decided (place_causes y nodes links p)
-      → (r : Result B Refusal) → IsErrAnd r (λ x. x ≡ cause) → left r ≡ at_place
-  place_refused e (Err x) is = ap (λ (z : Refusal). left (Err z)) is ∙ ap told e ∙ told_at
-  place_refused e (Ok x) is = absurd is
-
--- a refusal handed on by a call that asks for more behind the place and the lists
-pub refused_before : (y : Ynd) (nodes links p : ℕ) (more : List Cause) {cause : Refusal}
-    → Err cause ≡ decided (place_causes y nodes links p) → (r : Answer) → IsErrAnd r (λ x. x ≡ cause)
-    → r ≡ decided (place_causes y nodes links p ++ more)
-refused_before y nodes links p more e (Err x) is =
-    ap Err is ∙ ap (λ (a : Answer). unless a (decided more)) e
-    ∙ sym (decided_append (place_causes y nodes links p) more)
-refused_before y nodes links p more e (Ok x) is = absurd is

@@ -13,17 +13,17 @@ use Rattle.std.proofs.lemmas.List.FromFn.{get_or-enumerate_from, length-enumerat
 use Rattle.std.proofs.lemmas.List.{map_push}
 use Rattle.std.proofs.lemmas.List.Recursion.{and_at}
 use lib.ListN.{length, get_or, set, take, length-map, get_or-map}
-use lib.Seq.{get_or-take, take-suc, length-take-le, take_all}
+use lib.Seq.{take-suc, length-take-le, take_all}
 use Rattle.cells.specs.NodeWords.{number_of}
 use Rattle.cells.specs.Lookup.{first_with, is_some}
 use Rattle.cells.specs.LookupCall.{numbers_in}
-use Rattle.cells.specs.RenumberParts.{Indexed}
+use Rattle.cells.specs.RenumberParts.{Indexed, Leads}
 use Rattle.cells.proofs.Renumbering.Named as cells
 use Rattle.cells.proofs.Sequences.Tests.{by_test, true_false}
 use Rattle.walks.specs.Sound.{differing}
 use Rattle.walks.specs.SoundCall.{indexed}
-use Rattle.walks.specs.SoundParts.{all_numbers, Ready}
-use Rattle.walks.proofs.Numbers.{named_has, first_last, last_is}
+use Rattle.walks.specs.SoundParts.{all_numbers}
+use Rattle.walks.proofs.Numbers.{named_has, last_is}
 
 -- ---- the scratch, number by number
 
@@ -58,10 +58,10 @@ indexed_turn nodes i k s now lt e h =
 
 -- ---- the numbers
 
-number_in : (n : ℕ) (nodes : List (List ℕ)) (t : ℕ) → t < n → get_or (numbers_in n nodes) t 0
+number_in : (nodes : List (List ℕ)) (t : ℕ) → t < length nodes → get_or (all_numbers nodes) t 0
     ≡ number_of (get_or nodes t [])
-unfolding number_of numbers_in
-number_in n nodes t lt = get_or-map number_of (take n nodes) t [] ∙ ap number_of (get_or-take n nodes t [] lt)
+unfolding number_of
+number_in nodes t lt = get_or-map number_of nodes t []
 
 pub numbers_long : (n : ℕ) (nodes : List (List ℕ)) → n ≤ length nodes → length (numbers_in n nodes) ≡ n
 unfolding numbers_in
@@ -70,7 +70,7 @@ numbers_long n nodes h = length-map (take n nodes) number_of ∙ length-take-le 
 -- the numbers of the first n nodes are all of theirs
 pub all_front : (n : ℕ) (nodes : List (List ℕ)) → all_numbers (take n nodes) ≡ numbers_in n nodes
 unfolding numbers_in
-all_front n nodes = ap (map number_of) (take_all (length (take n nodes)) (take n nodes) (omega arith))
+all_front n nodes = refl
 
 -- the numbers differ if no two places have the same
 differ_yes : (ns : List ℕ) → ((i j : ℕ) → i < length ns → j < length ns → get_or ns i 0 ≡ get_or ns j 0 → i ≡ j)
@@ -86,6 +86,10 @@ differ_yes (n ∷ ns) h =
     let z : 0 ≡ suc r.0 = h 0 (suc r.0) (omega arith) (omega (arith, r.1.inside)) (sym r.1.number) in
     absurd (omega arith))
     (λ f. rw f))
+
+pub all_taken : (nodes : List (List ℕ)) (i : ℕ) → i ≡ length nodes → numbers_in i nodes ≡ all_numbers nodes
+unfolding numbers_in
+all_taken nodes i e = ap (map number_of) (take_all i nodes (omega arith))
 
 -- ---- a test of each entry with its place
 
@@ -111,52 +115,30 @@ leads_back s p = eqb (get_or s (number_of p.1) 0) p.0
 
 -- ---- by the scratch
 
-module _ (n : ℕ) (nodes : List (List ℕ)) (s : List ℕ) (r : Ready n nodes s) where
-  long : length (numbers_in n nodes) ≡ n
-  long = numbers_long n nodes r.nodes_fit
+module _ (nodes : List (List ℕ)) (s : List ℕ) (r : Leads (all_numbers nodes) s) where
+  long : length (all_numbers nodes) ≡ length nodes
+  long = length-map nodes number_of
 
-  pub differ_all : ((j : ℕ) → j < n → get_or s (number_of (get_or nodes j [])) 0 ≡ j) → true
-      ≡ differing (numbers_in n nodes)
-  differ_all h = sym (differ_yes (numbers_in n nodes) (λ i j a b e.
-      let a' : i < n = omega (arith, long) in
-      let b' : j < n = omega (arith, long) in
-      sym (h i a') ∙ ap (λ (k : ℕ). get_or s k 0) (sym (number_in n nodes i a') ∙ e ∙ number_in n nodes j b')
-      ∙ h j b'))
+  pub differ_all : ((j : ℕ) → j < length nodes → get_or s (number_of (get_or nodes j [])) 0 ≡ j) → true
+      ≡ differing (all_numbers nodes)
+  differ_all h = sym (differ_yes (all_numbers nodes) (λ i j a b e.
+      let a' : i < length nodes = omega (arith, long) in
+      let b' : j < length nodes = omega (arith, long) in
+      sym (h i a') ∙ ap (λ (k : ℕ). get_or s k 0) (sym (number_in nodes i a') ∙ e ∙ number_in nodes j b') ∙ h j b'))
 
-  pub differ_not : (i : ℕ) → i < n → (get_or s (number_of (get_or nodes i [])) 0 ≡ i → ⊥) → false
-      ≡ differing (numbers_in n nodes)
-  differ_not i lt ne = by_test (differing (numbers_in n nodes))
-      (λ t. absurd (ne (r.leads.at _ i (last_is (numbers_in n nodes) (number_of (get_or nodes i [])) i t
-      (record { inside = omega (arith, long); number = number_in n nodes i lt })))))
+  pub differ_not : (i : ℕ) → i < length nodes → (get_or s (number_of (get_or nodes i [])) 0 ≡ i → ⊥) → false
+      ≡ differing (all_numbers nodes)
+  differ_not i lt ne = by_test (differing (all_numbers nodes))
+      (λ t. absurd (ne (r.indexed.at _ i (last_is (all_numbers nodes) (number_of (get_or nodes i [])) i t
+      (record { inside = omega (arith, long); number = number_in nodes i lt })))))
       (λ f. sym f)
 
   -- what a test of each node with its place says
-  pub differ_told : n ≡ length nodes → list_all (leads_back s) (enumerate_from 0 nodes)
-      ≡ differing (numbers_in n nodes)
-  differ_told e = by_test (list_all (leads_back s) (enumerate_from 0 nodes))
-      (λ t. t ∙ differ_all (λ j lt. eqb-true _ _ (each_place (leads_back s) [] nodes 0 t j (omega arith))
-      ∙ zero-add j))
+  pub differ_told : list_all (leads_back s) (enumerate_from 0 nodes) ≡ differing (all_numbers nodes)
+  differ_told = by_test (list_all (leads_back s) (enumerate_from 0 nodes))
+      (λ t. t ∙ differ_all (λ j lt. eqb-true _ _ (each_place (leads_back s) [] nodes 0 t j lt) ∙ zero-add j))
       (λ f. let x = some_place (leads_back s) [] nodes 0 f in f
-      ∙ differ_not x.0 (omega (arith, x.1)) (λ q. eqb-false _ _ x.2 (q ∙ sym (zero-add x.0))))
-
-  module _ (k t : ℕ) (is-t : get_or s k 0 ≡ t) where
-    pub number_there : t < n → number_of (get_or nodes t []) ≡ k → true ≡ is_some (first_with (numbers_in n nodes) k)
-    number_there lt e = rw (
-      ← first_last (numbers_in n nodes) k,
-      cells.named (numbers_in n nodes) s r.leads k t is-t
-          (omega (arith, long)) (number_in n nodes t lt ∙ e),
-    )
-
-    pub number_not : (t < n → number_of (get_or nodes t []) ≡ k → ⊥) → false
-        ≡ is_some (first_with (numbers_in n nodes) k)
-    number_not nowhere = rw (
-      ← first_last (numbers_in n nodes) k,
-      cells.unnamed (numbers_in n nodes) s r.leads k t is-t
-          (λ lt e. let below : t < n = omega (arith, long) in nowhere below (sym (number_in n nodes t below) ∙ e)),
-    )
+      ∙ differ_not x.0 x.1 (λ q. eqb-false _ _ x.2 (q ∙ sym (zero-add x.0))))
 
 -- for the function that makes the index
-pub ruleset index_laws = (index_starts, index_turn, indexed_start, indexed_turn)
-
--- for the function that looks a number up
-pub ruleset number_laws = (number_there, number_not)
+pub ruleset index_laws = (index_starts, index_turn, indexed_start, indexed_turn, all_taken)

@@ -1,19 +1,20 @@
 -- What a walk shows, by the words in memory.
 use Prim.Native.Nat.{ℕ, ◌-◌, ◌<◌, ◌≤◌, min}
 use native.Mathlib.Omega.{arith}
-use native.Mathlib.Nat.{zero-add, min-eq_left, min-eq_right, min-le_right, le-min}
+use native.Mathlib.Nat.{min-eq_left, min-eq_right, min-le_right, le-min}
 use mathlib.Core.Path.{◌≡◌, refl, ap, sym, ◌∙◌}
-use mathlib.Core.Bool.{true, false, cond}
-use mathlib.Core.List.{List, [], ◌++◌, map}
+use mathlib.Core.Bool.{false, cond}
+use mathlib.Core.List.{List, [], map}
 use mathlib.Core.Option.{Option, none, some}
 use lib.Dec.{ltb}
 use lib.ListN.{length, get_or, get_elem?, take, drop, length-map, length-drop, length-take}
 use lib.Seq.{length-take-le, get_or-take}
-use borrow.Author.Tests.{le-leb, lt-leb, lt-ltb, le-ltb, ltb-true, ltb-false}
-use Rattle.records.specs.Put.{put}
+use borrow.Author.Tests.{le-ltb, ltb-true, ltb-false}
 use Rattle.std.specs.Prelude.{Some, None, MatchOption, IsSomeAnd}
 use Rattle.std.specs.declared.option.Option as std
-use Rattle.cells.specs.Memory.{Memory, over_limit}
+use Rattle.cells.specs.Memory.{Memory, over_limit, nodes_causes}
+use Rattle.cells.specs.Edit.{junction_entry}
+use Rattle.cells.proofs.Editing.EditLaws.{entry_held}
 use Rattle.cells.specs.NodeWords.{area_of, number_of, link_start, link_count, value_start, value_count}
 use Rattle.cells.specs.Cell.{Link, Node, Cell, node_at, first_of}
 use Rattle.cells.specs.CellOf.{link_of, junction_with, nodes_of, junctions_of, refs_of, cell_of}
@@ -23,8 +24,8 @@ use Rattle.cells.proofs.Sequences.Tests.{by_test}
 use Rattle.cells.proofs.Lookups.LookupLaws.{area_held}
 use Rattle.walks.specs.Walk.{see, link_at, body_of}
 use Rattle.walks.specs.Shown.{seen_by, inside, junction_place, seen_node, shown_node, seen_junction}
-use Rattle.walks.specs.Shown.{shown_junction, values_at, values_left}
-use Rattle.walks.specs.Shown.{shown_values, seen_link, or_no_link, shown_link}
+use Rattle.walks.specs.Shown.{shown_junction, values_at}
+use Rattle.walks.specs.Shown.{seen_link, or_no_link, shown_link}
 use Rattle.walks.specs.Parts.{chosen}
 use Rattle.walks.specs.ShownParts.{seen_of}
 use Rattle.walks.specs.declared.shown.SeenNode.{SeenNode}
@@ -34,14 +35,12 @@ use Rattle.walks.proofs.Ranges.{cut_all, cut_part}
 use Rattle.std.proofs.lemmas.List.{get_or-map, take_min}
 use Rattle.walks.proofs.StepLaws.{elem_at, elem_past, node_in, linked, link_found}
 use Rattle.std.specs.Prelude.{Result, Ok, Err}
-use Rattle.std.specs.Result.{IsErrAnd}
 use Rattle.numbers.specs.Refusals.{Cause, done, decided}
 use Rattle.walks.specs.PlaceCauses.{place_causes}
-use Rattle.walks.proofs.PlaceCases.{place_asked, place_refused}
-use Rattle.numbers.specs.declared.refusal.Refusal.TheVariants.{TooShort, NoSuchPlace, AtLimit}
+use Rattle.walks.proofs.PlaceCases.{place_asked}
+use Rattle.numbers.specs.declared.refusal.Refusal.TheVariants.{TooShort}
 use Rattle.numbers.specs.declared.refusal.Lent.TheVariants as lent
 use Rattle.numbers.specs.declared.refusal.Refusal.{Refusal}
-use Rattle.numbers.proofs.Refusing.{not_refused}
 
 -- ---- a range, cut where the list ends
 
@@ -79,11 +78,6 @@ module _ (m : Memory) (p : ℕ) where
   unfolding shown_node
   node_asked = place_asked m.ynd (length m.nodes) (length m.links) p (λ r. r) node_then
 
-  pub node_refused : {cause : Refusal} → Err cause ≡ decided causes
-      → (r : Result SeenNode Refusal) → IsErrAnd r (λ x. x ≡ cause) → r ≡ shown_node m p
-  unfolding shown_node
-  node_refused = place_refused m.ynd (length m.nodes) (length m.links) p (λ r. r) node_then
-
   module _ (b : ℕ) where
     abbrev link_then : Result (std.Option SeenLink) Refusal
     link_then = or_no_link (body_of (link_at (cell_of m).nodes p b))
@@ -91,11 +85,6 @@ module _ (m : Memory) (p : ℕ) where
     pub link_asked : done ≡ decided causes → link_then ≡ shown_link m p b
     unfolding shown_link
     link_asked = place_asked m.ynd (length m.nodes) (length m.links) p (λ r. r) link_then
-
-    pub link_refused : {cause : Refusal} → Err cause ≡ decided causes
-        → (r : Result (std.Option SeenLink) Refusal) → IsErrAnd r (λ x. x ≡ cause) → r ≡ shown_link m p b
-    unfolding shown_link
-    link_refused = place_refused m.ynd (length m.nodes) (length m.links) p (λ r. r) link_then
 
 -- ---- a node
 
@@ -133,17 +122,13 @@ module _ (m : Memory) where
       (junctions : m.ynd.junction_count ≤ length m.junctions) (refs : m.ynd.ref_count ≤ length m.refs) where
     junction_place_law : (a k : ℕ) → junction_of_call m.ynd m.nodes m.refs a k
         ≡ Ok (place_of (junction_place (cell_of m) a k))
-    unfolding junction_of_call junction_place cell_of ref_in refs_of
+    unfolding junction_of_call junction_place cell_of ref_in refs_of nodes_causes
     junction_place_law a k = rw (within, le-ltb _ _ nodes, le-ltb _ _ refs, area_held m, junctions_long junctions)
         (ap Ok (go (ref_of _ _ a k)))
       where
         go : (o : Option ℕ) → below m.ynd.junction_count (place_of o) ≡ place_of (inside m.ynd.junction_count o)
         go none = refl
         go (some j) = by_test (ltb j m.ynd.junction_count) (λ t. rw t) (λ f. rw f)
-
-    -- so it is not refused
-    pub junction_never : {P : Type 0} (a k : ℕ) (r : Refusal) → Err r ≡ junction_of_call m.ynd m.nodes m.refs a k → P
-    junction_never a k r e = not_refused (e ∙ junction_place_law a k)
 
     module _ (p : ℕ) (lt : p < n) where
       abbrev w : List ℕ
@@ -180,15 +165,6 @@ module _ (m : Memory) where
           ∙ (rw (le-ltb _ _ junctions, le-ltb _ _ refs) at (node_asked m p asked))
 
   module _ (p : ℕ) where
-    pub node_junctions_short : done ≡ decided (place_causes m.ynd (length m.nodes) (length m.links) p)
-        → length m.junctions < m.ynd.junction_count → Err (TooShort lent.Junctions) ≡ shown_node m p
-    node_junctions_short asked h = rw (lt-ltb _ _ h) at (node_asked m p asked)
-
-    pub node_refs_short : done ≡ decided (place_causes m.ynd (length m.nodes) (length m.links) p)
-        → m.ynd.junction_count ≤ length m.junctions → length m.refs < m.ynd.ref_count
-        → Err (TooShort lent.Refs) ≡ shown_node m p
-    node_refs_short asked le h = rw (le-ltb _ _ le, lt-ltb _ _ h) at (node_asked m p asked)
-
     -- ---- a junction
 
     abbrev values : List ℕ
@@ -197,34 +173,22 @@ module _ (m : Memory) where
     abbrev many : ℕ
     many = m.ynd.junction_count
 
-    junction_at_law : p < many → p < length m.junctions → get_elem? (cell_of m).junctions p
-        ≡ some (junction_with values (get_or m.junctions p []))
+    junction_at_law : (i : ℕ) → i < many → i < length m.junctions → get_elem? (cell_of m).junctions i
+        ≡ some (junction_with values (get_or m.junctions i []))
     unfolding cell_of junctions_of
-    junction_at_law lt h =
-        let long : p < length (take many m.junctions) = rw length-take (le-min lt h) in
-        elem_at (map (junction_with values) (take many m.junctions)) p (junction_with values []) (rw length-map long)
-        ∙ ap some (get_or-map (junction_with values) (take many m.junctions) p [] (junction_with values []) long
-        ∙ ap (junction_with values) (get_or-take many m.junctions p [] lt))
+    junction_at_law i lt h =
+        let long : i < length (take many m.junctions) = rw length-take (le-min lt h) in
+        elem_at (map (junction_with values) (take many m.junctions)) i (junction_with values []) (rw length-map long)
+        ∙ ap some (get_or-map (junction_with values) (take many m.junctions) i [] (junction_with values []) long
+        ∙ ap (junction_with values) (get_or-take many m.junctions i [] lt))
 
-    pub junction_no_place : many ≤ p → Err NoSuchPlace ≡ shown_junction m p
+    pub junction_answered : (i : ℕ) → Ok i ≡ junction_entry m.ynd m.junctions p → (r : SeenJunction)
+        → ((hs : List ℕ) → r ≡ seen_junction (junction_with hs (get_or m.junctions i []))) → Ok r
+        ≡ shown_junction m p
     unfolding shown_junction
-    junction_no_place h = rw (le-leb _ _ h)
-
-    pub junction_over : p < many → over_limit m.ynd ≡ true → Err AtLimit ≡ shown_junction m p
-    unfolding shown_junction
-    junction_over lt o = rw (lt-leb _ _ lt, o)
-
-    module _ (lt : p < many) (within : over_limit m.ynd ≡ false) where
-      pub junction_list_short : length m.junctions < many → Err (TooShort lent.Junctions) ≡ shown_junction m p
-      unfolding shown_junction
-      junction_list_short h = rw (lt-leb _ _ lt, within, lt-ltb _ _ h)
-
-      pub junction_answered : many ≤ length m.junctions → (r : SeenJunction)
-          → ((hs : List ℕ) → r ≡ seen_junction (junction_with hs (get_or m.junctions p []))) → Ok r
-          ≡ shown_junction m p
-      unfolding shown_junction
-      junction_answered h r e = rw (lt-leb _ _ lt, within, le-ltb _ _ h, junction_at_law lt (omega arith))
-          (ap Ok (e values))
+    junction_answered i e r at =
+        let held = entry_held m.ynd m.junctions p i e in
+        rw (← e, junction_at_law i held.0 held.1) (ap Ok (at values))
 
     -- ---- its values
 
@@ -232,56 +196,7 @@ module _ (m : Memory) where
         ≡ value_start (get_or m.junctions p [])
         → count ≡ value_count (get_or m.junctions p []) → take count (drop start values) ≡ values_at m p
     unfolding values_at
-    values_answered lt h start count es ec = rw (junction_at_law lt h) (λ i. take (ec i) (drop (es i) values))
-
-    module _ (old : List ℕ) where
-      pub values_no_place : many ≤ p → values_left (Err NoSuchPlace) old ≡ shown_values m p old
-      unfolding shown_values
-      values_no_place h = rw (le-leb _ _ h)
-
-      pub values_over : p < many → over_limit m.ynd ≡ true → values_left (Err AtLimit) old ≡ shown_values m p old
-      unfolding shown_values
-      values_over lt o = rw (lt-leb _ _ lt, o)
-
-      module _ (lt : p < many) (within : over_limit m.ynd ≡ false) where
-        pub junctions_short : length m.junctions < many → values_left (Err (TooShort lent.Junctions)) old
-            ≡ shown_values m p old
-        unfolding shown_values
-        junctions_short h = rw (lt-leb _ _ lt, within, lt-ltb _ _ h)
-
-        module _ (junctions : many ≤ length m.junctions) where
-          pub heights_short : length m.heights < m.ynd.heightmap_count
-              → values_left (Err (TooShort lent.Heightmap)) old ≡ shown_values m p old
-          unfolding shown_values
-          heights_short h = rw (lt-leb _ _ lt, within, le-ltb _ _ junctions, lt-ltb _ _ h)
-
-          module _ (heights : m.ynd.heightmap_count ≤ length m.heights) (v : List ℕ) (are : v ≡ values_at m p) where
-            pub values_short : length old < length v → values_left (Err (TooShort lent.Heightmap)) old
-                ≡ shown_values m p old
-            unfolding shown_values
-            values_short h = rw (
-              lt-leb _ _ lt,
-              within,
-              le-ltb _ _ junctions,
-              le-ltb _ _ heights,
-              sym are,
-              lt-ltb _
-                  _ h,
-            )
-
-            pub values_copied : length v ≤ length old → values_left (Ok (length v)) (v ++ drop (length v) old)
-                ≡ shown_values m p old
-            unfolding shown_values put
-            values_copied h = rw (
-              lt-leb _ _ lt,
-              within,
-              le-ltb _ _ junctions,
-              le-ltb _ _ heights,
-              sym are,
-              le-ltb _
-                  _ h,
-              zero-add,
-            )
+    values_answered lt h start count es ec = rw (junction_at_law p lt h) (λ i. take (ec i) (drop (es i) values))
 
     -- ---- the link chosen
 
@@ -320,12 +235,5 @@ module _ (m : Memory) where
             go (Some w) (Some r) h = ap Some h
             go (Some w) None h = absurd h
 
--- ---- the laws of each call, for its function
-
-pub ruleset node_cases = (node_junctions_short, node_refs_short)
-
-pub ruleset junction_cases = (junction_no_place, junction_over, junction_list_short)
-
-pub ruleset values_cases = (values_no_place, values_over, junctions_short, heights_short, values_short, values_copied)
-
+-- for the function that shows a link
 pub ruleset link_cases = (link_answered, link_said)

@@ -7,7 +7,9 @@ use mathlib.Core.List.{List}
 use lib.Dec.{ltb}
 use lib.ListN.{length, take}
 use borrow.Author.Tests.{lt-ltb, le-ltb}
-use Rattle.cells.specs.Memory.{Memory, over_limit}
+use Rattle.numbers.specs.Refusals.{decided}
+use Rattle.numbers.proofs.Refusing.{not_refused}
+use Rattle.cells.specs.Memory.{Memory, over_limit, nodes_causes}
 use Rattle.cells.specs.Cell.{numbers}
 use Rattle.cells.specs.CellOf.{cell_of}
 use Rattle.cells.proofs.Sequences.Tests.{by_test}
@@ -17,21 +19,35 @@ use Rattle.walks.specs.SoundParts.{all_numbers, none_or}
 use Rattle.walks.proofs.SoundWords.{numbers_same, judged, sound_words}
 use Rattle.walks.proofs.ScratchLaws.{all_front}
 use Rattle.std.specs.Prelude.{Result, Ok, Err}
+use Rattle.std.specs.Result.{IsErrAnd}
 use Rattle.numbers.specs.declared.refusal.Refusal.{Refusal}
 use Rattle.numbers.specs.declared.refusal.Refusal.TheVariants.{TooShort, AtLimit}
 use Rattle.numbers.specs.declared.refusal.Lent.TheVariants as lent
 
 module _ (m : Memory) (scratch : List ℕ) where
-  pub limit_passed : over_limit m.ynd ≡ true → sound_left (Err AtLimit) scratch ≡ sound_call m scratch
-  unfolding sound_call
-  limit_passed o = rw o
+  nodes_cause : {r : Refusal} → Err r ≡ decided (nodes_causes m.ynd (length m.nodes))
+      → sound_left (Err r) scratch ≡ sound_call m scratch
+  unfolding sound_call nodes_causes
+  nodes_cause {r} e =
+      by_test (over_limit m.ynd)
+      (λ t.
+      let q : Err r ≡ Err AtLimit = rw t at e in
+      let z : r ≡ AtLimit = cc in
+      rw t (ap (λ (c : Refusal). sound_left (Err c) scratch) z))
+      (λ f.
+      by_test (ltb (length m.nodes) m.ynd.node_count)
+      (λ t.
+      let q : Err r ≡ Err (TooShort lent.Nodes) = rw (f, t) at e in
+      let z : r ≡ TooShort lent.Nodes = cc in
+      rw (f, t) (ap (λ (c : Refusal). sound_left (Err c) scratch) z))
+      (λ g. not_refused (rw (f, g) at e)))
+
+  pub nodes_refused : {cause : Refusal} → Err cause ≡ decided (nodes_causes m.ynd (length m.nodes))
+      → (r : Result Bool Refusal) → IsErrAnd r (λ x. x ≡ cause) → sound_left r scratch ≡ sound_call m scratch
+  nodes_refused e (Err x) is = ap (λ (c : Refusal). sound_left (Err c) scratch) is ∙ nodes_cause e
+  nodes_refused e (Ok x) is = absurd is
 
 module _ (m : Memory) (scratch : List ℕ) (within : over_limit m.ynd ≡ false) where
-  pub nodes_short : length m.nodes < m.ynd.node_count → sound_left (Err (TooShort lent.Nodes)) scratch
-      ≡ sound_call m scratch
-  unfolding sound_call
-  nodes_short h = rw (within, lt-ltb _ _ h)
-
   module _ (nodes : m.ynd.node_count ≤ length m.nodes) where
     pub links_short : length m.links < m.ynd.link_count → sound_left (Err (TooShort lent.Links)) scratch
         ≡ sound_call m scratch
@@ -107,4 +123,4 @@ module _ (m : Memory) (scratch : List ℕ) where
       none false e = refl
 
 -- for the function
-pub ruleset sound_cases = (limit_passed, nodes_short, links_short, refs_short, scratch_short, judged_call)
+pub ruleset sound_cases = (nodes_refused, links_short, refs_short, scratch_short, judged_call)

@@ -18,7 +18,7 @@ use Rattle.std.proofs.lemmas.Bool.{cases_lt}
 use Rattle.std.proofs.lemmas.List.{get_or_past}
 use Rattle.cells.proofs.Sequences.Tests.{and_left, by_test}
 use Rattle.cells.proofs.Forms.Limits.{within as limits}
-use Rattle.cells.specs.Memory.{Memory, over_limit}
+use Rattle.cells.specs.Memory.{Memory, over_limit, nodes_causes}
 use Rattle.cells.specs.NodeWords.{first_area, link_start, link_count}
 use Rattle.cells.proofs.Lookups.LookupLaws.{area_held}
 use Rattle.cells.specs.Area.{belongs}
@@ -193,7 +193,7 @@ module _ (m : Memory) where
     ks = numbers (nodes_of m)
 
     told : o ≡ Ok (place_of (find ks k))
-    unfolding node_call find_in
+    unfolding node_call nodes_causes find_in
     told = e ∙ rw (within, le-ltb _ _ fits, same_numbers)
 
     abbrev arrived : Place → Result ℕ End

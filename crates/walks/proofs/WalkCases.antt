@@ -11,13 +11,12 @@ use Rattle.walks.specs.Walk.{Trail, walk_in, walk}
 use Rattle.walks.specs.Claim.{places}
 use Rattle.walks.specs.PlaceCauses.{place_causes}
 use Rattle.walks.specs.WalkCall.{Route, route, WalkLeft, walk_left, walk_call}
-use Rattle.walks.proofs.PlaceCases.{place_refused, place_asked}
+use Rattle.walks.proofs.PlaceCases.{place_asked}
 use Rattle.numbers.specs.Refusals.{Cause, done, decided}
 use Rattle.walks.specs.WalkParts.{lent, lent_world, traced, over, TrailLeft, trail_left, stored_in}
 use Rattle.walks.proofs.Routes.{route_of, trail_route}
 use Rattle.walks.specs.declared.walk.Walked.{Walked}
 use Rattle.std.specs.Prelude.{Result, Ok, Err}
-use Rattle.std.specs.Result.{IsErrAnd}
 use Rattle.numbers.specs.declared.refusal.Refusal.{Refusal}
 use Rattle.numbers.specs.declared.refusal.Refusal.TheVariants.{TooShort}
 use Rattle.numbers.specs.declared.refusal.Lent.TheVariants as lent
@@ -27,7 +26,7 @@ use Rattle.numbers.specs.declared.refusal.Lent.TheVariants as lent
 abbrev left_of : TrailLeft ℕ → WalkLeft
 left_of x = walk_left x.answer x.visited
 
-abbrev route_left : Route → List ℕ → WalkLeft
+abbrev pub route_left : Route → List ℕ → WalkLeft
 route_left r visited =
     cond (ltb (length visited) (length r.places)) (walk_left (Err (TooShort lent.List)) visited)
     (walk_left (Ok (record { end = r.ending; count = length r.places })) (r.places ++ drop (length r.places) visited))
@@ -52,11 +51,6 @@ module _ (m : Memory) (bs : List ℕ) (s : ℕ) (visited : List ℕ) where
 
   abbrev walked : WalkLeft
   walked = route_left (route (nodes_of m) bs s) visited
-
-  pub walk_refused : {cause : Refusal} → Err cause ≡ decided causes
-      → (r : Result Walked Refusal) → IsErrAnd r (λ x. x ≡ cause) → walk_left r visited ≡ walk_call m bs s visited
-  unfolding walk_call
-  walk_refused = place_refused m.ynd (length m.nodes) (length m.links) s left walked
 
   -- the walk is the same with no other lists
   pub ends : done ≡ decided causes → (a : Result Walked Refusal) (v : List ℕ)

@@ -1,9 +1,10 @@
 -- The call `walk`, after a list of calls and before it: refused alike, ending alike, with the places moved.
+pub use Rattle.walks.proofs.WalkCases.{route_left}
 use Prim.Native.Nat.{ℕ, ◌≤◌, ◌<◌}
 use native.Mathlib.Omega.{arith}
 use mathlib.Core.Path.{◌≡◌, refl, sym, ap, ◌∙◌}
 use mathlib.Core.Bool.{Bool, true, false, cond}
-use mathlib.Core.List.{List, [], ◌∷◌, ◌++◌, map}
+use mathlib.Core.List.{List, [], ◌∷◌, map}
 use lib.Dec.{ltb}
 use lib.ListN.{length, take, drop, length-append, length-map}
 use lib.Seq.{length-take-le}
@@ -16,8 +17,7 @@ use Rattle.cells.specs.CellOf.{link_of, node_with, nodes_of, cell_of}
 use Rattle.walks.specs.WalkCall.{Route, route, WalkLeft, walk_call}
 use Rattle.walks.specs.declared.walk.End.{End}
 use Rattle.walks.specs.declared.walk.Walked.{Walked}
-use Rattle.cells.specs.Order.{parted}
-use Rattle.cells.specs.NodeWords.{is_ped, reordered, number_from, old_of, relinked}
+use Rattle.cells.specs.NodeWords.{reordered, old_of}
 use Rattle.cells.specs.Renumber.{renumber_lists, recounted, answer_of, renumber_memory, new_lists, left_by, renumber}
 use Rattle.walks.specs.Calls.{Call, renumbering, write_read, after, run}
 use Rattle.cells.specs.WriteRead.{if_read, if_written, write_read_of}
@@ -26,7 +26,7 @@ use Rattle.walks.proofs.Routes.{move_route, alike_route}
 use Rattle.cells.proofs.Forms.Limits.{not_over}
 use Rattle.cells.proofs.Reading.ReadLaws.{length_up_to, length_join_to, length_links}
 use Rattle.cells.proofs.Reading.FileRead.{read_all}
-use Rattle.cells.proofs.Renumbering.CellRenumbered.{parted_length, number_length}
+use Rattle.cells.proofs.Renumbering.CellRenumbered.{reordered_long, all_relinked_long}
 use Rattle.walks.proofs.CallLists.{Alike}
 use Rattle.std.specs.Prelude.{Result, Ok, Err}
 use Rattle.numbers.specs.Refusals.{Answer}
@@ -47,25 +47,15 @@ nodes_long m h =
     ∙ length-take-le m.ynd.node_count m.nodes h.nodes_lie
 
 -- what a call leaves whose walk is the route r: 7 at 8 if the visited list is too short for its places
-abbrev pub route_left : Route → List ℕ → WalkLeft
-route_left r visited =
-    cond (ltb (length visited) (length r.places))
-    (record { answer = Err (TooShort lent.List); visited = visited })
-    (record {
-      answer = Ok (record { end = r.ending; count = length r.places });
-      visited = r.places
-          ++ drop (length r.places) visited;
-    })
-
 cond_answer : (b : Bool) (x y : WalkLeft) → (cond b x y).answer ≡ cond b x.answer y.answer
 cond_answer true x y = refl
 cond_answer false x y = refl
 
 -- its answer, by the length of the visited list alone
-abbrev answer_by : End → ℕ → ℕ → Result Walked Refusal
+abbrev pub answer_by : End → ℕ → ℕ → Result Walked Refusal
 answer_by e count room = cond (ltb room count) (Err (TooShort lent.List)) (Ok (record { end = e; count = count }))
 
-left_answer : (r : Route) (visited : List ℕ) → (route_left r visited).answer
+pub left_answer : (r : Route) (visited : List ℕ) → (route_left r visited).answer
     ≡ answer_by r.ending (length r.places) (length visited)
 left_answer r visited = cond_answer (ltb (length visited) (length r.places)) _ _
 
@@ -145,20 +135,8 @@ renumber_lies m ps s h = go (answer_of (over_limit m.ynd) m.ynd.node_count (shor
     go (Err x) = h
     go (Ok tt) = record {
       within = h.within;
-      nodes_lie = omega (
-        arith,
-        length-append (number_from 0 (parted is_ped ns)) (drop n m.nodes),
-        number_length 0
-            (parted is_ped ns),
-        parted_length ns,
-        length-take-le n m.nodes h.nodes_lie,
-      );
-      links_lie = omega (
-        arith,
-        length-append (map (relinked (old_of n m.nodes)) (take l m.links)) (drop l m.links),
-        length-map (take l m.links) (relinked (old_of n m.nodes)),
-        length-take-le l m.links h.links_lie,
-      );
+      nodes_lie = omega (arith, reordered_long n m.nodes h.nodes_lie, h.nodes_lie);
+      links_lie = omega (arith, all_relinked_long (old_of n m.nodes) l m.links h.links_lie, h.links_lie);
     }
 
 write_read_lies : (m : Memory) (s : List ℕ) → Lies m → Lies (write_read_of m s).memory

@@ -1,10 +1,12 @@
 -- Section 5: what a walk shows, as calls over the lent lists: of a node, of a junction with its heightmap values, of
 -- the link chosen. Causes of refusal: 13 no such place; 14 a struct over a limit; 7 at 0 to 4 a list shorter than its
 -- count.
-use Rattle.std.specs.Prelude.{ℕ, cond, List, [], leb, ltb, length}
+use Rattle.std.specs.Prelude.{ℕ, cond, List, [], ◌∷◌, leb, ltb, length}
+use Rattle.numbers.specs.Refusals.{when, decided, unless, and_then}
 use Rattle.std.proofs.Math.Option.{Option as Found, none, some}
 use Rattle.std.proofs.Math.ListN.{get_elem?}
 use Rattle.records.specs.Put.{put}
+use Rattle.cells.specs.Edit.{junction_entry}
 use Rattle.cells.specs.Memory.{Memory, over_limit}
 use Rattle.cells.specs.Cell.{LinkBody, NodeBody, Junction, Cell, node_at, first_of}
 use Rattle.cells.specs.CellOf.{cell_of}
@@ -75,12 +77,10 @@ abbrev pub or_none : Found Junction → Result SeenJunction Refusal
 or_none (some j) = Ok (seen_junction j)
 or_none none = Err NoSuchPlace
 
+-- 13, 14 and 7, as where a junction is taken out
 unfoldable pub shown_junction : Memory → ℕ → Result SeenJunction Refusal
 shown_junction m p =
-    cond (leb m.ynd.junction_count p) (Err NoSuchPlace)
-    (cond (over_limit m.ynd) (Err AtLimit)
-    (cond (ltb (length m.junctions) m.ynd.junction_count) (Err (TooShort lent.Junctions))
-    (or_none (get_elem? (cell_of m).junctions p))))
+    and_then (junction_entry m.ynd m.junctions p) λ i. or_none (get_elem? (cell_of m).junctions i)
 
 abbrev pub values_of : Found Junction → List ℕ
 values_of (some j) = j.values
@@ -98,16 +98,20 @@ pub record ValuesLeft : Type 0 where
 abbrev pub values_left : Result ℕ Refusal → List ℕ → ValuesLeft
 values_left a v = record { answer = a; values = v }
 
--- The values are copied to the front of a lent list: how many they are. 7 at 3 also where that list is shorter than
--- they are. A refusal leaves it as it was.
+-- copied to the front of a lent list: how many they are; a refusal leaves it as it was
+abbrev pub copied : List ℕ → Result (List ℕ) Refusal → ValuesLeft
+copied old (Ok v) = values_left (Ok (length v)) (put old 0 v)
+copied old (Err cause) = values_left (Err cause) old
+
+-- the same causes, and then 7 at 3 where the heights lent, or that list, are too short
 unfoldable pub shown_values : Memory → ℕ → List ℕ → ValuesLeft
 shown_values m p old =
-    cond (leb m.ynd.junction_count p) (values_left (Err NoSuchPlace) old)
-    (cond (over_limit m.ynd) (values_left (Err AtLimit) old)
-    (cond (ltb (length m.junctions) m.ynd.junction_count) (values_left (Err (TooShort lent.Junctions)) old)
-    (cond (ltb (length m.heights) m.ynd.heightmap_count) (values_left (Err (TooShort lent.Heightmap)) old)
-    (cond (ltb (length old) (length (values_at m p))) (values_left (Err (TooShort lent.Heightmap)) old)
-    (values_left (Ok (length (values_at m p))) (put old 0 (values_at m p)))))))
+    copied old (and_then (junction_entry m.ynd m.junctions p) λ i.
+    unless
+    (decided
+    (when (ltb (length m.heights) m.ynd.heightmap_count) (TooShort lent.Heightmap)
+    ∷ when (ltb (length old) (length (values_at m i))) (TooShort lent.Heightmap)
+    ∷ [])) (Ok (values_at m i)))
 
 -- ---- the link chosen by the byte b at place p
 

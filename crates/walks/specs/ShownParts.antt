@@ -1,7 +1,7 @@
 -- What the parts of the calls of Shown go by. No public function's contract cites them.
 use Rattle.std.specs.Prelude.{ℕ, List}
 use Rattle.cells.specs.NodeWords.{area_of}
-use Rattle.cells.specs.CellOf.{body_of}
+use Rattle.cells.specs.Cell.{body_of}
 use Rattle.walks.specs.declared.shown.SeenNode.{SeenNode}
 use Rattle.walks.specs.Shown.{seen_by}
 use Rattle.std.specs.Prelude.{Option}

@@ -1,22 +1,14 @@
 -- What the parts of the call `sound` go by, over the words in memory. No public function's contract cites them.
-use Rattle.std.specs.Prelude.{ℕ, ◌≤◌, Bool, true, not, ◌&&◌, ◌||◌, List, [], ◌∷◌, eqb, length, get_or, take, drop}
+use Rattle.std.specs.Prelude.{ℕ, Bool, true, not, ◌&&◌, ◌||◌, List, [], ◌∷◌, eqb, get_or, map, take, drop}
 use Rattle.cells.specs.Lists.{every}
 use Rattle.cells.specs.Area.{belongs}
-use Rattle.cells.specs.NodeWords.{area_of, link_start, link_count}
+use Rattle.cells.specs.NodeWords.{area_of, number_of, link_start, link_count}
 use Rattle.cells.specs.Lookup.{first_with, is_some}
-use Rattle.cells.specs.LookupCall.{numbers_in}
-use Rattle.cells.specs.RenumberParts.{Indexed}
 use Rattle.walks.specs.Sound.{differing}
 
 -- the numbers of all these nodes
 abbrev pub all_numbers : List (List ℕ) → List ℕ
-all_numbers nodes = numbers_in (length nodes) nodes
-
--- the first n nodes, and a scratch that leads from each number that one has to the last that has it
-pub record Ready (n : ℕ) (nodes : List (List ℕ)) (scratch : List ℕ) : Type 0 where
-  pub nodes_fit : n ≤ length nodes
-  pub scratch_fits : 65536 ≤ length scratch
-  pub leads : Indexed (numbers_in n nodes) scratch
+all_numbers nodes = map number_of nodes
 
 -- a link or a ref of another area than own, or one whose number is there
 unfoldable pub word_named : List ℕ → ℕ → List ℕ → Bool

@@ -8,6 +8,7 @@ ghost use Rattle.walks.specs.ShownParts.{seen_of};
 
 use crate::part::link_at;
 use crate::place::check_place;
+use cells::entry::junction_entry;
 use cells::junction::JunctionWords;
 use cells::link::{LinkWords, PathLink};
 use cells::lookup::junction_of;
@@ -96,7 +97,7 @@ fn seen_of(w: NodeWords, count: usize, junction: Option<usize>) -> SeenNode
 }
 
 // What the node at a place shows, whatever the heights.
-#[tactic(auto, using(crate::proofs::ShownLaws::node_cases))]
+#[tactic(auto, using(crate::proofs::ShownLaws::node_answered), unfolding(crate::specs::Shown::shown_node, crate::specs::PlaceCauses::place_causes, cells::specs::LookupCall::junction_of_call, cells::specs::Memory::nodes_causes))]
 pub fn shown_node(
     ynd: Ynd,
     nodes: &[NodeWords],
@@ -139,7 +140,7 @@ impl From<JunctionWords> for SeenJunction {
 }
 
 // The junction at a place, whatever the other lists. Its values are those of `shown_values`.
-#[tactic(auto, using(crate::proofs::ShownLaws::junction_cases))]
+#[tactic(auto, unfolding(crate::specs::Shown::shown_junction))]
 pub fn shown_junction(
     ynd: Ynd,
     junctions: &[JunctionWords],
@@ -149,15 +150,7 @@ pub fn shown_junction(
         → result
         ≡ shown_junction (memory ynd nodes links junctions.now heights refs) place }
 {
-    if ynd.junction_count as usize <= place {
-        return Err(Refusal::NoSuchPlace);
-    }
-    if over_limit(ynd) {
-        return Err(Refusal::AtLimit);
-    }
-    if junctions.len() < ynd.junction_count as usize {
-        return Err(Refusal::TooShort(Lent::Junctions));
-    }
+    let place = junction_entry(ynd, junctions, place)?;
     Ok(SeenJunction::from(junctions[place]))
 }
 
@@ -175,7 +168,7 @@ fn values_at<'a>(ynd: Ynd, junctions: &[JunctionWords], heights: &'a [u8], place
 
 // The heightmap values of the junction at a place, copied to the front of `values`, whatever the lists that are not
 // lent.
-#[tactic(auto, using(crate::proofs::ShownLaws::values_cases))]
+#[tactic(auto, using(cells::proofs::Editing::EditLaws::entry_held), unfolding(crate::specs::Shown::shown_values, records::specs::Put::put))]
 pub fn shown_values(
     ynd: Ynd,
     junctions: &[JunctionWords],
@@ -187,15 +180,7 @@ pub fn shown_values(
         → values_left result values.new
         ≡ shown_values (memory ynd nodes links junctions.now heights.now refs) place values.old }
 {
-    if ynd.junction_count as usize <= place {
-        return Err(Refusal::NoSuchPlace);
-    }
-    if over_limit(ynd) {
-        return Err(Refusal::AtLimit);
-    }
-    if junctions.len() < ynd.junction_count as usize {
-        return Err(Refusal::TooShort(Lent::Junctions));
-    }
+    let place = junction_entry(ynd, junctions, place)?;
     if heights.len() < ynd.heightmap_count as usize {
         return Err(Refusal::TooShort(Lent::Heightmap));
     }
@@ -223,7 +208,7 @@ impl From<LinkWords> for SeenLink {
 }
 
 // The link that a byte chooses at a place, whatever the lists that are not lent.
-#[tactic(auto, using(crate::proofs::ShownLaws::link_cases))]
+#[tactic(auto, using(crate::proofs::ShownLaws::link_cases), unfolding(crate::specs::Shown::shown_link, crate::specs::PlaceCauses::place_causes))]
 pub fn shown_link(
     ynd: Ynd,
     nodes: &[NodeWords],

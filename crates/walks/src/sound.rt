@@ -4,22 +4,23 @@ ghost use Rattle.cells.specs.Lists.{every};
 ghost use Rattle.cells.specs.Lookup.{first_with, is_some};
 ghost use Rattle.cells.specs.Memory.{memory};
 ghost use Rattle.cells.specs.NodeWords.{first_area};
-ghost use Rattle.cells.specs.RenumberParts.{Indexed};
+ghost use Rattle.cells.specs.RenumberParts.{Indexed, Leads};
 ghost use Rattle.walks.specs.Sound.{differing};
 ghost use Rattle.walks.specs.SoundCall.{verdict, indexed, sound_left, sound_call};
-ghost use Rattle.walks.specs.SoundParts.{all_numbers, Ready, word_named, word_sound, words_sound, none_or};
+ghost use Rattle.walks.specs.SoundParts.{all_numbers, word_named, word_sound, words_sound, none_or};
 
 use cells::area::{belongs_to, own_area};
 use cells::link::LinkWords;
 use cells::node::NodeWords;
 use cells::node_words::{area_of, number_of};
+use cells::number_index::Numbers;
 use cells::range::{link_count, link_start, part};
-use cells::room::over_limit;
+use cells::room::own_nodes;
 use cells::ynd::Ynd;
 use numbers::refusal::{Lent, Refusal};
 
 // The place of the last node that has it, for each number that a node has. Entries of other numbers stay as they were.
-#[tactic(auto, using(crate::proofs::ScratchLaws::index_laws))]
+#[tactic(auto, using(crate::proofs::ScratchLaws::index_laws), unfolding(crate::specs::SoundCall::indexed))]
 fn index_numbers(nodes: &[NodeWords], scratch: &mut [u32])
     requires { (length nodes.now ≤ 4294967295) × (65536 ≤ length scratch.old) }
     ensures { (scratch.new ≡ indexed (all_numbers nodes.now) 0 scratch.old)
@@ -27,42 +28,6 @@ fn index_numbers(nodes: &[NodeWords], scratch: &mut [u32])
 {
     for (i, w) in nodes.iter().enumerate() {
         scratch[number_of(*w) as usize] = i as u32;
-    }
-}
-
-// Nodes, and a scratch that leads from each number that one has to the last node that has it.
-#[derive(Clone, Copy)]
-pub struct Numbers<'a> {
-    pub nodes: &'a [NodeWords],
-    pub scratch: &'a [u32],
-    ghost ready: { Ready (length nodes.now) nodes.now scratch.now },
-}
-
-impl Numbers<'_> {
-    // The place to which the scratch leads from a number.
-    fn last(&self, k: u16) -> usize
-        ensures { result ≡ slice_index self.now.scratch.now k }
-    {
-        self.scratch[k as usize] as usize
-    }
-
-    // Whether a node has the number. An entry of the scratch counts only if the node that it leads to has the number.
-    #[tactic(auto, using(cells::proofs::Sequences::Tests::by_test, crate::proofs::ScratchLaws::number_laws))]
-    pub fn has(&self, k: u16) -> bool
-        ensures { result ≡ is_some (first_with (all_numbers self.now.nodes.now) k) }
-    {
-        let t = self.last(k);
-        t < self.nodes.len() && number_of(self.nodes[t]) == k
-    }
-
-    // Whether the numbers differ: each node is the last that has its number.
-    fn differ(&self) -> bool
-        ensures { result ≡ differing (all_numbers self.now.nodes.now) }
-    {
-        self.nodes
-            .iter()
-            .enumerate()
-            .all(|(i, w)| self.last(number_of(*w)) == i)
     }
 }
 
@@ -74,6 +39,18 @@ struct Named<'a> {
 }
 
 impl Named<'_> {
+    // Whether the numbers differ: each node is the last that has its number.
+    fn differ(&self) -> bool
+        ensures { result ≡ differing (all_numbers self.now.numbers.nodes.now) }
+    {
+        let scratch = self.numbers.scratch;
+        self.numbers
+            .nodes
+            .iter()
+            .enumerate()
+            .all(|(i, w)| scratch[number_of(*w) as usize] as usize == i)
+    }
+
     // Whether a link or a ref names a node, if it is of the area `own`.
     #[tactic(auto, unfolding(crate::specs::SoundParts::word_named))]
     fn names(&self, w: LinkWords) -> bool
@@ -114,13 +91,13 @@ impl Named<'_> {
     fn sound(&self, links: &[LinkWords], refs: &[LinkWords]) -> bool
         ensures { result ≡ words_sound self.now.numbers.nodes.now self.now.own links.now refs.now }
     {
-        self.nodes_sound(links) && self.numbers.differ() && self.names_all(refs)
+        self.nodes_sound(links) && self.differ() && self.names_all(refs)
     }
 }
 
 // Whether nodes with these links and refs are sound, by a scratch that leads to the nodes.
 fn judge(nodes: &[NodeWords], links: &[LinkWords], refs: &[LinkWords], scratch: &[u32]) -> bool
-    requires { Ready (length nodes.now) nodes.now scratch.now }
+    requires { Leads (all_numbers nodes.now) scratch.now }
     ensures { result ≡ none_or nodes.now (words_sound nodes.now (first_area nodes.now) links.now refs.now) }
 {
     let own = own_area(nodes, nodes.len());
@@ -144,25 +121,16 @@ pub fn sound(
     ensures { (junctions : List (List ℕ)) (heights : List ℕ) → sound_left result scratch.new
         ≡ sound_call (memory ynd nodes.now links.now junctions heights refs.now) scratch.old }
 {
-    if over_limit(ynd) {
-        return Err(Refusal::AtLimit);
-    }
-    let n = ynd.node_count as usize;
-    let l = ynd.link_count as usize;
-    let r = ynd.ref_count as usize;
-    if nodes.len() < n {
-        return Err(Refusal::TooShort(Lent::Nodes));
-    }
-    if links.len() < l {
-        return Err(Refusal::TooShort(Lent::Links));
-    }
-    if refs.len() < r {
-        return Err(Refusal::TooShort(Lent::Refs));
-    }
+    let nodes = own_nodes(ynd, nodes)?;
+    let links = links
+        .get(..ynd.link_count as usize)
+        .ok_or(Refusal::TooShort(Lent::Links))?;
+    let refs = refs
+        .get(..ynd.ref_count as usize)
+        .ok_or(Refusal::TooShort(Lent::Refs))?;
     if scratch.len() < 65536 {
         return Err(Refusal::TooShort(Lent::Scratch));
     }
-    let nodes = &nodes[..n];
     index_numbers(nodes, scratch);
-    Ok(judge(nodes, &links[..l], &refs[..r], scratch))
+    Ok(judge(nodes, links, refs, scratch))
 }

@@ -184,6 +184,7 @@ impl Steps for Yard<'_> {
 
 // A walk from a place, by a byte a choice, whatever the lists that are not lent. `visited` gets the places; a refusal
 // changes nothing.
+#[tactic(auto, unfolding(crate::specs::WalkCall::walk_call, crate::specs::PlaceCauses::place_causes))]
 pub fn walk(
     ynd: Ynd,
     nodes: &[NodeWords],

@@ -1,4 +1,5 @@
-use Rattle.paths.specs.Index.{number_at, next_at}
+use Rattle.paths.specs.Index.{next_at}
+use Rattle.cells.specs.NodeWords.{number_at}
 use Rattle.paths.proofs.IndexLaws.{Seeking}
 use Rattle.paths.proofs.index.entry_of.Given as goal
 

@@ -2,7 +2,7 @@ use mathlib.Core.List.{[]}
 use mathlib.Core.Path.{ap, refl}
 use Rattle.cells.specs.Memory.{memory}
 use Rattle.sets.proofs.EditsKept.{put_ref_kept}
-use Rattle.sets.specs.MemberEdit.{refs_left}
+use Rattle.cells.specs.Edit.{refs_left}
 use Rattle.sets.proofs.MemberAskLaws.{apart, asks, lent, opens}
 use Rattle.sets.proofs.MemberEditLaws.{not_edited, stays, stored, wrote}
 use Rattle.sets.proofs.edit_refs.put_ref_member.Goals as goal

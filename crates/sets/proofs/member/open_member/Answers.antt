@@ -1,11 +1,7 @@
 use mathlib.Core.Path.{sym, ◌∙◌}
-use Rattle.sets.proofs.MemberPartLaws.{open_done, open_not}
+use Rattle.sets.proofs.MemberPartLaws.{open_done}
 use Rattle.sets.proofs.MemberEditLaws.{lens_lie}
 use Rattle.sets.proofs.member.open_member.Goals as goal
-
-pub returns-in_err-check_member-clause-value : goal.returns-in_err-check_member-clause-value
-returns-in_err-check_member-clause-value c =
-    open_not _ _ _ (sym c.in_err-check_member.was ∙ c.check_member.ensures) c.from_residual.ensures.1
 
 pub returns-clause-inside : goal.returns-clause-inside
 returns-clause-inside c =

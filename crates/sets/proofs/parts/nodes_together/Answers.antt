@@ -1,16 +1,9 @@
-use Rattle.std.proofs.Common.{arith, rules, ◌^◌, ◌∙◌}
+use Rattle.std.proofs.Common.{rules, ◌∙◌}
 use Rattle.std.proofs.lemmas.Iterator.{YieldsList-from_slice, YieldsList-from_map}
-use Rattle.std.proofs.lemmas.Iterator.Adapters.{fits_from_length, at_most_from_yields_List}
 use Rattle.std.proofs.lemmas.Iterator.Consumers.{YieldsList-at, sum_by_from_yields_List}
 use Rattle.sets.specs.CellSet.{word}
 use Rattle.sets.proofs.PartLaws.{words_total}
 use Rattle.sets.proofs.parts.nodes_together.Goals as goal
-
-pub sum-requires-clause-fits : goal.sum-requires-clause-fits
-sum-requires-clause-fits c =
-    fits_from_length _ _ 9 (2 ^ 64) (at_most_from_yields_List (YieldsList-from_slice c.args.members.now cc)
-    (omega arith))
-    c.map.ensures.closure (omega arith) (λ x r q k. search rules)
 
 pub returns : goal.returns
 returns c =

@@ -1,6 +1,6 @@
 use Rattle.std.proofs.Common.{arith, ap, ◌∙◌, rules}
 use Rattle.std.specs.Prelude.{Ok}
-use Rattle.cells.specs.declared.count.Counts.{Counts}
+use Rattle.cells.specs.declared.counts.Counts.{Counts}
 use Rattle.sets.specs.CellSet.{cell_set}
 use Rattle.sets.specs.RenumberMember.{member_renumbered}
 use Rattle.sets.proofs.PartLaws.{start_inside}

@@ -1,5 +1,5 @@
 use Rattle.cells.specs.NodeWords.{area_of}
-use Rattle.cells.specs.CellOf.{body_of, bits_in, marks_of}
+use Rattle.cells.specs.Cell.{body_of, bits_in, marks_of}
 use Rattle.cells.specs.Words.{to_node}
 use Rattle.walks.specs.Shown.{seen_by}
 use Rattle.walks.specs.ShownParts.{seen_of}

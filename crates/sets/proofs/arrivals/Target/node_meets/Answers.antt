@@ -1,7 +1,7 @@
-use Rattle.std.proofs.Common.{length, rules, tests, ◌∙◌}
+use Rattle.std.proofs.Common.{map, rules, tests, ◌∙◌}
 use Rattle.std.proofs.lemmas.Iterator.{YieldsList-from_slice}
 use Rattle.std.proofs.lemmas.Iterator.Search.{all_from_yields_List}
-use Rattle.cells.specs.LookupCall.{numbers_in}
+use Rattle.cells.specs.NodeWords.{number_of}
 use Rattle.sets.specs.SetSoundParts.{word_meets}
 use Rattle.walks.proofs.Ranges.{all_is_every}
 use Rattle.sets.proofs.ArrivalLaws.{its_links}
@@ -11,7 +11,7 @@ pub returns : goal.returns
 returns c =
     let s = c.args.self.now in
     let f = word_meets s.set.areas.now s.member
-    (numbers_in (length s.numbers.nodes.now) s.numbers.nodes.now) c.args.i in
+    (map number_of s.numbers.nodes.now) c.args.i in
     let own = c.part.result.now in
     all_from_yields_List f _ _ _ c.all.ensures.ran (YieldsList-from_slice own cc) (λ x b q h. search (rules, tests))
     ∙ all_is_every f own

@@ -1,6 +1,7 @@
 use Rattle.std.proofs.Common.{◌≡◌, ℕ, List, length}
 use Rattle.sets.specs.WorldParts.{set_of}
-use Rattle.sets.specs.SetSoundParts.{all_below, judged_at, numbers_of, indexed_to, cells_in}
+use Rattle.sets.specs.SetSoundParts.{all_below, judged_at, numbers_of, indexed_to}
+use Rattle.sets.specs.CellSet.{cells_in}
 use Rattle.sets.proofs.world.World.judge_members.Given as goal
 
 abbrev pub invariant-loop-k : goal.invariant-loop-k
