@@ -15,7 +15,8 @@ use Rattle.cells.specs.Words.{path_link, link_words}
 use Rattle.cells.specs.Checks.{sizes_check, arrays_found, scan, arrays_check}
 use Rattle.cells.specs.Memory.{Memory, memory}
 use Rattle.cells.specs.Read.{links_from, values_from, links_in, values_in, room_check, filled, read_arrays, read_of}
-use Rattle.agreement.specs.Agree.{arrays_of, Agree}
+use Rattle.agreement.specs.Agree.{Agree}
+use Rattle.cells.specs.FileCauses.{arrays_of}
 use Rattle.agreement.proofs.Decided.{same_arrays, agrees, agree}
 use Rattle.agreement.proofs.Agreed.{reads_same}
 use Rattle.std.specs.Prelude.{Ok, Err}

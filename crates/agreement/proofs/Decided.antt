@@ -12,7 +12,8 @@ use Rattle.std.proofs.lemmas.Bool.Decides.{Decides-below_or}
 use Rattle.records.specs.Bytes.{byte_at}
 use Rattle.records.specs.Records.{node_at, junction_at}
 use Rattle.cells.specs.Checks.{links_at, values_at}
-use Rattle.agreement.specs.Agree.{left_out, Arrays, arrays_of, InSomeNode, InSomeJunction, SameArrays, Agree}
+use Rattle.agreement.specs.Agree.{left_out, InSomeNode, InSomeJunction, SameArrays, Agree}
+use Rattle.cells.specs.FileCauses.{Arrays, arrays_of}
 
 -- ---- tests
 

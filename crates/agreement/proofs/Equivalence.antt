@@ -8,7 +8,8 @@ use lib.ListN.{length}
 use Rattle.records.specs.Records.{node_at, junction_at}
 use Rattle.records.specs.declared.node.Node as raw-node
 use Rattle.records.specs.declared.junction.NodeJunction.{NodeJunction}
-use Rattle.agreement.specs.Agree.{Arrays, arrays_of, InSomeNode, InSomeJunction, SameArrays, Agree}
+use Rattle.agreement.specs.Agree.{InSomeNode, InSomeJunction, SameArrays, Agree}
+use Rattle.cells.specs.FileCauses.{Arrays, arrays_of}
 use Rattle.agreement.proofs.SameReads.{Alike, ranges_of, raw_nodes, raw_junctions}
 use Rattle.agreement.proofs.Agreed.{agree_alike}
 

@@ -19,7 +19,8 @@ use Rattle.records.specs.declared.section.Part.{Part}
 use Rattle.cells.specs.Checks.{root_read}
 use Rattle.cells.proofs.Reading.Undrawn.{root_drawn}
 use Rattle.records.specs.declared.root.Root.{Root}
-use Rattle.agreement.specs.Agree.{left_out, Arrays, arrays_of, InSomeNode, InSomeJunction, SameArrays, Agree}
+use Rattle.agreement.specs.Agree.{left_out, InSomeNode, InSomeJunction, SameArrays, Agree}
+use Rattle.cells.specs.FileCauses.{Arrays, arrays_of}
 use Rattle.agreement.proofs.SameBytes.{anywhere}
 use Rattle.agreement.proofs.SameRoots.{root_same}
 use Rattle.agreement.proofs.Agreed.{Places, places_by}

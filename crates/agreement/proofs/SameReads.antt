@@ -2,9 +2,8 @@
 -- Assumes nothing.
 use Prim.Native.Nat.{ℕ, zero, suc, ◌+◌, ◌*◌, ◌/◌, ◌<◌}
 use native.Mathlib.Omega.{arith}
-use mathlib.Core.Path.{◌≡◌, refl, sym, ap, ◌∙◌, subst}
+use mathlib.Core.Path.{◌≡◌, refl, ◌∙◌}
 use mathlib.Core.List.{List, ◌++◌}
-use lib.Dec.{ltb}
 use lib.ListN.{length, drop}
 use Rattle.records.specs.Bytes.{byte_at}
 use Rattle.records.specs.Records.{node_at, link_at, junction_at, ref_at}
@@ -14,21 +13,15 @@ use Rattle.records.specs.declared.junction.NodeJunction.{NodeJunction}
 use Rattle.records.specs.declared.junction_ref.NodeJunctionRef.{NodeJunctionRef}
 use Rattle.cells.specs.Lists.{up_to, join_to, sum_to}
 use Rattle.cells.specs.Words.{path_node, path_link, path_junction, node_words, link_words, junction_words, ref_words}
-use Rattle.cells.specs.Checks.{scan, arrays_check, counts_of, links_at, values_at}
-use Rattle.cells.specs.Memory.{Memory, memory, Left, unless}
-use Rattle.cells.specs.Read.{links_from, values_from, node_in, links_in, junction_in, values_in, ref_in, room_check}
-use Rattle.cells.specs.Read.{cell_read, filled, if_held, read_arrays}
-use Rattle.cells.specs.declared.count.Counts.{Counts}
-use Rattle.cells.proofs.Reading.ReadLaws.{holds}
+use Rattle.cells.specs.Checks.{counts_of, links_at, values_at}
+use Rattle.cells.specs.Memory.{Memory, memory}
+use Rattle.cells.specs.Read.{links_from, values_from, node_in, links_in, junction_in, values_in, ref_in}
+use Rattle.cells.specs.Read.{cell_read, filled}
+use Rattle.cells.specs.declared.counts.Counts.{Counts}
 use Rattle.cells.proofs.Reading.FileRead.{up_to_same}
-use Rattle.agreement.specs.Agree.{Arrays, SameArrays}
+use Rattle.agreement.specs.Agree.{SameArrays}
+use Rattle.cells.specs.FileCauses.{Arrays}
 use Rattle.agreement.proofs.SameBytes.{anywhere, link_same, node_same, junction_same, ref_same}
-use Rattle.std.specs.Prelude.{Result, Ok, Err}
-use Rattle.numbers.specs.Refusals.{Answer, refuse_if}
-use Rattle.numbers.specs.Refusals as numbers
-use Rattle.numbers.specs.declared.refusal.Refusal.{Refusal}
-use Rattle.numbers.specs.declared.refusal.Refusal.TheVariants.{TooManyNodes, TooManyJunctions, LinksOutside}
-use Rattle.numbers.specs.declared.refusal.Refusal.TheVariants.{ValuesOutside}
 
 join_to_same : {A : Type 0} (f g : ℕ → List A) (n : ℕ) → ((i : ℕ) → i < n → f i ≡ g i) → join_to f n ≡ join_to g n
 unfolding join_to
@@ -51,61 +44,15 @@ pub record SameRanges (a b : Arrays) : Type 0 where
 pub ranges_of : (a b : Arrays) → SameArrays a b → SameRanges a b
 ranges_of a b h = record { nodes = h.nodes; junctions = h.junctions }
 
--- ---- what is refused goes by these alone
+-- ---- records, at whatever place
 
 module _ (a b : Arrays) (long : Alike a b) (same : SameRanges a b) where
-  -- records, at whatever place
   pub raw_nodes : ◌≡◌ {A = ℕ → raw-node.Node} (node_at a.nodes) (node_at b.nodes)
   raw_nodes = λ i at. node_same a.nodes b.nodes (λ k. anywhere a.nodes b.nodes long.nodes k (same.nodes k)) at i
 
   pub raw_junctions : ◌≡◌ {A = ℕ → NodeJunction} (junction_at a.junctions) (junction_at b.junctions)
   raw_junctions = λ i at. junction_same a.junctions b.junctions
       (λ k. anywhere a.junctions b.junctions long.junctions k (same.junctions k)) at i
-
-  -- 6, 4 and 5, and the counts
-  pub check_same : arrays_check a.nodes a.links a.junctions a.heights a.refs
-      ≡ arrays_check b.nodes b.links b.junctions b.heights b.refs
-  unfolding arrays_check
-  check_same = λ q.
-      let links : ℕ → ℕ = λ i. (raw_nodes q (i * 40)).link_count_flags / 8 in
-      let values : ℕ → ℕ = λ i. (raw_junctions q (i * 12)).heightmap_dim_x *
-      (raw_junctions q (i * 12)).heightmap_dim_y in
-      refuse_if (ltb 65536 (long.nodes q / 40)) TooManyNodes
-      (refuse_if (ltb 4096 (long.junctions q / 12)) TooManyJunctions
-      (numbers.unless (scan LinksOutside (λ i. ltb (long.links q / 8) ((raw_nodes q (i * 40)).link_id + links i)) 0
-      (long.nodes q / 40))
-      (numbers.unless (scan ValuesOutside
-      (λ i. ltb (long.heights q) ((raw_junctions q (i * 12)).heightmap_ptr + values i)) 0 (long.junctions q / 12))
-      (Ok (record {
-        nodes = long.nodes q / 40;
-        links = sum_to links (long.nodes q / 40);
-        junctions = long.junctions q / 12;
-        heights = sum_to values (long.junctions q / 12);
-        refs = long.refs q / 8;
-      })))))
-
-  pub answer_same : (root : Root) (m : Memory)
-      → (read_arrays root a.nodes a.links a.junctions a.heights a.refs m).answer
-      ≡ (read_arrays root b.nodes b.links b.junctions b.heights b.refs m).answer
-  unfolding read_arrays
-  answer_same root m = go (arrays_check a.nodes a.links a.junctions a.heights a.refs)
-      ∙ ap (λ (c : Result Counts Refusal). (if_held c m (next b)).answer) check_same
-    where
-      next : Arrays → Counts → Left
-      next x k =
-          unless (room_check k (length m.nodes) (length m.links) (length m.junctions) (length m.heights)
-          (length m.refs)) m
-          (record { answer = (Ok tt); memory = filled root k x.nodes x.links x.junctions x.heights x.refs m })
-
-      room : (c : Answer) (x y : Memory) → (unless c m (record { answer = (Ok tt); memory = x })).answer
-          ≡ (unless c m (record { answer = (Ok tt); memory = y })).answer
-      room (Err cause) x y = refl
-      room (Ok tt) x y = refl
-
-      go : (c : Result Counts Refusal) → (if_held c m (next a)).answer ≡ (if_held c m (next b)).answer
-      go (Err cause) = refl
-      go (Ok k) = room (room_check k (length m.nodes) (length m.links) (length m.junctions) (length m.heights)
-          (length m.refs)) _ _
 
 -- ---- what is stored
 
@@ -184,28 +131,3 @@ module _ (a b : Arrays) (long : Alike a b) (same : SameArrays a b) where
       (join_to_same (values_in a.junctions a.heights) (values_in b.junctions b.heights) c.junctions
       junction_values_law q ++ drop c.heights m.heights)
       (up_to (λ i. ref_words (raw_refs q (i * 8))) c.refs ++ drop c.refs m.refs)
-
-  pub arrays_same : (root : Root) (m : Memory)
-      → read_arrays root a.nodes a.links a.junctions a.heights a.refs m
-      ≡ read_arrays root b.nodes b.links b.junctions b.heights b.refs m
-  unfolding read_arrays
-  arrays_same root m = go (arrays_check a.nodes a.links a.junctions a.heights a.refs) refl
-      ∙ ap (λ (c : Result Counts Refusal). if_held c m (next b)) (check_same a b long (ranges_of a b same))
-    where
-      room : Counts → Answer
-      room k = room_check k (length m.nodes) (length m.links) (length m.junctions) (length m.heights) (length m.refs)
-
-      next : Arrays → Counts → Left
-      next x k = unless (room k) m (record {
-        answer = (Ok tt);
-        memory = filled root k x.nodes x.links x.junctions
-            x.heights x.refs m;
-      })
-
-      go : (c : Result Counts Refusal) → arrays_check a.nodes a.links a.junctions a.heights a.refs ≡ c
-          → if_held c m (next a) ≡ if_held c m (next b)
-      go (Err cause) e = refl
-      go (Ok k) e =
-          subst (λ (x : Counts). next a x ≡ next b x)
-          (sym (holds a.nodes a.links a.junctions a.heights a.refs k e).counts)
-          (λ q. unless (room counts) m (record { answer = (Ok tt); memory = filled_same root m q }))

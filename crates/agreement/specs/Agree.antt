@@ -1,9 +1,9 @@
 -- T-14: two pairs of system and graphics sections that agree on the bytes that count.
+use Rattle.cells.specs.FileCauses.{Arrays, arrays_of}
 use Rattle.std.specs.Prelude.{ℕ, ◌+◌, ◌*◌, ◌/◌, ◌≤◌, ◌<◌, ◌≡◌, Bool, false, ◌&&◌, ◌||◌, List, leb, eqb, length}
 use Rattle.records.specs.Bytes.{byte_at}
-use Rattle.records.specs.Sections.{array_at}
 use Rattle.records.specs.Records.{node_at, junction_at}
-use Rattle.cells.specs.Checks.{root_read, links_at, values_at}
+use Rattle.cells.specs.Checks.{links_at, values_at}
 
 -- ---- the root
 
@@ -12,24 +12,6 @@ abbrev pub left_out : ℕ → Bool
 left_out k = (leb 4 k && leb k 15) || (eqb k 88 || eqb k 89)
 
 -- ---- the arrays
-
--- The bytes of the five arrays of a pair of sections, where its root says. An array that is empty or bad has none
--- (`array_at`), so that of each array that lies inside its section, and of no other, there are bytes to agree on.
-pub record Arrays : Type 0 where
-  pub nodes : List ℕ
-  pub links : List ℕ
-  pub junctions : List ℕ
-  pub heights : List ℕ
-  pub refs : List ℕ
-
-unfoldable pub arrays_of : List ℕ → List ℕ → Arrays
-arrays_of s g = record {
-  nodes = array_at (root_read s).nodes (root_read s).node_count 40 s g;
-  links = array_at (root_read s).links (root_read s).link_count 8 s g;
-  junctions = array_at (root_read s).junctions (root_read s).junction_count 12 s g;
-  heights = array_at (root_read s).heightmap (root_read s).heightmap_count 1 s g;
-  refs = array_at (root_read s).refs (root_read s).ref_count 8 s g;
-}
 
 -- "in some node's range": link k, of a node of the array n
 pub record InSomeNode (n : List ℕ) (k : ℕ) : Type 0 where

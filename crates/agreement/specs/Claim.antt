@@ -18,7 +18,7 @@ use Rattle.sets.specs.Join.{join_cell}
 use Rattle.sets.specs.Crossing.{Location, crossing}
 use Rattle.sets.specs.MemberList.{cells_of}
 use Rattle.sets.specs.SetCalls.{SetCall, run_in}
-use Rattle.cells.specs.declared.count.Counts.{Counts}
+use Rattle.cells.specs.declared.counts.Counts.{Counts}
 use Rattle.agreement.specs.Agree.{Agree}
 use Rattle.std.specs.Prelude.{Result, Ok}
 use Rattle.numbers.specs.declared.refusal.Refusal.{Refusal}

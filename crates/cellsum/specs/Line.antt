@@ -1,6 +1,6 @@
 -- Section 6: the one line that `cellsum` prints.
 use Rattle.std.specs.Prelude.{ℕ, ◌++◌, List, [], ltb, length, if◌then◌else◌, codes, decimal}
-use Rattle.cells.specs.declared.count.Counts.{Counts}
+use Rattle.cells.specs.declared.counts.Counts.{Counts}
 use Rattle.cells.specs.Checks.{count_of}
 use Rattle.std.specs.Prelude.{Result, Ok, Err}
 use Rattle.numbers.specs.Refusals.{number_of, place_of}

@@ -5,7 +5,8 @@ ghost use Rattle.std.specs.Prelude.{◌≡◌, ◌+◌, take, IfOk, IfSome, OnOk
 ghost use Rattle.std.specs.Io.KnownBytes.{Appends};
 ghost use Rattle.cellsum.specs.Line.{counts_line_of, refused_line_of, line_of};
 
-use cells::count::{Counts, count};
+use cells::count::count;
+use cells::counts::Counts;
 use std::alloc::{AllocError, Global};
 use std::io;
 use std::io::{Read, Write};

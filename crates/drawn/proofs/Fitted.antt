@@ -1,32 +1,33 @@
 -- Edits and renumbering keep a cell's numbers within their fields.
 -- Assumes nothing but that the arguments fit their types.
+use Rattle.std.proofs.lemmas.Bool.{and_from}
+use Rattle.cells.proofs.Sequences.Tests.{every_all}
 use Prim.Native.Nat.{ℕ, zero, suc, ◌+◌, ◌≤◌, ◌<◌}
 use native.Mathlib.Omega.{arith}
 use mathlib.Core.Path.{◌≡◌, refl, ap, ◌∙◌}
-use mathlib.Core.Bool.{Bool, true, false, cond, ◌&&◌}
+use mathlib.Core.Bool.{Bool, true, ◌&&◌}
 use mathlib.Core.List.{List, [], ◌∷◌, ◌++◌, map}
-use mathlib.Core.Option.{Option, none, some}
-use lib.Dec.{ltb, eqb}
+use lib.Dec.{eqb}
 use lib.ListN.{length, get_or, set, take, length-map, get_or-map}
-use borrow.Author.Tests.{lt-ltb, ltb-true, eq-eqb}
+use borrow.Author.Tests.{lt-ltb, eq-eqb}
 use Rattle.numbers.specs.Positions.{quantised, dequantised}
 use Rattle.records.specs.declared.junction_ref.NodeJunctionRef.{NodeJunctionRef}
 use Rattle.cells.specs.declared.link.PathLink.{PathLink}
 use Rattle.cells.specs.Lists.{every}
-use Rattle.cells.specs.Order.{keep, parted, Old, new_place, new_number, place_or, last_with, renamed}
-use Rattle.cells.specs.Area.{belongs}
+use Rattle.cells.specs.Order.{keep, parted, Old}
 use Rattle.cells.specs.NodeAccess.{new_node}
-use Rattle.cells.specs.Cell.{Link, Node, Ref, Cell, no_node, node_at, is_ped_node, is_vehicle_node, numbers}
-use Rattle.cells.specs.Cell.{ped_flags, old_nodes, ordered, relink, reref, renode, renumber_cell}
+use Rattle.cells.specs.Cell.{Link, Node, Cell, no_node, node_at, is_ped_node, is_vehicle_node}
+use Rattle.cells.specs.Cell.{old_nodes, ordered, relink, reref, renode, renumber_cell}
 use Rattle.cells.specs.EditedCell.{node_from, node_moved, ref_from, junction_from, with_link, link_changed}
 use Rattle.cells.specs.EditedCell.{height_changed}
 use Rattle.cells.proofs.Forms.EntryFits.{LinkFits}
 use Rattle.records.proofs.RecordBack.{RefFits}
+use Rattle.cells.proofs.WritingBack.Kept.{link_again, ref_again}
 use Rattle.cells.proofs.WritingBack.KeptCells.{kept_link, is_byte, is_word, kept_ref, kept_root}
 use Rattle.cells.proofs.Sequences.Tests.{and_left, and_right, every_keep, every_append, every_map, keep_lengths}
-use Rattle.cells.proofs.Renumbering.Named.{last_inside}
-use Rattle.cells.proofs.Renumbering.NewCell.{every_number, new_at}
-use Rattle.cells.specs.StoredCell.{junction_at, node_linked, junction_mapped}
+use Rattle.cells.proofs.Renumbering.NewCell.{every_number}
+use Rattle.cells.specs.StoredCell.{junction_at}
+use Rattle.cells.specs.EditedCell.{node_linked, junction_mapped}
 use Rattle.cells.specs.CellOf.{link_of}
 use Rattle.drawn.specs.Changes.{Edit}
 use Rattle.drawn.specs.Meaning.{edit_cell}
@@ -38,7 +39,7 @@ use Rattle.drawn.specs.Meaning.{link_from}
 use Rattle.cells.specs.StoredCell.{no_junction}
 use Rattle.drawn.specs.Fits.{EditFits, LinkWordsFit}
 use Rattle.drawn.specs.Made.{fitted_node, fitted_junction, fitted}
-use Rattle.drawn.proofs.FittedCells.{both, Fitted, fitted_parts, fitted_all}
+use Rattle.drawn.proofs.FittedCells.{Fitted, fitted_parts, fitted_all}
 
 -- ---- lists with an entry stored or added
 
@@ -46,20 +47,20 @@ pub every_set : {A : Type 0} (f : A → Bool) (l : List A) (p : ℕ) (x : A) →
     (set l p x) ≡ true
 unfolding every
 every_set f [] p x h k = refl
-every_set f (y ∷ ys) zero x h k = both (f x) (every f ys) k (and_right (f y) _ h)
-every_set f (y ∷ ys) (suc p) x h k = both (f y) (every f (set ys p x)) (and_left _ _ h)
+every_set f (y ∷ ys) zero x h k = and_from (f x) (every f ys) k (and_right (f y) _ h)
+every_set f (y ∷ ys) (suc p) x h k = and_from (f y) (every f (set ys p x)) (and_left _ _ h)
     (every_set f ys p x (and_right (f y) _ h) k)
 
 pub every_one : {A : Type 0} (f : A → Bool) (l : List A) (x : A) → every f l ≡ true → f x ≡ true → every f
     (l ++ (x ∷ [])) ≡ true
 unfolding every
-every_one f l x h k = every_append f l (x ∷ []) h (both (f x) true k refl)
+every_one f l x h k = every_append f l (x ∷ []) h (and_from (f x) true k refl)
 
 pub every_take : {A : Type 0} (f : A → Bool) (k : ℕ) (l : List A) → every f l ≡ true → every f (take k l) ≡ true
 unfolding every
 every_take f zero l h = refl
 every_take f (suc k) [] h = refl
-every_take f (suc k) (x ∷ xs) h = both (f x) (every f (take k xs)) (and_left _ _ h)
+every_take f (suc k) (x ∷ xs) h = and_from (f x) (every f (take k xs)) (and_left _ _ h)
     (every_take f k xs (and_right (f x) _ h))
 
 -- what is past the end passes too
@@ -70,13 +71,6 @@ every_any f [] p d h k = k
 every_any f (x ∷ xs) zero d h k = and_left _ _ h
 every_any f (x ∷ xs) (suc p) d h k = every_any f xs p d (and_right (f x) _ h) k
 
-pub every_all : {A : Type 0} (f : A → Bool) (d : A) (l : List A) → ((j : ℕ) → j < length l → f (get_or l j d) ≡ true)
-    → every f l ≡ true
-unfolding every
-every_all f d [] h = refl
-every_all f d (x ∷ xs) h = both (f x) (every f xs) (h 0 (omega arith))
-    (every_all f d xs (λ j lt. h (suc j) (omega arith)))
-
 none_links : fitted_node no_node ≡ true
 unfolding no_node every
 none_links = refl
@@ -86,18 +80,18 @@ unfolding no_junction every
 none_values = refl
 
 link_fits : (x : PathLink) → LinkFits x → kept_link (link_from x) ≡ true
-link_fits x h = both _ _ (lt-ltb x.area_id 65536 h.area_id) (lt-ltb x.node_id 65536 h.node_id)
+link_fits x h = and_from _ _ (lt-ltb x.area_id 65536 h.area_id) (lt-ltb x.node_id 65536 h.node_id)
 
 ref_fits_law : (r : NodeJunctionRef) → RefFits r → kept_ref (ref_from r) ≡ true
-ref_fits_law r h = both _ _ (lt-ltb r.area_id 65536 h.area_id)
-    (both _ _ (lt-ltb r.node_id 65536 h.node_id)
-    (both _ _ (lt-ltb r.junction_id 65536 h.junction_id) (lt-ltb r.unk0 65536 h.unk0)))
+ref_fits_law r h = and_from _ _ (lt-ltb r.area_id 65536 h.area_id)
+    (and_from _ _ (lt-ltb r.node_id 65536 h.node_id)
+    (and_from _ _ (lt-ltb r.junction_id 65536 h.junction_id) (lt-ltb r.unk0 65536 h.unk0)))
 
 words_kept : (ls : List (List ℕ)) → LinkWordsFit ls → every kept_link (map link_of ls) ≡ true
 words_kept ls h = every_all kept_link no_link (map link_of ls) (λ j lt.
     let inside : j < length ls = omega (arith, length-map ls link_of) in
     ap kept_link (get_or-map link_of ls j [])
-    ∙ both _ _ (lt-ltb _ 65536 (h j 0 inside)) (lt-ltb _ 65536 (h j 1 inside)))
+    ∙ and_from _ _ (lt-ltb _ 65536 (h j 0 inside)) (lt-ltb _ 65536 (h j 1 inside)))
   where
     no_link : Link
     no_link = link_of []
@@ -112,7 +106,7 @@ root_parts c t =
     (and_left _ _ t, and_left _ _ t₁, and_left _ _ t₂, and_right (is_word c.vft) _ t₂)
 
 root_all : {v p f w : Bool} → v ≡ true → p ≡ true → f ≡ true → w ≡ true → v && (p && (f && w)) ≡ true
-root_all a b c d = both _ _ a (both _ _ b (both _ _ c d))
+root_all a b c d = and_from _ _ a (and_from _ _ b (and_from _ _ c d))
 
 module _ (c : Cell) (h : Fitted c) where
   links_at : (p : ℕ) → every kept_link (node_at c.nodes p).links ≡ true
@@ -265,7 +259,7 @@ module _ (c : Cell) (h : Fitted c) where
         nodes = h.nodes;
         junctions = h.junctions;
         refs = h.refs;
-        root = root_all r.0 r.1 r.2 (both _ _ (eq-eqb (length words) 7 fits.0)
+        root = root_all r.0 r.1 r.2 (and_from _ _ (eq-eqb (length words) 7 fits.0)
             (every_all is_word 0 words (λ i lt. lt-ltb (get_or words i 0) 4294967296 (fits.1 i lt))));
       }
 
@@ -274,47 +268,12 @@ edit_fitted c t e fits = fitted_all (edit_cell e c) (edit_parts c (fitted_parts 
 
 -- ---- renumbering (as in cells Kept, for cells of any positions)
 
-pub new_small : (ns : List Node) (k : ℕ) → length ns ≤ 65536 → k < 65536 → new_number (old_nodes ns) k < 65536
-unfolding new_number
-new_small ns k few h = go (last_with (numbers ns) k) (λ p e. (last_inside (numbers ns) k p e).0)
-  where
-    go : (r : Option ℕ) → ((p : ℕ) → r ≡ some p → p < length (numbers ns)) → place_or (ped_flags ns) r k < 65536
-    go (some p) inside =
-        let q : new_place (ped_flags ns) p < length ns =
-        (new_at ns p (let i : p < length ns = omega
-        (arith, inside p refl, length-map ns (λ n. n.number)) in i)).0 in
-        omega (arith, q, few)
-    go none inside = h
-
-renamed_small : (ns : List Node) (a k : ℕ) → length ns ≤ 65536 → ltb k 65536 ≡ true → ltb
-    (renamed (old_nodes ns) a k) 65536 ≡ true
-unfolding renamed
-renamed_small ns a k few t = go (belongs (old_nodes ns).area a)
-  where
-    go : (b : Bool) → ltb (cond b (new_number (old_nodes ns) k) k) 65536 ≡ true
-    go true = lt-ltb _ _ (new_small ns k few (ltb-true k 65536 t))
-    go false = t
-
 module _ (c : Cell) (few : length c.nodes ≤ 65536) where
   abbrev old : Old
   old = old_nodes c.nodes
 
-  link_again : (l : Link) → kept_link l ≡ true → kept_link (relink old l) ≡ true
-  link_again l t = both (ltb l.area 65536) (ltb (renamed old l.area l.number) 65536) (and_left _ _ t)
-      (renamed_small c.nodes l.area l.number few (and_right (ltb l.area 65536) _ t))
-
-  ref_again : (r : Ref) → kept_ref r ≡ true → kept_ref (reref old r) ≡ true
-  ref_again r t =
-      let t₁ = and_right (ltb r.area 65536) _ t in
-      cc (
-        and_left (ltb r.area 65536) _ t,
-        renamed_small c.nodes r.area r.number few (and_left _ _ t₁),
-        and_right
-            (ltb r.number 65536) _ t₁,
-      )
-
   node_again : (k : ℕ) (n : Node) → fitted_node n ≡ true → fitted_node (renode old k n) ≡ true
-  node_again k n t = every_map kept_link (relink old) kept_link link_again n.links t
+  node_again k n t = every_map kept_link (relink old) kept_link (link_again c few) n.links t
 
   pub fitted_again : fitted c ≡ true → fitted (renumber_cell c) ≡ true
   unfolding renumber_cell parted
@@ -329,7 +288,7 @@ module _ (c : Cell) (few : length c.nodes ≤ 65536) where
             (every_keep fitted_node is_vehicle_node c.nodes f.nodes)
             (every_keep fitted_node is_ped_node c.nodes f.nodes));
         junctions = f.junctions;
-        refs = every_map kept_ref (reref old) kept_ref ref_again c.refs f.refs;
-        root = both _ _ (lt-ltb (length (keep is_vehicle_node c.nodes)) 4294967296 (omega (arith, all, few)))
-            (both _ _ (lt-ltb (length (keep is_ped_node c.nodes)) 4294967296 (omega (arith, all, few))) t₁);
+        refs = every_map kept_ref (reref old) kept_ref (ref_again c few) c.refs f.refs;
+        root = and_from _ _ (lt-ltb (length (keep is_vehicle_node c.nodes)) 4294967296 (omega (arith, all, few)))
+            (and_from _ _ (lt-ltb (length (keep is_ped_node c.nodes)) 4294967296 (omega (arith, all, few))) t₁);
       })

@@ -1,5 +1,6 @@
 -- Cells whose numbers fit their fields, as every made cell's do, and cells whose coordinates and flags5 are stored
 -- ones.
+use Rattle.std.proofs.lemmas.Bool.{and_from}
 use Prim.Native.Nat.{◌*◌}
 use mathlib.Core.Path.{◌≡◌, refl}
 use mathlib.Core.Bool.{Bool, true, false, cond, ◌&&◌}
@@ -14,9 +15,6 @@ use Rattle.cells.proofs.WritingBack.AsRead.{whole_map}
 use Rattle.cells.proofs.Sequences.Tests.{and_left, and_right, every_imp}
 use Rattle.drawn.specs.Made.{fitted, fitted_node, fitted_junction, stored, stored_node, stored_junction}
 
-pub both : (a b : Bool) → a ≡ true → b ≡ true → a && b ≡ true
-both a b e f = cc
-
 -- a test that both cells pass
 pub cond_test : {A : Type 0} (f : A → Bool) (b : Bool) (c d : A) → f c ≡ true → f d ≡ true → f (cond b c d) ≡ true
 cond_test f true c d s t = s
@@ -26,7 +24,7 @@ every_two : {A : Type 0} (f g k : A → Bool) → ((x : A) → f x ≡ true → 
     → every f l ≡ true → every g l ≡ true → every k l ≡ true
 unfolding every
 every_two f g k e [] a b = refl
-every_two f g k e (x ∷ xs) a b = both (k x) (every k xs) (e x (and_left _ _ a) (and_left _ _ b))
+every_two f g k e (x ∷ xs) a b = and_from (k x) (every k xs) (e x (and_left _ _ a) (and_left _ _ b))
     (every_two f g k e xs (and_right (f x) _ a) (and_right (g x) _ b))
 
 pub record Fitted (c : Cell) : Type 0 where
@@ -50,7 +48,7 @@ fitted_parts c t =
 
 pub fitted_all : (c : Cell) → Fitted c → fitted c ≡ true
 unfolding fitted
-fitted_all c h = both _ _ h.nodes (both _ _ h.junctions (both _ _ h.refs h.root))
+fitted_all c h = and_from _ _ h.nodes (and_from _ _ h.junctions (and_from _ _ h.refs h.root))
 
 -- what storing keeps, in three parts
 pub all_kept : (c : Cell) → fitted c ≡ true → stored c ≡ true → every whole_map c.junctions ≡ true → kept c ≡ true
@@ -59,22 +57,22 @@ all_kept c t s w =
     let f = fitted_parts c t in
     let sn = and_left (every stored_node c.nodes) _ s in
     let sj = and_right (every stored_node c.nodes) _ s in
-    both _ _ (every_two stored_node fitted_node kept_node
-    (λ n a b. both (kept_body n.body) (every kept_link n.links) a b) c.nodes sn f.nodes)
-    (both _ _ (every_two stored_junction (λ j. whole_map j && fitted_junction j) kept_junction junction c.junctions sj
-    (every_two whole_map fitted_junction (λ j. whole_map j && fitted_junction j)
-    (λ j a b. both (whole_map j) (fitted_junction j) a b) c.junctions w f.junctions))
-    (both _ _ f.refs f.root))
+    and_from _ _ (every_two stored_node fitted_node kept_node
+    (λ n a b. and_from (kept_body n.body) (every kept_link n.links) a b) c.nodes sn f.nodes)
+    (and_from _ _ (every_two stored_junction (λ j. whole_map j && fitted_junction j) kept_junction junction
+    c.junctions sj (every_two whole_map fitted_junction (λ j. whole_map j && fitted_junction j)
+    (λ j a b. and_from (whole_map j) (fitted_junction j) a b) c.junctions w f.junctions))
+    (and_from _ _ f.refs f.root))
   where
     junction : (j : Junction) → stored_junction j ≡ true → whole_map j && fitted_junction j ≡ true → kept_junction j
         ≡ true
     junction j a b =
         let a₁ = and_right (kept_step 2 j.x) _ a in
         let a₂ = and_right (kept_step 2 j.y) _ a₁ in
-        both (kept_step 2 j.x) _ (and_left _ _ a)
-        (both (kept_step 2 j.y) _ (and_left _ _ a₁)
-        (both (kept_step 5 j.low) _ (and_left _ _ a₂)
-        (both (kept_step 5 j.high) _ (and_right (kept_step 5 j.low) _ a₂) b)))
+        and_from (kept_step 2 j.x) _ (and_left _ _ a)
+        (and_from (kept_step 2 j.y) _ (and_left _ _ a₁)
+        (and_from (kept_step 5 j.low) _ (and_left _ _ a₂)
+        (and_from (kept_step 5 j.high) _ (and_right (kept_step 5 j.low) _ a₂) b)))
 
 pub kept_fitted : (c : Cell) → kept c ≡ true → fitted c ≡ true
 unfolding kept

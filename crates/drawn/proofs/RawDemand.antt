@@ -5,17 +5,13 @@ use native.Mathlib.Omega.{arith}
 use mathlib.Core.Path.{◌≡◌, refl, sym, ap, ◌∙◌, subst}
 use mathlib.Core.Bool.{Bool, true, false, ◌||◌, cond}
 use mathlib.Core.Logic.{◌⊎◌, inl, inr, ⊎_elim}
-use lib.Dec.{ltb}
 use mathlib.Core.List.{List, [], ◌∷◌}
 use lib.ListN.{length, take, length-map}
 use Rattle.std.specs.Prelude.{Result, Ok, Err}
 use Rattle.numbers.specs.Refusals.{Answer}
 use Rattle.numbers.specs.declared.refusal.Refusal.{Refusal}
 use Rattle.cells.specs.Order.{new_place}
-use Rattle.numbers.specs.declared.refusal.Refusal.TheVariants.{TooShort}
-use Rattle.numbers.specs.declared.refusal.Lent.TheVariants as lent
 use Rattle.numbers.proofs.Refusing.{not_refused}
-use Rattle.walks.specs.declared.walk.Walked.{Walked}
 use Rattle.cells.specs.Memory.{Memory}
 use Rattle.cells.specs.Cell.{Node, Cell, ped_flags, renumber_cell}
 use Rattle.cells.specs.CellOf.{cell_of}
@@ -28,7 +24,6 @@ use Rattle.cells.proofs.Renumbering.CellRenumbered.{done_call, refused_call}
 use Rattle.walks.specs.Sound.{sound}
 use Rattle.walks.specs.Walk.{walk}
 use Rattle.walks.specs.WalkCall.{Route, WalkLeft, route, walk_call}
-use Rattle.walks.specs.declared.walk.End.{End}
 use Rattle.cells.proofs.Sequences.Tests.{by_test, true_false}
 use Rattle.walks.specs.Calls.{Call, renumbering, write_read, is_done, after, run, renumbers, moved, any_renumbers}
 use Rattle.walks.specs.Claim.{Unnoticed}
@@ -37,7 +32,7 @@ use Rattle.walks.proofs.CallLists.{run_alike}
 use Rattle.walks.proofs.NewSound.{sound_new}
 use Rattle.walks.proofs.NewWalks.{move}
 use Rattle.walks.proofs.Routes.{same_walk, move_route, alike_route}
-use Rattle.walks.proofs.WalksAlike.{route_left, walk_left_law, run_lies}
+use Rattle.walks.proofs.WalksAlike.{route_left, answer_by, left_answer, walk_left_law, run_lies}
 use Rattle.drawn.specs.Changes as changes
 use Rattle.drawn.specs.Settled.{settled_node, settled, settled_trail}
 use Rattle.std.specs.Result.{is_ok}
@@ -175,7 +170,7 @@ call_numbered m (renumbering sc ps) h n = go (renumber m (length sc) ps).answer 
     go (Err cause) e n = ⊎_elim (λ t. true_false (sym t))
         (λ o. subst Numbered (sym (ap cell_of (refused_call m ps (length sc) cause e))) o) n
 
-made_after : (m : Memory) (k : Call) → Made m → Made (after m k)
+pub made_after : (m : Memory) (k : Call) → Made m → Made (after m k)
 unfolding after
 made_after m (write_read b) h = made_write_read m h b
 made_after m (renumbering sc ps) h = made_renumber m h sc ps
@@ -193,17 +188,6 @@ raw_numbers m (k ∷ ks) h t = by_test (renumbers m k)
     (λ f. raw_numbers (after m k) ks (made_after m k h) (rw f at t))
 
 -- ---- what the call `walk` answers
-
-cond_answer : (b : Bool) (x y : WalkLeft) → (cond b x y).answer ≡ cond b x.answer y.answer
-cond_answer true x y = refl
-cond_answer false x y = refl
-
-abbrev answer_by : End → ℕ → ℕ → Result Walked Refusal
-answer_by e count room = cond (ltb room count) (Err (TooShort lent.List)) (Ok (record { end = e; count = count }))
-
-left_answer : (r : Route) (visited : List ℕ) → (route_left r visited).answer ≡ answer_by r.ending (length r.places)
-    (length visited)
-left_answer r visited = cond_answer (ltb (length visited) (length r.places)) _ _
 
 either_route : (b : Bool) (c : Cell) (bs : List ℕ) (p : ℕ) → route (cond b (settled c) c).nodes bs p
     ≡ route c.nodes bs p

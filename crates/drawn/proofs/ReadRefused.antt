@@ -11,7 +11,7 @@ use Rattle.cells.specs.declared.arrays.Arrays.{Arrays}
 use Rattle.records.specs.Sections.{bytes_of}
 use Rattle.records.specs.declared.root.Root.{Root}
 use Rattle.records.specs.declared.section.Part.{Part}
-use Rattle.cells.specs.declared.count.Counts.{Counts}
+use Rattle.cells.specs.declared.counts.Counts.{Counts}
 use Rattle.cells.specs.Checks.{root_read, sizes_check, arrays_found, arrays_check}
 use Rattle.cells.specs.Memory.{Memory, Left, unless}
 use Rattle.cells.specs.Read.{room_check, filled, if_held, if_found, read_arrays, read_of}

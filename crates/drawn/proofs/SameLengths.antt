@@ -36,7 +36,8 @@ use Rattle.drawn.specs.Changes.{put_links, put_heightmap, truncate_nodes, trunca
 use Rattle.drawn.specs.Changes.{set_vft, set_vehicle_node_count, set_ped_node_count, set_unknowns}
 use Rattle.drawn.proofs.Accepted.{by_answer, by_entry}
 use Rattle.drawn.proofs.TidyReplaced.{place_ends}
-use Rattle.drawn.proofs.TidyAdded.{after_long, inserted_long}
+use Rattle.drawn.proofs.TidyAdded.{inserted_long}
+use Rattle.cells.proofs.Editing.LinkAdded.{after_long}
 
 pub record SameLengths (m d : Memory) : Type 0 where
   pub nodes : length d.nodes ≡ length m.nodes

@@ -3,13 +3,15 @@
 use Prim.Native.Nat.{ℕ, suc}
 use mathlib.Core.Path.{◌≡◌, refl, sym, ap, ◌∙◌}
 use mathlib.Core.Bool.{not, ◌&&◌, ◌||◌, cond}
-use mathlib.Core.List.{List, [], ◌∷◌, map}
+use mathlib.Core.List.{List, [], ◌∷◌, map, map-map}
 use mathlib.Core.Option.{Option, none, some}
 use lib.Dec.{eqb}
 use lib.ListN.{length, get_or, get_elem?, length-map, get_or-map}
 use lib.Ieee.{of_bits, to_bits, round}
 use Rattle.std.proofs.lemmas.List.{map-append}
 use Rattle.numbers.specs.Steps.{step_of, unstep}
+use Rattle.cells.specs.Cell.{body_of}
+use Rattle.cells.specs.Words.{to_node}
 use Rattle.cells.specs.Lists.{every}
 use Rattle.cells.specs.Order.{keep, parted, Old}
 use Rattle.cells.specs.Area.{belongs}
@@ -28,10 +30,6 @@ use Rattle.cells.proofs.Sequences.Tests.{map_keep, map_at, map_option}
 use Rattle.drawn.specs.Settled.{settled_step, settled_body, settled_node, settled_junction, settled, settled_option}
 use Rattle.drawn.specs.Settled.{settled_seen, settled_visit, settled_trail}
 
-pub map_map : {A B C : Type 0} (f : B → C) (g : A → B) (l : List A) → map f (map g l) ≡ map (λ x. f (g x)) l
-map_map f g [] = refl
-map_map {C = C} f g (x ∷ xs) = ap {B = List C} (λ t. f (g x) ∷ t) (map_map f g xs)
-
 abbrev all : List Node → List Node
 all ns = map settled_node ns
 
@@ -40,10 +38,10 @@ first_same [] = refl
 first_same (n ∷ ns) = refl
 
 numbers_same : (ns : List Node) → numbers (all ns) ≡ numbers ns
-numbers_same ns = map_map (λ n. n.number) settled_node ns
+numbers_same ns = map-map (λ n. n.number) settled_node ns
 
 pub flags_same : (ns : List Node) → ped_flags (all ns) ≡ ped_flags ns
-flags_same ns = map_map is_ped_node settled_node ns
+flags_same ns = map-map is_ped_node settled_node ns
 
 -- ---- sound
 
@@ -104,7 +102,7 @@ unfolding unstep step_of to_bits of_bits round
 step_none_5 = refl
 
 none_settled : no_node ≡ settled_node no_node
-unfolding no_node no_body
+unfolding no_node no_body body_of to_node
 none_settled = sym (λ i. record {
   area = 0;
   number = 0;

@@ -2,6 +2,7 @@
 -- them, reading and
 -- write-then-read give them, and only put_node, put_junction and add_junction can bring in raw ones (or a flags5 over
 -- three bits).
+use Rattle.std.proofs.lemmas.Bool.{and_from}
 use Prim.Native.Nat.{ℕ}
 use mathlib.Core.Path.{◌≡◌, refl, ap, ◌∙◌}
 use mathlib.Core.Bool.{true, ◌&&◌}
@@ -10,6 +11,8 @@ use lib.ListN.{length}
 use borrow.Author.Tests.{eq-eqb}
 use Rattle.numbers.specs.Positions.{quantised, dequantised}
 use Rattle.numbers.specs.declared.math.Vec3.{Vec3}
+use Rattle.cells.specs.Cell.{body_of}
+use Rattle.cells.specs.Words.{to_node}
 use Rattle.cells.specs.Lists.{every}
 use Rattle.cells.specs.Order.{keep, parted}
 use Rattle.cells.specs.NodeAccess.{new_node}
@@ -31,7 +34,8 @@ use Rattle.walks.specs.Calls.{Call}
 use Rattle.walks.specs.Claim.{Unnoticed, Demand3}
 use Rattle.walks.specs.Sound.{sound}
 use Rattle.cells.specs.CellOf.{link_of}
-use Rattle.cells.specs.StoredCell.{node_linked, junction_mapped, junction_at}
+use Rattle.cells.specs.StoredCell.{junction_at}
+use Rattle.cells.specs.EditedCell.{node_linked, junction_mapped}
 use Rattle.drawn.specs.Meaning.{edit_cell}
 use Rattle.drawn.specs.Changes.{Edit, Change, new, reading, renumbering, write_read, edit, after, run}
 use Rattle.drawn.specs.Changes.{add_node, add_link, add_ref, add_junction}
@@ -41,9 +45,9 @@ use Rattle.drawn.specs.Changes.{set_vft, set_vehicle_node_count, set_ped_node_co
 use Rattle.drawn.specs.Meaning.{link_from}
 use Rattle.cells.specs.StoredCell.{no_junction}
 use Rattle.drawn.specs.Settled.{settled_step}
-use Rattle.drawn.specs.Meaning.{new_cell, change_cell, is_accepted}
+use Rattle.drawn.specs.Meaning.{change_cell, is_accepted}
+use Rattle.cells.specs.NewYnd.{new_cell}
 use Rattle.drawn.specs.Fits.{ChangeFits}
-use Rattle.drawn.proofs.FittedCells.{both}
 use Rattle.drawn.specs.Made.{stored_node, stored_junction}
 use Rattle.drawn.proofs.Fitted.{every_set, every_one, every_any, every_take}
 use Rattle.drawn.specs.Fits.{AllFit}
@@ -63,28 +67,28 @@ unfolding kept_step
 none_step k e = eq-eqb (settled_step k 0) 0 e
 
 none_stored : stored_node no_node ≡ true
-unfolding no_node no_body
-none_stored = both _ _ (none_step 2 step_none_2)
-    (both _ _ (none_step 2 step_none_2) (both _ _ (none_step 5 step_none_5) refl))
+unfolding no_node no_body body_of to_node
+none_stored = and_from _ _ (none_step 2 step_none_2)
+    (and_from _ _ (none_step 2 step_none_2) (and_from _ _ (none_step 5 step_none_5) refl))
 
 none_junction : stored_junction no_junction ≡ true
 unfolding no_junction
-none_junction = both _ _ (none_step 2 step_none_2)
-    (both _ _ (none_step 2 step_none_2) (both _ _ (none_step 5 step_none_5) (none_step 5 step_none_5)))
+none_junction = and_from _ _ (none_step 2 step_none_2)
+    (and_from _ _ (none_step 2 step_none_2) (and_from _ _ (none_step 5 step_none_5) (none_step 5 step_none_5)))
 
 new_stored : (area k : ℕ) (at : Vec3) → kept_body (body_from (new_node area k (dequantised (quantised at)))) ≡ true
 unfolding new_node
-new_stored area k at = both _ _ (step_stored 2 at.x two)
-    (both _ _ (step_stored 2 at.y two) (both _ _ (step_stored 5 at.z five) refl))
+new_stored area k at = and_from _ _ (step_stored 2 at.x two)
+    (and_from _ _ (step_stored 2 at.y two) (and_from _ _ (step_stored 5 at.z five) refl))
 
 moved_stored : (n : Node) (at : Vec3) → stored_node n ≡ true → stored_node (node_moved (dequantised (quantised at)) n)
     ≡ true
 moved_stored n at t =
     let t₁ = and_right (kept_step 2 n.body.position.x) _ t in
     let t₂ = and_right (kept_step 2 n.body.position.y) _ t₁ in
-    both _ _ (step_stored 2 at.x two)
-    (both _ _ (step_stored 2 at.y two)
-    (both _ _ (step_stored 5 at.z five) (and_right (kept_step 5 n.body.position.z) _ t₂)))
+    and_from _ _ (step_stored 2 at.x two)
+    (and_from _ _ (step_stored 2 at.y two)
+    (and_from _ _ (step_stored 5 at.z five) (and_right (kept_step 5 n.body.position.z) _ t₂)))
 
 module _ (c : Cell) (sn : every stored_node c.nodes ≡ true) (sj : every stored_junction c.junctions ≡ true) where
   stored_at : (p : ℕ) → stored_node (node_at c.nodes p) ≡ true
@@ -141,14 +145,14 @@ module _ (c : Cell) (sn : every stored_node c.nodes ≡ true) (sj : every stored
 pub edit_stored : (c : Cell) → stored c ≡ true → (e : Edit) → StoredEdit e → stored (edit_cell e c) ≡ true
 unfolding stored
 edit_stored c t e a = let r = edit_parts c (and_left _ _ t)
-    (and_right (every stored_node c.nodes) _ t) e a in both _ _ r.0 r.1
+    (and_right (every stored_node c.nodes) _ t) e a in and_from _ _ r.0 r.1
 
 -- ---- the other calls
 
 pub kept_stored : (c : Cell) → kept c ≡ true → stored c ≡ true
 unfolding kept stored
 kept_stored c t =
-    both _ _ (every_imp kept_node stored_node (λ n a. and_left _ _ a) c.nodes (and_left _ _ t))
+    and_from _ _ (every_imp kept_node stored_node (λ n a. and_left _ _ a) c.nodes (and_left _ _ t))
     (every_imp kept_junction stored_junction junction c.junctions
     (and_left _ _ (and_right (every kept_node c.nodes) _ t)))
   where
@@ -157,15 +161,15 @@ kept_stored c t =
         let a₁ = and_right (kept_step 2 j.x) _ a in
         let a₂ = and_right (kept_step 2 j.y) _ a₁ in
         let a₃ = and_right (kept_step 5 j.low) _ a₂ in
-        both (kept_step 2 j.x) (kept_step 2 j.y && (kept_step 5 j.low && kept_step 5 j.high)) (and_left _ _ a)
-        (both (kept_step 2 j.y) (kept_step 5 j.low && kept_step 5 j.high) (and_left _ _ a₁)
-        (both (kept_step 5 j.low) (kept_step 5 j.high) (and_left _ _ a₂) (and_left _ _ a₃)))
+        and_from (kept_step 2 j.x) (kept_step 2 j.y && (kept_step 5 j.low && kept_step 5 j.high)) (and_left _ _ a)
+        (and_from (kept_step 2 j.y) (kept_step 5 j.low && kept_step 5 j.high) (and_left _ _ a₁)
+        (and_from (kept_step 5 j.low) (kept_step 5 j.high) (and_left _ _ a₂) (and_left _ _ a₃)))
 
 renumber_stored : (c : Cell) → stored c ≡ true → stored (renumber_cell c) ≡ true
 unfolding stored renumber_cell parted
 renumber_stored c t =
     let sn = and_left (every stored_node c.nodes) _ t in
-    both _ _ (every_number (old_nodes c.nodes) stored_node stored_node (λ k n a. a) 0 (ordered c.nodes)
+    and_from _ _ (every_number (old_nodes c.nodes) stored_node stored_node (λ k n a. a) 0 (ordered c.nodes)
     (every_append stored_node (keep is_vehicle_node c.nodes) (keep is_ped_node c.nodes)
     (every_keep stored_node is_vehicle_node c.nodes sn) (every_keep stored_node is_ped_node c.nodes sn)))
     (and_right (every stored_node c.nodes) _ t)

@@ -1,12 +1,14 @@
 -- Adding an entry leaves a tidy cell tidy, accepted or refused.
 -- Assumes nothing but that the arguments fit their types.
+use Rattle.cells.proofs.Editing.CellReplaced.{ranged_count, ranged_start}
+use Rattle.cells.proofs.Editing.LinkAdded.{word_own, word_other, after_long}
 use Prim.Native.Nat.{ℕ, ◌+◌, ◌-◌, ◌*◌, ◌≤◌, ◌<◌}
 use native.Mathlib.Omega.{arith}
 use mathlib.Core.Path.{◌≡◌, refl, ap, sym, ◌∙◌}
-use mathlib.Core.List.{List, [], ◌∷◌, ◌++◌, map}
+use mathlib.Core.List.{List, [], ◌∷◌, ◌++◌}
 use lib.Dec.{ltb}
-use lib.ListN.{length, get_or, set, take, drop, length-append, length-map, length-drop, length-set, get_or-append}
-use lib.Seq.{length-take-le, get_or-set_same, get_or-set_other}
+use lib.ListN.{length, get_or, set, take, drop, length-append, length-drop, length-set}
+use lib.Seq.{get_or-set_same, get_or-set_other}
 use borrow.Author.Tests.{eq-eqb, ne_eqb, lt-ltb, le-ltb, lt-leb, le-leb, ltb-true, ltb-false}
 use Rattle.numbers.specs.declared.refusal.Lent.TheVariants as lent
 use Rattle.numbers.specs.Positions.{quantised, dequantised}
@@ -32,7 +34,6 @@ use Rattle.drawn.specs.Tidy.{LinksApart, Tidy}
 use Rattle.drawn.proofs.SeparateLaws.{one_more, inserted_ranges}
 use Rattle.drawn.proofs.Accepted.{by_answer}
 use Rattle.drawn.proofs.TidyStored.{size_start, size_count}
-use Rattle.cells.proofs.Editing.CellStored.{held_at_law}
 
 -- ---- a node
 
@@ -140,14 +141,6 @@ add_junction_tidy m h j values hw hh =
 
 -- ---- a link
 
-pub ranged_count : (s c : ℕ) (w : List ℕ) → c < 256 → link_count (ranged s c w) ≡ c
-unfolding ranged
-ranged_count s c w h = omega arith
-
-pub ranged_start : (s c : ℕ) (w : List ℕ) → link_start (ranged s c w) ≡ s
-unfolding ranged
-ranged_start s c w = refl
-
 module _ (at l : ℕ) (w : List ℕ) where
   shifted_before : link_start w < at → shifted at l w ≡ w
   unfolding shifted
@@ -181,48 +174,25 @@ module _ (n l p : ℕ) (nodes : List (List ℕ)) (place : p < n) (nodes-fit : n 
   abbrev at : ℕ
   at = at_in nodes p l
 
-  abbrev after : List (List ℕ)
-  after = map (shifted at l) (take n nodes) ++ drop n nodes
-
-  moved_long : length (map (shifted at l) (take n nodes)) ≡ n
-  moved_long = length-map (take n nodes) (shifted at l) ∙ length-take-le n nodes nodes-fit
-
-  word_own : get_or (nodes_after n l p nodes) p [] ≡ ranged (at - held_at nodes p l) (held_at nodes p l + 1)
-      (get_or nodes p [])
-  unfolding nodes_after
-  word_own = get_or-set_same after p (ranged (at - held_at nodes p l) (held_at nodes p l + 1) (get_or nodes p [])) []
-      (omega (arith, length-append (map (shifted at l) (take n nodes)) (drop n nodes), moved_long))
-
-  word_other : (q : ℕ) → q < n → (q ≡ p → ⊥) → get_or (nodes_after n l p nodes) q [] ≡ shifted at l (get_or nodes q [])
-  unfolding nodes_after
-  word_other q lt ne =
-      get_or-set_other after p q (ranged (at - held_at nodes p l) (held_at nodes p l + 1) (get_or nodes p [])) [] ne
-      ∙ get_or-append (map (shifted at l) (take n nodes)) (drop n nodes) [] q (omega (arith, moved_long))
-      ∙ held_at_law (shifted at l) n nodes q [] [] lt nodes-fit
-
-  pub after_long : length (nodes_after n l p nodes) ≡ length nodes
-  unfolding nodes_after
-  after_long = length-set after p (ranged (at - held_at nodes p l) (held_at nodes p l + 1) (get_or nodes p []))
-      ∙ length-append (map (shifted at l) (take n nodes)) (drop n nodes)
-      ∙ omega (arith, moved_long, length-drop n nodes)
-
   links_after_law : l < 4294967295 → held_at nodes p l < 255 → LinksApart n l nodes → LinksApart n (l + 1)
       (nodes_after n l p nodes)
   unfolding held_in
   links_after_law few less h =
       let s : ℕ → ℕ = λ q. link_start (get_or nodes q []) in
       let e = held_at nodes p l in
+      let own = word_own n l p nodes place nodes-fit in
+      let other = word_other n l p nodes place nodes-fit in
       inserted_ranges s (λ q. link_count (get_or nodes q []))
       (λ q. link_start (get_or (nodes_after n l p nodes) q []))
       (λ q. link_count (get_or (nodes_after n l p nodes) q [])) n l p at e
       place few refl (behind_none (s p) e l) (behind_some (s p) e l)
-      (ap link_start word_own ∙ ranged_start (at - e) (e + 1) (get_or nodes p []))
-      (ap link_count word_own ∙ ranged_count (at - e) (e + 1) (get_or nodes p []) (omega arith))
-      (λ q lt ne. ap link_count (word_other q lt ne) ∙ shifted_count at l (get_or nodes q []))
-      (λ q lt ne k. ap link_start (word_other q lt ne ∙ shifted_before at l (get_or nodes q []) k))
-      (λ q lt ne k. ap link_start (word_other q lt ne ∙ shifted_outside at l (get_or nodes q []) k))
-      (λ q lt ne a b. ap link_start (word_other q lt ne ∙ shifted_later at l (get_or nodes q []) a b) ∙ ranged_start
-      (s q + 1) (link_count (get_or nodes q [])) (get_or nodes q []))
+      (ap link_start own ∙ ranged_start (at - e) (e + 1) (get_or nodes p []))
+      (ap link_count own ∙ ranged_count (at - e) (e + 1) (get_or nodes p []) (omega arith))
+      (λ q lt ne. ap link_count (other q lt ne) ∙ shifted_count at l (get_or nodes q []))
+      (λ q lt ne k. ap link_start (other q lt ne ∙ shifted_before at l (get_or nodes q []) k))
+      (λ q lt ne k. ap link_start (other q lt ne ∙ shifted_outside at l (get_or nodes q []) k))
+      (λ q lt ne a b. ap link_start (other q lt ne ∙ shifted_later at l (get_or nodes q []) a b)
+      ∙ ranged_start (s q + 1) (link_count (get_or nodes q [])) (get_or nodes q []))
       h
 
 pub inserted_long : {A : Type 0} (at l : ℕ) (x : A) (xs : List A) (d : A) → at ≤ l → l < length xs → length

@@ -1,15 +1,16 @@
 -- A tidy cell is as reading leaves cells, so that write-then-read of it is refused exactly as writing is.
 -- Assumes nothing.
-use Prim.Native.Nat.{ℕ, suc, ◌+◌, ◌*◌, ◌≤◌, ◌<◌}
+use Rattle.cells.proofs.Sequences.Tests.{every_all}
+use Prim.Native.Nat.{ℕ, ◌+◌, ◌*◌, ◌≤◌, ◌<◌}
 use native.Mathlib.Omega.{arith}
 use mathlib.Core.Path.{◌≡◌, refl, ap, sym, ◌∙◌}
-use mathlib.Core.Bool.{Bool, true}
-use mathlib.Core.List.{List, [], ◌∷◌, map}
+use mathlib.Core.Bool.{true}
+use mathlib.Core.List.{List, [], map}
 use lib.Dec.{ltb}
 use lib.ListN.{length, get_or, take, drop, length-take, length-drop}
 use lib.Seq.{length-take-le}
 use borrow.Author.Tests.{eq-eqb, le-ltb, ltb-true, ltb-false}
-use Rattle.cells.specs.Lists.{sum_to, every}
+use Rattle.cells.specs.Lists.{sum_to}
 use Rattle.cells.specs.NodeWords.{link_start, link_count, value_start, value_count}
 use Rattle.cells.specs.Cell.{Node, Junction, no_node, node_at}
 use Rattle.cells.specs.CellOf.{link_of, node_with, junction_with, nodes_of, cell_of}
@@ -27,12 +28,6 @@ use Rattle.cells.specs.StoredCell.{no_junction}
 use Rattle.cells.specs.StoredCell.{junction_at}
 use Rattle.drawn.proofs.Packed.{sum_most, packed}
 use Rattle.drawn.proofs.EditsMean.{nodes_many, junctions_many, junction_is}
-
-every_all : {A : Type 0} (f : A → Bool) (d : A) (l : List A) → ((j : ℕ) → j < length l → f (get_or l j d) ≡ true)
-    → every f l ≡ true
-unfolding every
-every_all f d [] h = refl
-every_all f d (x ∷ xs) h = rw (h 0 (omega arith), every_all f d xs (λ j lt. h (suc j) (omega arith)))
 
 -- a part is no longer than it says, and as long where it lies inside
 part_most : {A : Type 0} (s c : ℕ) (l : List A) → length (take c (drop s l)) ≤ c

@@ -1,14 +1,17 @@
 -- A new cell and an accepted reading are tidy; renumbering and write-then-read leave a tidy cell tidy, accepted or
 -- refused.
 -- Assumes nothing.
+use Rattle.cells.proofs.Renumbering.CellRenumbered.{reordered_long, all_relinked_long}
+use Rattle.cells.proofs.Reading.FileRead.{width_small, height_small}
+use Rattle.cells.proofs.Renumbering.Reordered.{number_length}
+use Rattle.cells.proofs.Renumbering.Placed.{none_ped}
 use Prim.Native.Nat.{ℕ, zero, suc, ◌*◌, ◌/◌, ◌%◌, ◌≤◌, ◌<◌}
 use native.Mathlib.Omega.{arith}
 use native.Mathlib.Nat.{zero-add}
 use mathlib.Core.Path.{◌≡◌, refl, ap, sym, ◌∙◌}
-use mathlib.Core.Bool.{false}
 use mathlib.Core.List.{List, [], ◌∷◌, ◌++◌, map}
 use lib.Dec.{ltb}
-use lib.ListN.{length, get_or, take, drop, length-append, length-map, get_or-append}
+use lib.ListN.{length, get_or, take, drop, length-append, get_or-append}
 use lib.Seq.{length-take-le, get_or-take, get_or_at}
 use borrow.Author.Tests.{ltb-true, ltb-false}
 use Rattle.std.specs.Prelude.{Result, Ok, Err}
@@ -19,7 +22,7 @@ use Rattle.records.specs.declared.root.Root.{Root}
 use Rattle.cells.specs.Lists.{up_to, join_to, sum_to}
 use Rattle.cells.specs.Order.{parted, new_place}
 use Rattle.cells.specs.NodeWords.{link_start, link_count, value_start, value_count, is_ped, numbered, number_from}
-use Rattle.cells.specs.NodeWords.{reordered, old_of, relinked}
+use Rattle.cells.specs.NodeWords.{reordered, old_of}
 use Rattle.cells.specs.Words.{path_node, node_words, path_junction, junction_words}
 use Rattle.cells.specs.Memory.{Memory, memory, over_limit, short}
 use Rattle.cells.specs.NewYnd.{new_ynd}
@@ -89,14 +92,6 @@ count_in n i =
 value_start_in : (j : List ℕ) (i : ℕ) → value_start (junction_in j i) ≡ sum_to (values_at j) i
 unfolding junction_in junction_words path_junction
 value_start_in j i = refl
-
-width_small : (s : List ℕ) (at : ℕ) → (junction_at s at).heightmap_dim_x < 256
-unfolding junction_at
-width_small s at = omega arith
-
-height_small : (s : List ℕ) (at : ℕ) → (junction_at s at).heightmap_dim_y < 256
-unfolding junction_at
-height_small s at = omega arith
 
 value_count_in : (j : List ℕ) (i : ℕ) → value_count (junction_in j i) ≡ values_at j i
 unfolding junction_in junction_words path_junction
@@ -177,15 +172,6 @@ count_numbered : (k : ℕ) (w : List ℕ) → link_count (numbered k w) ≡ link
 unfolding numbered
 count_numbered k w = ap (λ (x : ℕ). x / 65536 % 256) (later w 5)
 
-numbered_long : (k : ℕ) (ws : List (List ℕ)) → length (number_from k ws) ≡ length ws
-unfolding number_from
-numbered_long k [] = refl
-numbered_long k (w ∷ ws) = ap suc (numbered_long (suc k) ws)
-
-none_ped : is_ped [] ≡ false
-unfolding is_ped
-none_ped = refl
-
 module _ (n : ℕ) (nodes : List (List ℕ)) (fits : n ≤ length nodes) where
   abbrev ns : List (List ℕ)
   ns = take n nodes
@@ -203,7 +189,7 @@ module _ (n : ℕ) (nodes : List (List ℕ)) (fits : n ≤ length nodes) where
       let o = from q lt in
       let in_list : q < length (parted is_ped ns) = omega (arith, parted_length ns, long) in
       get_or-append (number_from 0 (parted is_ped ns)) (drop n nodes) [] q
-      (omega (arith, numbered_long 0 (parted is_ped ns)))
+      (omega (arith, number_length 0 (parted is_ped ns)))
       ∙ number_at 0 (parted is_ped ns) q in_list
       ∙ (λ i. numbered (zero-add q i) (get_or (parted is_ped ns) (sym o.back i) []))
       ∙ ap (numbered q) ((new_at ns o.place o.inside).1 ∙ get_or-take n nodes o.place []
@@ -232,30 +218,11 @@ renumbered_tidy m ps h =
     record {
       few_nodes = h.few_nodes;
       few_junctions = h.few_junctions;
-      nodes_lie = omega (
-        arith,
-        length-append (number_from 0 (parted is_ped ws)) (drop n m.nodes),
-        numbered_long 0
-            (parted is_ped ws),
-        parted_length ws,
-        length-take-le n m.nodes h.nodes_lie,
-      );
-      links_lie = omega (
-        arith,
-        length-append (map (relinked o) (take l m.links)) (drop l m.links),
-        length-map
-            (take l m.links) (relinked o),
-        length-take-le l m.links h.links_lie,
-      );
+      nodes_lie = omega (arith, reordered_long n m.nodes h.nodes_lie, h.nodes_lie);
+      links_lie = omega (arith, all_relinked_long o l m.links h.links_lie, h.links_lie);
       junctions_lie = h.junctions_lie;
       values_lie = h.values_lie;
-      refs_lie = omega (
-        arith,
-        length-append (map (relinked o) (take r m.refs)) (drop r m.refs),
-        length-map
-            (take r m.refs) (relinked o),
-        length-take-le r m.refs h.refs_lie,
-      );
+      refs_lie = omega (arith, all_relinked_long o r m.refs h.refs_lie, h.refs_lie);
       links_apart = reordered_apart n m.nodes h.nodes_lie l h.links_apart;
       values_apart = h.values_apart;
     }

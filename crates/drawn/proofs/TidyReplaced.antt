@@ -2,7 +2,7 @@
 -- Assumes nothing.
 use Prim.Native.Nat.{ℕ, zero, suc, ◌+◌, ◌-◌, ◌*◌, ◌≤◌, ◌<◌}
 use native.Mathlib.Omega.{arith}
-use mathlib.Core.Path.{◌≡◌, refl, ap, sym, ◌∙◌}
+use mathlib.Core.Path.{◌≡◌, ap, sym, ◌∙◌}
 use mathlib.Core.Logic.{◌⊎◌, inl, inr}
 use mathlib.Core.List.{List, []}
 use lib.Dec.{leb}
@@ -29,8 +29,7 @@ use Rattle.cells.proofs.Editing.Replacing.{cleared, pool_grows}
 use Rattle.drawn.specs.Tidy.{Tidy}
 use Rattle.drawn.proofs.SeparateLaws.{fewer_ranges, range_replaced}
 use Rattle.drawn.proofs.Accepted.{by_answer}
-use Rattle.drawn.proofs.TidyAdded.{ranged_count, ranged_start}
-use Rattle.cells.proofs.Forms.Entries.{low8, high8}
+use Rattle.cells.proofs.Editing.CellReplaced.{ranged_count, ranged_start, mapped_count, mapped_start}
 
 -- ---- the cell's own words
 
@@ -168,15 +167,6 @@ put_links_tidy m h p new =
           h.links_apart;
       values_apart = h.values_apart;
     })
-
-mapped_start : (width height s : ℕ) (w : List ℕ) → value_start (mapped width height s w) ≡ s
-unfolding mapped
-mapped_start width height s w = refl
-
-mapped_count : (width height s : ℕ) (w : List ℕ) → width < 256 → height < 256
-    → value_count (mapped width height s w) ≡ width * height
-unfolding mapped
-mapped_count width height s w hw hh = λ i. low8 width height hw i * high8 width height hw hh i
 
 pub put_heightmap_tidy : (m : Memory) → Tidy m → (p width height : ℕ) (values : List ℕ) → width < 256 → height < 256
     → Tidy (put_heightmap m p width height values).memory

@@ -18,7 +18,7 @@ use Rattle.numbers.specs.declared.refusal.Lent.{Lent}
 use Rattle.numbers.specs.declared.refusal.Lent.TheVariants as lent
 use Rattle.records.specs.Put.{put}
 use Rattle.cells.specs.NodeWords.{link_start, link_count, value_start, value_count, first_area}
-use Rattle.cells.specs.Memory.{Memory, over_limit, short}
+use Rattle.cells.specs.Memory.{Memory, over_limit, short, nodes_causes}
 use Rattle.cells.specs.Edit.{entry_at, range_entry, sized_entry, held_in, node_entry, link_entry, ref_entry}
 use Rattle.cells.specs.Edit.{junction_entry, height_entry}
 use Rattle.cells.specs.AddLink.{room_for_link}
@@ -252,17 +252,17 @@ module _ (m : Memory) (h : Tidy m) where
   -- ---- lookups, `sound`, `walk` and what a walk shows
 
   pub area_id_fits : area_id_call m.ynd m.nodes ≡ Ok (area_of_first (take m.ynd.node_count m.nodes))
-  unfolding area_id_call
+  unfolding area_id_call nodes_causes
   area_id_fits = rw (never_over, le-ltb (length m.nodes) m.ynd.node_count h.nodes_lie) refl
 
   pub node_fits : (k : ℕ) → node_call m.ynd m.nodes k ≡ Ok (find_in m.ynd.node_count m.nodes k)
-  unfolding node_call
+  unfolding node_call nodes_causes
   node_fits k = rw (never_over, le-ltb (length m.nodes) m.ynd.node_count h.nodes_lie) refl
 
   pub junction_of_fits : (a k : ℕ) → junction_of_call m.ynd m.nodes m.refs a k
       ≡ Ok (below m.ynd.junction_count
       (place_of (ref_in (first_area (take m.ynd.node_count m.nodes)) (take m.ynd.ref_count m.refs) a k)))
-  unfolding junction_of_call
+  unfolding junction_of_call nodes_causes
   junction_of_fits a k =
       rw (
         never_over,
@@ -308,7 +308,7 @@ module _ (m : Memory) (h : Tidy m) where
   pub shown_junction_fits : (p : ℕ) → shown_junction m p
       ≡ refuse_if (leb m.ynd.junction_count p) NoSuchPlace (or_none (get_elem? (cell_of m).junctions p))
   unfolding shown_junction
-  shown_junction_fits p = rw (never_over, le-ltb (length m.junctions) m.ynd.junction_count h.junctions_lie) refl
+  shown_junction_fits p = rw (junction_entry_fits p) (by_test (leb m.ynd.junction_count p) (λ t. rw t) (λ f. rw f))
 
   -- 7 at 3 only where the list for the values is too short
   pub shown_values_fits : (p : ℕ) (old : List ℕ) → shown_values m p old
@@ -316,11 +316,10 @@ module _ (m : Memory) (h : Tidy m) where
       (cond (ltb (length old) (length (values_at m p))) (values_left (Err (TooShort lent.Heightmap)) old)
       (values_left (Ok (length (values_at m p))) (put old 0 (values_at m p))))
   unfolding shown_values
-  shown_values_fits p old = rw (
-    never_over,
-    le-ltb (length m.junctions) m.ynd.junction_count h.junctions_lie,
-    le-ltb (length m.heights) m.ynd.heightmap_count h.values_lie,
-  ) refl
+  shown_values_fits p old =
+      rw (junction_entry_fits p, le-ltb (length m.heights) m.ynd.heightmap_count h.values_lie)
+      (by_test (leb m.ynd.junction_count p) (λ t. rw t) (λ f.
+      by_test (ltb (length old) (length (values_at m p))) (λ t. rw (f, t)) (λ g. rw (f, g))))
 
   pub shown_link_fits : (p b : ℕ) → shown_link m p b
       ≡ refuse_if (leb m.ynd.node_count p) NoSuchPlace (or_no_link (body_of (link_at (cell_of m).nodes p b)))

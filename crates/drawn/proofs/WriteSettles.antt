@@ -1,22 +1,21 @@
 -- Write-then-read of any made cell leaves it settled: coordinates in whole steps, of flags5 the low three bits. It is
 -- so from then on.
-use Prim.Native.Nat.{ℕ, suc, ◌%◌, ◌≤◌, ◌^◌}
+use Rattle.cells.proofs.WritingBack.Kept.{step_again}
+use Rattle.std.proofs.lemmas.Bool.{and_from}
+use Prim.Native.Nat.{ℕ, ◌%◌, ◌≤◌}
 use native.Mathlib.Omega.{arith}
 use mathlib.Core.Path.{◌≡◌, refl, sym, ap, ◌∙◌}
-use mathlib.Core.Bool.{Bool, true, false}
-use mathlib.Core.List.{List, [], ◌∷◌, map}
-use lib.Dec.{T, eqb}
+use mathlib.Core.Bool.{Bool, true}
+use mathlib.Core.List.{List, [], ◌∷◌, map, map-map}
+use lib.Dec.{eqb}
 use lib.ListN.{length, take}
-use lib.IntN.{ℤ, pos, negsuc}
-use lib.Ieee.{Float, binary32, fits, of_bits, to_bits}
-use lib.Ieee.Bits.{of_bits-to_bits}
-use lib.Ieee.Fits.{round-fits}
+use lib.Ieee.{Float, binary32, of_bits, to_bits}
 use borrow.Author.Tests.{eq-eqb, eqb-true}
 use Rattle.std.specs.Prelude.{Result, Ok, Err}
 use Rattle.numbers.specs.Refusals.{Answer}
 use Rattle.numbers.specs.declared.refusal.Refusal.{Refusal}
 use Rattle.numbers.specs.Steps.{step_of, unstep}
-use Rattle.numbers.proofs.StepLaws.{round_trip, step_in}
+use Rattle.numbers.proofs.StepLaws.{step_in}
 use Rattle.numbers.proofs.Refusing.{not_refused}
 use Rattle.records.specs.declared.root.Root.{Root}
 use Rattle.cells.specs.Lists.{every}
@@ -41,12 +40,11 @@ use Rattle.cells.proofs.WritingBack.SectionBack.{stored_root}
 use Rattle.cells.proofs.WritingBack.AsRead.{whole_map}
 use Rattle.drawn.specs.Settled.{settled_step, settled_marks, settled_node, settled_junction, settled}
 use Rattle.drawn.specs.Made.{fitted_node, fitted_junction, fitted, stored_node, stored_junction}
-use Rattle.drawn.proofs.FittedCells.{both, fitted_parts, fitted_all, all_kept}
+use Rattle.drawn.proofs.FittedCells.{fitted_parts, fitted_all, all_kept}
 use Rattle.drawn.proofs.TidyAsRead.{tidy_as_read, tidy_writes_alike}
 use Rattle.drawn.specs.Made.{Made}
 use Rattle.drawn.proofs.BlocksSettled.{nodes_settled, junctions_settled}
 use Rattle.drawn.specs.Made.{stored}
-use Rattle.drawn.proofs.SettledWalks.{map_map}
 
 -- ---- the section that was written, read
 
@@ -66,9 +64,9 @@ module _ (h : Memory) (told : Told h) (t : fitted (whole_of h) ≡ true)
       let t₃ = and_right (is_word h.ynd.vft) _ t₂ in
       λ i. record {
         nodes = (nodes_settled h.links h.nodes told.nodes_told f.nodes ∙ sym
-            (map_map settled_node (node_with (map link_of h.links)) h.nodes)) i;
+            (map-map settled_node (node_with (map link_of h.links)) h.nodes)) i;
         junctions = (junctions_settled h.heights h.junctions told.junctions_told f.junctions maps ∙ sym
-            (map_map settled_junction (junction_with h.heights) h.junctions)) i;
+            (map-map settled_junction (junction_with h.heights) h.junctions)) i;
         refs = refs_back h.refs f.refs i;
         vehicles = whole h.ynd.vehicle_node_count (and_left _ _ f.root) i;
         peds = whole h.ynd.ped_node_count (and_left _ _ t₁) i;
@@ -114,25 +112,17 @@ written_settles m h s n e = let a = (tidy_writes_alike m h.tidy s).0 ∙ e in (a
 
 -- ---- once settled, settled
 
-unstep_fits : (k : ℕ) (z : ℤ) → T (fits binary32 (unstep k z))
-unfolding unstep
-unstep_fits k (pos n) = round-fits binary32 false n (2 ^ k)
-unstep_fits k (negsuc n) = round-fits binary32 true (suc n) (2 ^ k)
-
 -- a stored coordinate, stored again
-step_again : (k : ℕ) (x : Float) → k ≤ 5 → settled_step k (to_bits binary32 (unstep k (step_of k x)))
+step_twice_law : (k : ℕ) (x : Float) → k ≤ 5 → settled_step k (to_bits binary32 (unstep k (step_of k x)))
     ≡ to_bits binary32 (unstep k (step_of k x))
-step_again k x h =
-    ap (λ (y : Float). to_bits binary32 (unstep k (step_of k y)))
-    (of_bits-to_bits binary32 (unstep k (step_of k x)) (unstep_fits k (step_of k x)))
-    ∙ ap (λ (z : ℤ). to_bits binary32 (unstep k z)) (round_trip k (step_of k x) h (step_in k x))
+step_twice_law k x h = step_again k (step_of k x) h (step_in k x)
 
 pub step_stored : (k : ℕ) (x : Float) → k ≤ 5 → kept_step k (to_bits binary32 (unstep k (step_of k x))) ≡ true
 unfolding kept_step
-step_stored k x h = eq-eqb _ _ (step_again k x h)
+step_stored k x h = eq-eqb _ _ (step_twice_law k x h)
 
 pub step_twice : (k b : ℕ) → k ≤ 5 → settled_step k (settled_step k b) ≡ settled_step k b
-step_twice k b h = step_again k (of_bits binary32 b) h
+step_twice k b h = step_twice_law k (of_bits binary32 b) h
 
 step_kept : (k b : ℕ) → k ≤ 5 → kept_step k (settled_step k b) ≡ true
 unfolding kept_step
@@ -148,22 +138,22 @@ every_made : {A B : Type 0} (f : B → Bool) (g : A → B) → ((x : A) → f (g
     ≡ true
 unfolding every
 every_made f g e [] = refl
-every_made f g e (x ∷ xs) = both (f (g x)) (every f (map g xs)) (e x) (every_made f g e xs)
+every_made f g e (x ∷ xs) = and_from (f (g x)) (every f (map g xs)) (e x) (every_made f g e xs)
 
 pub settled_stored : (c : Cell) → stored (settled c) ≡ true
 unfolding stored settled
-settled_stored c = both _ _ (every_made stored_node settled_node node c.nodes)
+settled_stored c = and_from _ _ (every_made stored_node settled_node node c.nodes)
     (every_made stored_junction settled_junction junction c.junctions)
   where
     node : (n : Node) → stored_node (settled_node n) ≡ true
     node n =
-        both _ _ (step_kept 2 n.body.position.x two)
-        (both _ _ (step_kept 2 n.body.position.y two) (both _ _ (step_kept 5 n.body.position.z five)
+        and_from _ _ (step_kept 2 n.body.position.x two)
+        (and_from _ _ (step_kept 2 n.body.position.y two) (and_from _ _ (step_kept 5 n.body.position.z five)
         (eq-eqb (n.body.marks.flags5 % 8 % 8) (n.body.marks.flags5 % 8) (omega arith))))
 
     junction : (j : Junction) → stored_junction (settled_junction j) ≡ true
-    junction j = both _ _ (step_kept 2 j.x two)
-        (both _ _ (step_kept 2 j.y two) (both _ _ (step_kept 5 j.low five) (step_kept 5 j.high five)))
+    junction j = and_from _ _ (step_kept 2 j.x two)
+        (and_from _ _ (step_kept 2 j.y two) (and_from _ _ (step_kept 5 j.low five) (step_kept 5 j.high five)))
 
 pub settled_fitted : (c : Cell) → fitted c ≡ true → fitted (settled c) ≡ true
 unfolding settled
@@ -188,9 +178,9 @@ settled_kept m h = all_kept (settled (cell_of m)) (settled_fitted (cell_of m) h.
 pub settled_twice : (c : Cell) → settled (settled c) ≡ settled c
 unfolding settled
 settled_twice c = λ i. record {
-  nodes = (map_map settled_node settled_node c.nodes ∙ each
+  nodes = (map-map settled_node settled_node c.nodes ∙ each
       (λ n. settled_node (settled_node n)) settled_node node c.nodes) i;
-  junctions = (map_map settled_junction settled_junction c.junctions ∙ each
+  junctions = (map-map settled_junction settled_junction c.junctions ∙ each
       (λ j. settled_junction (settled_junction j)) settled_junction junction c.junctions) i;
   refs = c.refs;
   vehicles = c.vehicles;

@@ -1,24 +1,19 @@
 -- Whatever list of calls a cell has been through since it was read, write-then-read is refused exactly as writing is:
 -- every such cell is a made one. Assumes nothing.
+use Rattle.drawn.proofs.RawDemand.{made_after}
 use Prim.Native.Nat.{ℕ}
 use mathlib.Core.Path.{◌≡◌}
 use mathlib.Core.List.{List, [], ◌∷◌}
 use Rattle.std.specs.Prelude.{Ok}
 use Rattle.cells.specs.Memory.{Memory}
 use Rattle.cells.specs.Read.{read_of}
-use Rattle.walks.specs.Calls.{Call, renumbering, write_read, after, run}
+use Rattle.walks.specs.Calls.{Call, after, run}
 use Rattle.walks.specs.Writing.{WritesAlike}
 use Rattle.drawn.specs.Changes as drawn
 use Rattle.drawn.specs.Fits.{AllFit}
 use Rattle.drawn.specs.Made.{Made}
-use Rattle.drawn.proofs.Made.{change_made, drawn_read}
+use Rattle.drawn.proofs.Made.{drawn_read}
 use Rattle.drawn.proofs.DrawnDemand.{made_writes_alike}
-
--- each call on a cell is one of the changes
-made_after : (m : Memory) (k : Call) → Made m → Made (after m k)
-unfolding after drawn.after
-made_after m (renumbering s ps) h = change_made m h (drawn.renumbering s ps) tt
-made_after m (write_read s) h = change_made m h (drawn.write_read s) tt
 
 made_run : (m : Memory) (ks : List Call) → Made m → Made (run m ks)
 unfolding run

@@ -34,7 +34,8 @@ use Rattle.drawn.specs.Changes.{Change, new, edit, edited, after, run}
 use Rattle.drawn.specs.Changes.{add_node}
 use Rattle.drawn.specs.Changes.{add_link}
 use Rattle.drawn.specs.Settled.{settled_marks}
-use Rattle.drawn.specs.Meaning.{new_cell, is_accepted, run_cell}
+use Rattle.drawn.specs.Meaning.{is_accepted, run_cell}
+use Rattle.cells.specs.NewYnd.{new_cell}
 use Rattle.drawn.specs.Fits.{AllFit}
 use Rattle.drawn.specs.Made.{AllStored}
 use Rattle.drawn.proofs.StoredDrawing.{yard_demand_3}

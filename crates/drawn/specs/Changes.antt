@@ -11,7 +11,7 @@ use Rattle.cells.specs.NewYnd.{new_ynd}
 use Rattle.cells.specs.Read.{read_of}
 use Rattle.cells.specs.Renumber.{renumber}
 use Rattle.cells.specs.WriteRead.{write_read_of}
-use Rattle.cells.specs.Edit.{Stored}
+use Rattle.cells.specs.Edit.{nodes_left, links_left, junctions_left, heights_left, refs_left}
 use Rattle.cells.specs.Edit as stores
 use Rattle.cells.specs.Add as adds
 use Rattle.cells.specs.AddLink as links
@@ -60,21 +60,6 @@ pub data Change : Type 0 where
 -- ---- what they leave
 
 -- a call that changes one list alone, and no count
-abbrev pub nodes_left : Memory → Stored (List ℕ) → Left
-nodes_left m s = record { answer = s.answer; memory = memory m.ynd s.list m.links m.junctions m.heights m.refs }
-
-abbrev pub links_left : Memory → Stored (List ℕ) → Left
-links_left m s = record { answer = s.answer; memory = memory m.ynd m.nodes s.list m.junctions m.heights m.refs }
-
-abbrev pub junctions_left : Memory → Stored (List ℕ) → Left
-junctions_left m s = record { answer = s.answer; memory = memory m.ynd m.nodes m.links s.list m.heights m.refs }
-
-abbrev pub heights_left : Memory → Stored ℕ → Left
-heights_left m s = record { answer = s.answer; memory = memory m.ynd m.nodes m.links m.junctions s.list m.refs }
-
-abbrev pub refs_left : Memory → Stored (List ℕ) → Left
-refs_left m s = record { answer = s.answer; memory = memory m.ynd m.nodes m.links m.junctions m.heights s.list }
-
 -- what an edit answers, and the memory after it
 unfoldable pub edited : Memory → Edit → Left
 edited m (add_node area at) = adds.add_node m area at

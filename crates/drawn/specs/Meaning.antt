@@ -5,7 +5,7 @@ use Rattle.numbers.specs.Positions.{quantised, dequantised}
 use Rattle.cells.specs.declared.link.PathLink.{PathLink}
 use Rattle.cells.specs.Memory.{Memory}
 use Rattle.cells.specs.NodeAccess.{new_node}
-use Rattle.cells.specs.NewYnd.{new_ynd}
+use Rattle.cells.specs.NewYnd.{new_cell}
 use Rattle.cells.specs.Cell.{Link, Cell, node_at, renumber_cell}
 use Rattle.cells.specs.StoredCell.{junction_at, links_put, heightmap_put}
 use Rattle.cells.specs.StoredCell.{vft_put, vehicles_put, peds_put, unknowns_put}
@@ -74,18 +74,6 @@ edit_cell (set_vft v) c = vft_put v c
 edit_cell (set_vehicle_node_count v) c = vehicles_put v c
 edit_cell (set_ped_node_count v) c = peds_put v c
 edit_cell (set_unknowns words) c = unknowns_put words c
-
--- a cell that holds nothing, with the root's own words as `Ynd::new` sets them
-abbrev pub new_cell : Cell
-new_cell = record {
-  nodes = [];
-  junctions = [];
-  refs = [];
-  vehicles = 0;
-  peds = 0;
-  vft = new_ynd.vft;
-  words = new_ynd.unknowns;
-}
 
 abbrev pub change_cell : Change → Cell → Cell
 change_cell new c = new_cell

@@ -1,5 +1,6 @@
 -- What the first write-then-read makes of a cell: coordinates in whole steps (section 3), of flags5 the low three bits
 -- (section 4); all else is as it was. And what a walk of it shows.
+use Rattle.cells.specs.EditedCell.{with_lists}
 use Rattle.std.specs.Prelude.{ℕ, ◌%◌, map}
 use Rattle.std.specs.Float.{binary32}
 use Rattle.std.specs.Float.Ieee.{of_bits, to_bits}
@@ -51,15 +52,7 @@ settled_junction j = record {
 }
 
 unfoldable pub settled : Cell → Cell
-settled c = record {
-  nodes = map settled_node c.nodes;
-  junctions = map settled_junction c.junctions;
-  refs = c.refs;
-  vehicles = c.vehicles;
-  peds = c.peds;
-  vft = c.vft;
-  words = c.words;
-}
+settled c = with_lists (map settled_node c.nodes) (map settled_junction c.junctions) c.refs c
 
 -- ---- what a walk then shows: the same places, links and end, each node and junction settled
 

@@ -1,29 +1,28 @@
 -- What a set's calls make of one member: a cell that joined, one whose links were corrected, one with other words of
 -- its own. Assumes nothing.
+use Rattle.sets.proofs.KeptSet.{link_kept}
 use Prim.Native.Nat.{ℕ, ◌+◌, ◌-◌, ◌≤◌, ◌<◌}
 use native.Mathlib.Omega.{arith}
 use mathlib.Core.Path.{◌≡◌, refl, ap, ◌∙◌}
-use mathlib.Core.Bool.{Bool, true, false, cond}
+use mathlib.Core.Bool.{true}
 use mathlib.Core.List.{List, [], ◌∷◌, map}
-use lib.Dec.{ltb}
 use lib.ListN.{length, get_or, take, drop, length-append, length-map, get_or-append}
 use lib.Seq.{get_or-take, length-take-le}
-use borrow.Author.Tests.{lt-ltb, ltb-true, eqb-true}
+use borrow.Author.Tests.{eqb-true}
 use Rattle.cells.specs.Memory.{Memory}
-use Rattle.cells.specs.declared.count.Counts.{Counts}
-use Rattle.cells.specs.Cell.{Link, Cell}
+use Rattle.cells.specs.declared.counts.Counts.{Counts}
+use Rattle.cells.specs.Cell.{Cell}
 use Rattle.cells.specs.CellOf.{cell_of}
 use Rattle.cells.specs.Renumber.{over}
-use Rattle.cells.specs.Order.{new_number}
 use Rattle.cells.specs.OwnWords.{with_own}
 use Rattle.cells.specs.Truncate.{counted}
-use Rattle.cells.proofs.Sequences.Tests.{and_left, and_right, every_map}
+use Rattle.cells.proofs.Sequences.Tests.{and_left, every_map}
 use Rattle.cells.proofs.WritingBack.KeptCells.{kept_link}
 use Rattle.sets.specs.Members.{cell_at}
 use Rattle.sets.specs.MemberList.{cells_of, member_at}
 use Rattle.sets.specs.CellSet.{CellSet}
 use Rattle.sets.specs.Join.{part_of_cell, joined_member}
-use Rattle.sets.specs.SetRenumber.{Change, meant, corrected, correct_link, correct_node, correct_cell, change_of}
+use Rattle.sets.specs.SetRenumber.{Change, correct_link, correct_node, correct_cell, change_of}
 use Rattle.sets.specs.SetRenumber.{correct_memory, correct_words}
 use Rattle.sets.proofs.SetMemory.{correct_memory_law, cell_at_law}
 use Rattle.drawn.specs.Made.{Made, fitted, fitted_node}
@@ -31,8 +30,9 @@ use Rattle.drawn.specs.Changes.{edit, set_vft, set_vehicle_node_count, set_ped_n
 use Rattle.drawn.specs.Changes.{after, run}
 use Rattle.drawn.specs.Fits.{AllFit}
 use Rattle.drawn.proofs.FrontTidy.{front_tidy}
-use Rattle.drawn.proofs.FittedCells.{both, fitted_parts, fitted_all}
-use Rattle.drawn.proofs.Fitted.{new_small, root_parts}
+use Rattle.drawn.proofs.FittedCells.{fitted_parts, fitted_all}
+use Rattle.drawn.proofs.Fitted.{root_parts}
+use Rattle.cells.proofs.WritingBack.Kept.{new_small}
 use Rattle.drawn.proofs.EditsMean.{nodes_many}
 use Rattle.drawn.proofs.Made.{run_made}
 use Rattle.drawnsets.specs.AllMade.{WordsFit}
@@ -83,21 +83,13 @@ module _ (cs : List Cell) (j : ℕ) (few : length (cell_at cs j).nodes ≤ 65536
   abbrev x : Change
   x = change_of cs j
 
-  link_corrected : (l : Link) → kept_link l ≡ true → kept_link (correct_link x i l) ≡ true
-  unfolding corrected
-  link_corrected l t = both (ltb l.area 65536) (ltb (corrected x i l.area l.number) 65536) (and_left _ _ t)
-      (go (meant x i l.area) (and_right (ltb l.area 65536) _ t))
-    where
-      go : (b : Bool) → ltb l.number 65536 ≡ true → ltb (cond b (new_number x.old l.number) l.number) 65536 ≡ true
-      go true s = lt-ltb _ _ (new_small (cell_at cs j).nodes l.number few (ltb-true l.number 65536 s))
-      go false s = s
-
   cell_corrected : (c : Cell) → fitted c ≡ true → fitted (correct_cell x i c) ≡ true
   cell_corrected c t =
       let f = fitted_parts c t in
+      let kept = link_kept x (λ k. new_small (cell_at cs j).nodes k few) i in
       fitted_all (correct_cell x i c) (record {
         nodes = every_map fitted_node (correct_node x i) fitted_node
-            (λ n a. every_map kept_link (correct_link x i) kept_link link_corrected n.links a) c.nodes f.nodes;
+            (λ n a. every_map kept_link (correct_link x i) kept_link kept n.links a) c.nodes f.nodes;
         junctions = f.junctions;
         refs = f.refs;
         root = f.root;

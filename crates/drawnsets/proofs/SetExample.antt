@@ -24,7 +24,8 @@ use Rattle.sets.specs.MemberList.{nodes_together, any_over, over_set}
 use Rattle.sets.specs.CellSet.{CellSet, cell_set, words_at, total, ynd_of, parts_of, parts_in, members_of}
 use Rattle.sets.specs.CellSet.{holds_list, lack_of, set_causes}
 use Rattle.sets.specs.Leave.{first_of_area, leave_causes, leave_area}
-use Rattle.sets.specs.Join.{per_list, part_fits, lack_for, join_causes, stored, with_cell, join_cell}
+use Rattle.sets.specs.Join.{part_fits, lack_for, join_causes, stored, with_cell, join_cell}
+use Rattle.cells.specs.Memory.{per_list}
 use Rattle.sets.specs.SetStored.{member_in, ask_causes, with_member}
 use Rattle.sets.specs.MemberEdit.{edit_by, add_causes}
 use Rattle.drawn.specs.Changes.{add_node, edited}

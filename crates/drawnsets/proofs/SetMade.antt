@@ -15,7 +15,7 @@ use Rattle.numbers.specs.declared.refusal.Refusal.{Refusal}
 use Rattle.numbers.specs.declared.refusal.Refusal.TheVariants.{NoSuchPlace}
 use Rattle.numbers.proofs.Refusing.{not_refused}
 use Rattle.cells.specs.Memory.{Memory, Left}
-use Rattle.cells.specs.declared.count.Counts.{Counts}
+use Rattle.cells.specs.declared.counts.Counts.{Counts}
 use Rattle.cells.specs.Renumber.{renumber}
 use Rattle.cells.specs.WriteRead.{write_read_of}
 use Rattle.cells.specs.CellOf.{cell_of}

@@ -9,7 +9,8 @@ use Rattle.sets.specs.HandBack.{hand_back}
 use Rattle.sets.specs.SetSound.{set_sound}
 use Rattle.sets.specs.SetCalls.{SetCall}
 use Rattle.sets.specs.SetClaim.{SetUnnoticed}
-use Rattle.sets.specs.SetCallsClaim.{cells_in, CallsUnnoticed}
+use Rattle.sets.specs.SetCallsClaim.{CallsUnnoticed}
+use Rattle.sets.specs.CellSet.{cells_in}
 use Rattle.sets.specs.SetStored.{member_in}
 use Rattle.drawn.specs.Made.{Made, stored}
 use Rattle.drawnsets.specs.SetChanges.{SetChange, run}

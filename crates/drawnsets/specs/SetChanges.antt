@@ -3,7 +3,7 @@
 use Rattle.std.specs.Prelude.{ℕ, List, [], ◌∷◌, ◌++◌, length}
 use Rattle.numbers.specs.Refusals.{Cause}
 use Rattle.cells.specs.Memory.{Memory}
-use Rattle.cells.specs.declared.count.Counts.{Counts}
+use Rattle.cells.specs.declared.counts.Counts.{Counts}
 use Rattle.sets.specs.CellSet.{CellSet, cell_set}
 use Rattle.sets.specs.SetStored.{ask_causes}
 use Rattle.sets.specs.SetCallLaws.{joined_set, left_set}

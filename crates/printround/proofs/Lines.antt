@@ -1,4 +1,5 @@
 -- The lines of a round, one by one.
+use Rattle.cells.specs.Words.{to_node}
 use Prim.Native.Nat.{ℕ, zero, suc, ◌+◌, ◌<◌, ◌≤◌}
 use native.Mathlib.Numerals.{add-one}
 use mathlib.Core.Path.{◌≡◌, refl, sym, ap, ◌∙◌}
@@ -8,7 +9,8 @@ use Rattle.std.proofs.Common.{append_assoc, append-nil}
 use Rattle.std.proofs.lemmas.List.{drop_all, drop_more}
 use Rattle.cells.specs.NodeWords.{number_of, first_area}
 use Rattle.cells.specs.Cell.{Link, Node, node_at, no_node, no_body, first_of}
-use Rattle.cells.specs.CellOf.{node_with, body_of}
+use Rattle.cells.specs.CellOf.{node_with}
+use Rattle.cells.specs.Cell.{body_of}
 use Rattle.walks.specs.declared.walk.End.{End}
 use Rattle.printround.specs.Text.{steps_of, line_of, lines_of, head_of, end_of, round_of}
 
@@ -20,7 +22,7 @@ first_area_law links (w ∷ ws) = refl
 -- a node's line does not go by its links, and where there is no node it is that of zeros
 line_words : (links : List Link) (ws : List (List ℕ)) (p k : ℕ)
     → line_of k (node_with [] (get_or ws p (replicate 13 0))) ≡ line_of k (node_at (map (node_with links) ws) p)
-unfolding line_of steps_of no_node no_body body_of number_of
+unfolding line_of steps_of no_node no_body body_of to_node number_of
 line_words links [] p k = refl
 line_words links (w ∷ ws) zero k = refl
 line_words links (w ∷ ws) (suc p) k = line_words links ws p k

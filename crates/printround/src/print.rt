@@ -47,14 +47,8 @@ fn followed(
     match walked {
         Ok(walk) => {
             visited.truncate(walk.count);
-            round(
-                alloc,
-                nodes,
-                ynd.node_count as usize,
-                round_file.count,
-                walk.end,
-                visited.as_slice(),
-            )
+            let own = &nodes[..(ynd.node_count as usize).min(nodes.len())];
+            round(alloc, own, round_file.count, walk.end, visited.as_slice())
         }
         Err(refusal) => refused(alloc, refusal.number()),
     }

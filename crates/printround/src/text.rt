@@ -1,5 +1,5 @@
 // The lines of a printed round.
-ghost use Rattle.std.specs.Prelude.{◌≡◌, IfOk, List, [], map, take, get_or, replicate, string_bytes};
+ghost use Rattle.std.specs.Prelude.{◌≡◌, IfOk, List, [], map, get_or, replicate, string_bytes};
 ghost use Rattle.numbers.specs.Positions.{quantised};
 ghost use Rattle.cells.specs.Cell.{Link};
 ghost use Rattle.cells.specs.CellOf.{node_with};
@@ -63,25 +63,21 @@ fn line(alloc: Global, k: usize, w: NodeWords) -> Result<String, AllocError>
     line_with(alloc, k, number_of(w), steps_of(w))
 }
 
-// The words of the node at a place of the first n, zeros where there is none.
-fn words_at(nodes: &[NodeWords], n: usize, p: usize) -> NodeWords
-    ensures { result ≡ get_or (take n nodes.now) p (replicate 13 0) }
+// The words of the node at a place, zeros where there is none.
+fn words_at(nodes: &[NodeWords], p: usize) -> NodeWords
+    ensures { result ≡ get_or nodes.now p (replicate 13 0) }
 {
-    if p < n && p < nodes.len() {
-        nodes[p]
-    } else {
-        [0; 13]
-    }
+    nodes.get(p).copied().unwrap_or([0; 13])
 }
 
-// A line for each place of the first n nodes, whatever their links.
-fn lines(alloc: Global, nodes: &[NodeWords], n: usize, places: &[u32]) -> Result<String, AllocError>
+// A line for each place, whatever the nodes' links.
+fn lines(alloc: Global, nodes: &[NodeWords], places: &[u32]) -> Result<String, AllocError>
     ensures { IfOk result (λ text. (links : List Link)
-        → string_bytes text ≡ lines_of (map (node_with links) (take n nodes.now)) 0 places.now) }
+        → string_bytes text ≡ lines_of (map (node_with links) nodes.now) 0 places.now) }
 {
     let mut text = String::new(alloc);
     for (k, p) in places.iter().enumerate() {
-        let w = words_at(nodes, n, *p as usize);
+        let w = words_at(nodes, *p as usize);
         let next = line(alloc, k, w)?;
         text.push_str(next.as_str())?;
     }
@@ -92,17 +88,16 @@ fn lines(alloc: Global, nodes: &[NodeWords], n: usize, places: &[u32]) -> Result
 pub(crate) fn round(
     alloc: Global,
     nodes: &[NodeWords],
-    n: usize,
     choices: usize,
     end: End,
     places: &[u32],
 ) -> Result<String, AllocError>
     ensures { IfOk result (λ text. (links : List Link)
-        → string_bytes text ≡ round_of (map (node_with links) (take n nodes.now)) choices end places.now) }
+        → string_bytes text ≡ round_of (map (node_with links) nodes.now) choices end places.now) }
 {
-    let area = own_area(nodes, n);
+    let area = own_area(nodes, nodes.len());
     let mut text = head(alloc, area, choices)?;
-    let visited = lines(alloc, nodes, n, places)?;
+    let visited = lines(alloc, nodes, places)?;
     let last = end_line(alloc, end)?;
     text.push_str(visited.as_str())?;
     text.push_str(last.as_str())?;

@@ -1,6 +1,6 @@
 // T-09: walks that cross the members of a set, and members renumbered between them.
 use crate::parts::{after, agrees, ended, first, upto, upto_mut};
-use cells::count::Counts;
+use cells::counts::Counts;
 use cells::link::LinkWords;
 use cells::node::{NodeWords, PathNode};
 use cells::ynd::Ynd;
@@ -22,16 +22,11 @@ struct Set {
 
 // The first of some nodes: its number, flags1, where its links start, and how many they are.
 fn node_at(b: &[u8], area_id: u16) -> NodeWords {
-    let at = Vec3 {
-        x: 0.0,
-        y: 0.0,
-        z: 0.0,
-    };
     NodeWords::from(PathNode {
         flags1: byte_at(b, 1),
         link_id: byte_at(b, 2) as u32,
         link_count: byte_at(b, 3),
-        ..PathNode::new(area_id, byte_at(b, 0) as u16, at)
+        ..PathNode::new(area_id, byte_at(b, 0) as u16, Vec3::default())
     })
 }
 
@@ -90,9 +85,11 @@ fn joins(set: &mut Set, b: &[u8]) -> bool {
         link_at(after(l, 6)),
         link_at(after(l, 9)),
     ];
-    let mut ynd = Ynd::new();
-    ynd.node_count = byte_at(b, 2) as u32;
-    ynd.link_count = byte_at(b, 3) as u32;
+    let ynd = Ynd {
+        node_count: byte_at(b, 2) as u32,
+        link_count: byte_at(b, 3) as u32,
+        ..Ynd::new()
+    };
     let sizes = Counts {
         nodes: n,
         links: byte_at(b, 3) as usize,

@@ -1,7 +1,7 @@
 // Links and junctions added.
 use crate::parts::{agrees, answer_at, first, length_at};
 use crate::room::{Cell, Room};
-use cells::count::Counts;
+use cells::counts::Counts;
 use cells::junction::PathJunction;
 use cells::link::PathLink;
 use numbers::math::{Vec2, Vec3};
@@ -18,12 +18,7 @@ fn add_links(cell: &mut Cell<'_>, place: usize, n: usize) -> Result<(), Refusal>
 
 // Links added to a cell of one bare node, which is then written.
 fn with_links(b: &[u8], cell: &mut Cell<'_>, section: &mut [u8]) -> bool {
-    let at = Vec3 {
-        x: 0.0,
-        y: 0.0,
-        z: 0.0,
-    };
-    if cell.add_node(1, at).is_err() {
+    if cell.add_node(1, Vec3::default()).is_err() {
         return false;
     }
     let added = add_links(cell, byte_at(b, 0) as usize, length_at(b, 1));
@@ -51,12 +46,9 @@ pub fn links(b: &[u8]) -> bool {
 pub fn junction(b: &[u8]) -> bool {
     let mut room = Room::<1, 1, 1, 300, 1>::new();
     let j = PathJunction {
-        position: Vec2 { x: 0.0, y: 0.0 },
-        min_z: 0.0,
-        max_z: 0.0,
         width: byte_at(b, 0),
         height: byte_at(b, 1),
-        heightmap_ptr: 0,
+        ..PathJunction::default()
     };
     let values = [7u8; 300];
     let added = room.cell().add_junction(j, first(&values, length_at(b, 2)));

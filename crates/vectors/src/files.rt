@@ -8,7 +8,7 @@
 // Of what is written the page block, 1,040 bytes from 112 on, is left out.
 use crate::parts::{after, agrees, answer_at, first, length_at, upto_mut};
 use crate::room::{Cell, Desk, SmallRoom};
-use cells::count::Counts;
+use cells::counts::Counts;
 use records::bytes::byte_at;
 
 // Whether the page block is zero but for 128 at its offset 8.

@@ -9,12 +9,15 @@ use records::bytes::{byte_at, u32_at};
 // bits of x and y; the cell.
 pub fn cell_for_position(b: &[u8]) -> bool {
     let c = numbers::grid::cell_for_position(float_of(u32_at(b, 0)), float_of(u32_at(b, 4)));
-    same_cell(b, c)
+    c == cell_told(b)
 }
 
-// The cell at offset 8 of the record. By fields: `GridCell` derives no `PartialEq`.
-fn same_cell(b: &[u8], c: GridCell) -> bool {
-    c.x == byte_at(b, 8) as u32 && c.y == byte_at(b, 9) as u32
+// The cell at offset 8 of the record.
+fn cell_told(b: &[u8]) -> GridCell {
+    GridCell {
+        x: byte_at(b, 8) as u32,
+        y: byte_at(b, 9) as u32,
+    }
 }
 
 // By bits: floats have no equality that a record could be held to.
@@ -40,8 +43,7 @@ pub fn grid_cell(b: &[u8]) -> bool {
 // an area and another; the first one's cell, whether it is an island's, whether both name one cell.
 pub fn area(b: &[u8]) -> bool {
     let first = u32_at(b, 0);
-    let c = numbers::grid::cell_of_area(first);
-    same_cell(b, c)
+    numbers::grid::cell_of_area(first) == cell_told(b)
         && numbers::grid::is_island_area(first) == (byte_at(b, 10) == 1)
         && numbers::grid::same_cell(first, u32_at(b, 4)) == (byte_at(b, 11) == 1)
 }

@@ -6,7 +6,7 @@
 //   41 the bytes: place, stride and how many, four bytes each, and the value.
 use crate::parts::{after, agrees, answer_at, most, number_at, upto, upto_mut};
 use crate::room::{Cell, Room};
-use cells::count::Counts;
+use cells::counts::Counts;
 use records::bytes::byte_at;
 use records::junction_ref::NodeJunctionRef;
 
@@ -36,19 +36,10 @@ fn counts_told(b: &[u8]) -> Counts {
     }
 }
 
-fn bare_ref() -> NodeJunctionRef {
-    NodeJunctionRef {
-        area_id: 0,
-        node_id: 0,
-        junction_id: 0,
-        unk0: 0,
-    }
-}
-
 // So many refs added, up to the first that is refused.
 fn add_refs(cell: &mut Cell<'_>, n: usize) {
     for _ in 0..n {
-        if cell.add_ref(bare_ref()).is_err() {
+        if cell.add_ref(NodeJunctionRef::default()).is_err() {
             return;
         }
     }

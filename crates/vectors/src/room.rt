@@ -1,6 +1,6 @@
 // A cell, the lists that are lent for it, and room for them.
 use crate::parts::upto_mut;
-use cells::count::Counts;
+use cells::counts::Counts;
 use cells::junction::{JunctionWords, PathJunction};
 use cells::junction_ref::RefWords;
 use cells::link::{LinkWords, PathLink};

@@ -1,5 +1,6 @@
 -- `printround::print::followed`: the walk's end or refusal is printed.
-use Rattle.std.proofs.Common.{◌≡◌, ◌∙◌, ap, take, length, arith}
+use Rattle.std.proofs.Common.{◌≡◌, ◌∙◌, ap, take, length, arith, ℕ}
+use Rattle.std.proofs.lemmas.List.{take_min}
 use Rattle.std.proofs.lemmas.Result.{IfOk-weaker}
 use Rattle.cells.specs.Memory.{memory}
 use Rattle.rounds.specs.Follow.{follow_version}
@@ -20,6 +21,7 @@ returns-in-Ok c =
     = omega (arith, f.auto.visited, c.as_mut_slice.ensures.len) in
     let shown = c.as_slice.ensures.value ∙ c.truncate.ensures.items
     ∙ ap (take c.in-Ok.walk.count) (take_at f.new.visited _ _ long) in
+    let own = ap (λ (k : ℕ). take k a.nodes.now) c.min.ensures ∙ take_min a.ynd.node_count a.nodes.now in
     IfOk-weaker c.round.result _ _
     (λ text said js hs rs.
     let m = memory a.ynd a.nodes.now a.links.now js hs rs in
@@ -27,7 +29,7 @@ returns-in-Ok c =
     f.new.visited _ _ _ said
     shown
     (c.in-Ok.ensures js hs rs ∙ ap (follow_version m a.round_file.version a.round_file.start a.choices.now) zeros))
-    c.round.ensures
+    (rw own at c.round.ensures)
 
 pub returns : goal.returns
 returns c =

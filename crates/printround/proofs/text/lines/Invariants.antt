@@ -1,4 +1,4 @@
-use Rattle.std.proofs.Common.{◌≡◌, List, ◌++◌, map, take, drop, string_bytes}
+use Rattle.std.proofs.Common.{◌≡◌, List, ◌++◌, map, drop, string_bytes}
 use Rattle.cells.specs.Cell.{Link}
 use Rattle.cells.specs.CellOf.{node_with}
 use Rattle.printround.specs.Text.{lines_of}
@@ -8,5 +8,5 @@ use Rattle.printround.proofs.text.lines.Given as goal
 abbrev pub invariant-loop-k : goal.invariant-loop-k
 invariant-loop-k l =
     (links : List Link)
-    → string_bytes l.text ++ lines_of (map (node_with links) (take l.n l.nodes)) l.k (drop l.k l.places)
-    ≡ lines_of (map (node_with links) (take l.n l.nodes)) 0 l.places
+    → string_bytes l.text ++ lines_of (map (node_with links) l.nodes) l.k (drop l.k l.places)
+    ≡ lines_of (map (node_with links) l.nodes) 0 l.places

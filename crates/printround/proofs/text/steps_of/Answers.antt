@@ -1,7 +1,7 @@
 use mathlib.Core.Path.{ap, ◌∙◌}
 use Rattle.numbers.specs.Positions.{quantised}
 use Rattle.cells.specs.Words.{to_node}
-use Rattle.cells.specs.CellOf.{body_of}
+use Rattle.cells.specs.Cell.{body_of}
 use Rattle.cells.specs.declared.node.PathNode.{PathNode}
 use Rattle.printround.specs.Text.{steps_of}
 use Rattle.printround.proofs.text.steps_of.Goals as goal
