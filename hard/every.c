@@ -209,6 +209,8 @@ static void empty_lists(void)
     CHECK(ynd_within(ynd, NULL, 0, 0, 0, 65535, NULL, 0, n, place) == 0 && *n == 0);
     CHECK(ynd_nearest(ynd, NULL, 0, 0, 0, yes, at, &square, place) == 0 && !*yes && *at == KEPT_SIZE && square == 7);
     CHECK(ynd_follow_round(ynd, NULL, 0, NULL, 0, 0, NULL, 0, NULL, 0, end, n, place) == YND_NO_SUCH_PLACE);
+    CHECK(ynd_follow_round_indexed(ynd, NULL, 0, NULL, 0, 0, NULL, 0, NULL, 0, NULL, 0, end, n, place)
+        == YND_NO_SUCH_PLACE);
     CHECK(ynd_read_round(NULL, 0, NULL, 0, &start, n, place) == YND_NO_ROUND_FILE && start == 7);
     CHECK(ynd_write_round(7, NULL, 0, section, YND_ROUND_BYTES, n, place) == 0 && *n == YND_ROUND_BYTES);
     CHECK(ynd_read_round(section, YND_ROUND_BYTES, NULL, 0, &start, n, place) == 0 && *n == 0 && start == 7);

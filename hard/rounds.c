@@ -131,6 +131,24 @@ static uint32_t follow(const lent *m, head r, const uint8_t *choices, size_t n, 
     return answer(r.plain ? FOLLOW : FOLLOW_VERSION, number, *place);
 }
 
+/* A round of version 1 by a lent index: answered and left as `follow` did. */
+static void follow_indexed(const lent *m, uint16_t start, const uint8_t *choices, size_t n, size_t room,
+    uint32_t number, size_t at, const uint32_t *list, const ynd_walk_end *how, size_t count)
+{
+    uint32_t *visited = block(room * sizeof *visited), *scratch = block(YND_SCRATCH * sizeof *scratch);
+    ynd_walk_end *end = block(sizeof *end);
+    size_t *got = block(sizeof *got), *place = block(sizeof *place);
+    uint32_t same = ynd_follow_round_indexed(
+        m->ynd, NODES(m), LINKS(m), start, choices, n, visited, room, scratch, YND_SCRATCH, end, got, place);
+    CHECK(answer(FOLLOW_INDEXED, same, *place) == number && *place == at && *got == count);
+    CHECK(memcmp(end, how, sizeof *how) == 0 && memcmp(visited, list, room * sizeof *list) == 0);
+    unblock(place, sizeof *place);
+    unblock(got, sizeof *got);
+    unblock(end, sizeof *end);
+    unblock(scratch, YND_SCRATCH * sizeof *scratch);
+    unblock(visited, room * sizeof *visited);
+}
+
 /* With a visited list of this length. */
 static void follow_with(const lent *m, head r, const uint8_t *choices, size_t n, size_t room)
 {
@@ -154,6 +172,8 @@ static void follow_with(const lent *m, head r, const uint8_t *choices, size_t n,
         CHECK(*got == count && memcmp(end, &how, sizeof how) == 0 && memcmp(list, visited, count * sizeof *list) == 0);
         CHECK(memcmp(list + count, old + count, (room - count) * sizeof *list) == 0);
     }
+    if (r.plain)
+        follow_indexed(m, r.start, lent_choices, n, room, number, *place, list, end, *got);
     unblock(place, sizeof *place);
     unblock(got, sizeof *got);
     unblock(end, sizeof *end);

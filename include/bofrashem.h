@@ -34,9 +34,9 @@
 /* The version of this header. ynd_version() is that of the library that a program runs with: the same number, or a
  * later one with the same major number. What each version changed for a caller: CHANGELOG.md. */
 #define BOFRASHEM_VERSION_MAJOR 1
-#define BOFRASHEM_VERSION_MINOR 0
+#define BOFRASHEM_VERSION_MINOR 1
 #define BOFRASHEM_VERSION_PATCH 0
-#define BOFRASHEM_VERSION "1.0.0"
+#define BOFRASHEM_VERSION "1.1.0"
 #define BOFRASHEM_VERSION_NUMBER \
     (BOFRASHEM_VERSION_MAJOR * 10000 + BOFRASHEM_VERSION_MINOR * 100 + BOFRASHEM_VERSION_PATCH)
 
@@ -470,6 +470,17 @@ uint32_t ynd_follow_round(
     const ynd_cell *ynd, const ynd_node_entry *nodes, size_t nodes_len,
     const ynd_link_entry *links, size_t links_len, uint16_t start, const uint8_t *choices, size_t choices_len,
     uint32_t *visited, size_t visited_len, ynd_walk_end *end, size_t *count, size_t *place);
+
+/* As ynd_follow_round, with a scratch as ynd_walk_indexed has it: for long rounds in a cell that isn't renumbered.
+ * The scratch may hold anything afterwards, after 7 at 8 too; other refusals leave it as it was. Time: linear in n and
+ * in the choices, whatever the numbers. Refused, in this order: 14 over a limit; 7 at 0 where the nodes are fewer than
+ * their count; 13 no node has the number; 7 at 1 where the links are fewer than their count; 7 at 6 where the scratch
+ * has under YND_SCRATCH entries; 7 at 8 where `visited` is too short (choices_len + 1 entries always do). */
+uint32_t ynd_follow_round_indexed(
+    const ynd_cell *ynd, const ynd_node_entry *nodes, size_t nodes_len,
+    const ynd_link_entry *links, size_t links_len, uint16_t start, const uint8_t *choices, size_t choices_len,
+    uint32_t *visited, size_t visited_len, uint32_t *scratch, size_t scratch_len,
+    ynd_walk_end *end, size_t *count, size_t *place);
 
 /* ---- Rounds that say which cell they are of. Version 2 of a round file has the area (two bytes) after the version;
  * all else is as in version 1. A version 1 round is of the cell that it is followed in ---- */

@@ -1,6 +1,6 @@
 //! Round files, and rounds followed in a cell.
 use bofrashem_sys as ffi;
-use crate::cell::Cell;
+use crate::cell::{Cell, SCRATCH};
 use crate::refusal::{answered, Refusal};
 use crate::walks::Walk;
 
@@ -118,6 +118,34 @@ impl Cell {
                 &self.words, self.nodes.as_ptr().cast(), self.nodes.len(), self.links.as_ptr().cast(),
                 self.links.len(), round.start, choices.as_ptr(), choices.len(), visited.as_mut_ptr(), visited.len(),
                 &mut end, &mut n, place,
+            )
+        })?;
+        Ok(Walk::of(end, visited, n))
+    }
+
+    /// The same round, for long ones in a cell that isn't renumbered: as [`Cell::walk_indexed`]. Refused: 13 no node
+    /// has that number.
+    ///
+    /// ```
+    /// use bofrashem::{Cell, Link, Refusal, Round};
+    /// let mut cell = Cell::new();
+    /// for x in 0..2 { cell.add_node(489, [x as f32, 0.0, 0.0])?; }
+    /// cell.add_link(0, Link::to(489, 1))?;
+    /// cell.add_link(1, Link::to(489, 0))?;
+    /// let round = Round { start: 1, choices: vec![0; 10_000] };
+    /// assert_eq!(cell.follow_indexed(&round)?, cell.follow(&round)?);
+    /// assert_eq!(cell.follow_indexed(&Round { start: 2, ..round }), Err(Refusal::NoSuchPlace));
+    /// # Ok::<(), Refusal>(())
+    /// ```
+    pub fn follow_indexed(&self, round: &Round) -> Result<Walk, Refusal> {
+        let choices = &round.choices;
+        let (mut visited, mut end, mut n) = (vec![0; choices.len() + 1], ffi::ynd_walk_end::default(), 0);
+        let mut scratch = vec![0; SCRATCH];
+        answered(|place| unsafe {
+            ffi::ynd_follow_round_indexed(
+                &self.words, self.nodes.as_ptr().cast(), self.nodes.len(), self.links.as_ptr().cast(),
+                self.links.len(), round.start, choices.as_ptr(), choices.len(), visited.as_mut_ptr(), visited.len(),
+                scratch.as_mut_ptr(), scratch.len(), &mut end, &mut n, place,
             )
         })?;
         Ok(Walk::of(end, visited, n))

@@ -3,7 +3,7 @@
 use Rattle.std.specs.Prelude.{ℕ, Bool, true, false, List, [], ◌∷◌, Option, Some, None, Result}
 use Rattle.numbers.specs.declared.refusal.Refusal.{Refusal}
 use Rattle.cells.specs.Edit.{Stored}
-use Rattle.cells.specs.declared.count.Counts.{Counts}
+use Rattle.cells.specs.declared.counts.Counts.{Counts}
 use Rattle.walks.specs.declared.shown.SeenJunction.{SeenJunction}
 use Rattle.walks.specs.declared.shown.SeenLink.{SeenLink}
 use Rattle.walks.specs.declared.shown.SeenNode.{SeenNode}

@@ -1,12 +1,12 @@
 -- What a caller in C gives and gets of a set of cells (T-09).
 use Rattle.std.specs.Prelude.{ℕ, List, get_or, Err}
 use Rattle.numbers.specs.Refusals.{Answer}
-use Rattle.sets.specs.Join.{per_list}
+use Rattle.cells.specs.Memory.{per_list}
 use Rattle.sets.specs.CellSet.{CellSet}
 use Rattle.sets.specs.Leave.{SetLeft}
 use Rattle.sets.specs.MemberEdit.{SetEdited}
 use Rattle.sets.specs.WriteMember.{SetWritten}
-use Rattle.cells.specs.declared.count.Counts.{Counts}
+use Rattle.cells.specs.declared.counts.Counts.{Counts}
 use Rattle.exports.specs.Answers.{answer_number, answer_place, if_done}
 use Rattle.sets.specs.CrossingCall.{CrossingLeft, crossing_left}
 use Rattle.set_rounds.specs.FollowInSet.{follow_in_set}

@@ -7,7 +7,7 @@ abbrev pub library_version : ℕ → ℕ → ℕ → ℕ
 library_version major minor patch = major * 10000 + minor * 100 + patch
 
 abbrev pub version : ℕ
-version = library_version 1 0 0
+version = library_version 1 1 0
 
 -- ---- the texts
 

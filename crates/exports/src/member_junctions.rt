@@ -6,7 +6,8 @@ ghost use Rattle.cells.specs.PutHeightmap.{put_heightmap};
 ghost use Rattle.cells.specs.Words.{to_junction};
 ghost use Rattle.sets.specs.CellSet.{cell_set};
 ghost use Rattle.sets.specs.Lent.{Unlent};
-ghost use Rattle.sets.specs.MemberEdit.{edit_member, heights_left, junctions_left};
+ghost use Rattle.sets.specs.MemberEdit.{edit_member};
+ghost use Rattle.cells.specs.Edit.{heights_left, junctions_left};
 ghost use Rattle.exports.specs.Found.{told};
 ghost use Rattle.exports.specs.SetTold.{edit_told};
 

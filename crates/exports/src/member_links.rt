@@ -6,7 +6,8 @@ ghost use Rattle.cells.specs.PutLinks.{put_links};
 ghost use Rattle.cells.specs.Words.{to_link};
 ghost use Rattle.sets.specs.CellSet.{cell_set};
 ghost use Rattle.sets.specs.Lent.{Unlent};
-ghost use Rattle.sets.specs.MemberEdit.{edit_member, links_left};
+ghost use Rattle.sets.specs.MemberEdit.{edit_member};
+ghost use Rattle.cells.specs.Edit.{links_left};
 ghost use Rattle.exports.specs.Found.{told};
 ghost use Rattle.exports.specs.SetTold.{edit_told};
 

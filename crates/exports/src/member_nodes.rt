@@ -5,7 +5,8 @@ ghost use Rattle.cells.specs.Edit.{put_node, set_position};
 ghost use Rattle.cells.specs.Words.{to_node};
 ghost use Rattle.sets.specs.CellSet.{cell_set};
 ghost use Rattle.sets.specs.Lent.{Unlent};
-ghost use Rattle.sets.specs.MemberEdit.{add_node_member, edit_member, nodes_left};
+ghost use Rattle.sets.specs.MemberEdit.{add_node_member, edit_member};
+ghost use Rattle.cells.specs.Edit.{nodes_left};
 ghost use Rattle.exports.specs.Found.{told};
 ghost use Rattle.exports.specs.SetTold.{edit_told};
 

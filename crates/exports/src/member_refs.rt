@@ -5,7 +5,8 @@ ghost use Rattle.cells.specs.Edit.{put_ref};
 ghost use Rattle.cells.specs.Words.{to_ref};
 ghost use Rattle.sets.specs.CellSet.{cell_set};
 ghost use Rattle.sets.specs.Lent.{Unlent};
-ghost use Rattle.sets.specs.MemberEdit.{edit_member, refs_left};
+ghost use Rattle.sets.specs.MemberEdit.{edit_member};
+ghost use Rattle.cells.specs.Edit.{refs_left};
 ghost use Rattle.exports.specs.Found.{told};
 ghost use Rattle.exports.specs.SetTold.{edit_told};
 

@@ -268,18 +268,6 @@ pub extern "C" fn ynd_node_speed(node: &NodeWords) -> u8
     PathNode::from(*node).speed().value()
 }
 
-#[tactic(auto, unfolding(cells::specs::Special::speed_of))]
-fn speed_of(v: u8) -> NodeSpeed
-    ensures { result ≡ speed_of v }
-{
-    match v {
-        0 => NodeSpeed::Slow,
-        1 => NodeSpeed::Normal,
-        2 => NodeSpeed::Fast,
-        _ => NodeSpeed::Faster,
-    }
-}
-
 // A speed over 3 is 3.
 #[unsafe(no_mangle)]
 pub extern "C" fn ynd_node_set_speed(node: &mut NodeWords, v: u8)
@@ -287,7 +275,7 @@ pub extern "C" fn ynd_node_set_speed(node: &mut NodeWords, v: u8)
         (with_flags5 (to_node node.old)
         (with_field 1 2 (to_node node.old).flags5 (speed_value (speed_of v)))) }
 {
-    *node = NodeWords::from(PathNode::from(*node).set_speed(speed_of(v)));
+    *node = NodeWords::from(PathNode::from(*node).set_speed(NodeSpeed::from(v)));
 }
 
 // Whether a kind is one of the three kinds of ped node.

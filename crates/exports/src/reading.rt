@@ -8,7 +8,7 @@ ghost use Rattle.exports.specs.Found.{told, told_of, counts_words};
 
 use crate::answers::tell_as;
 use crate::words::{tell_ynd, ynd_of, ynd_words};
-use cells::count::Counts;
+use cells::counts::Counts;
 use cells::node::NodeWords;
 
 // A cell that holds nothing.

@@ -14,7 +14,7 @@ use cells::root::{check_root, read_root};
 use numbers::refusal::{Array, Refusal};
 use records::junction::{junction_at, junction_bytes};
 use records::junction_ref::{ref_at, ref_bytes};
-use records::layout::{Places, lay_out};
+use records::layout::{Blocks, Places, lay_out};
 use records::link::{link_at, link_bytes};
 use records::node::{node_at, node_bytes};
 use records::root::root_words;
@@ -23,10 +23,7 @@ use records::section::{Section, locate};
 fn section_number(section: Section) -> usize
     ensures { result ≡ section_number section }
 {
-    match section {
-        Section::System => 0,
-        Section::Graphics => 1,
-    }
+    section as usize
 }
 
 // Where an array of `count` entries of `width` bytes lies, in sections of so many bytes: whether its address is good,
@@ -151,19 +148,14 @@ pub extern "C" fn ynd_ref_record(
 
 // Where the blocks lie, of a file within its limits.
 #[tactic(auto, using(numbers::proofs::Refusing::tested))]
-fn laid_out(
-    refs: u32,
-    heightmap: u32,
-    junctions: u32,
-    links: u32,
-    nodes: u32,
-) -> Result<Places, Refusal>
-    ensures { result ≡ laid_out nodes junctions (places_of (sizes refs heightmap junctions links nodes)) }
+fn laid_out(k: Blocks) -> Result<Places, Refusal>
+    ensures { result
+        ≡ laid_out k.nodes k.junctions (places_of (sizes k.refs k.heightmap k.junctions k.links k.nodes)) }
 {
-    if 65536 < nodes || 4096 < junctions {
+    if 65536 < k.nodes || 4096 < k.junctions {
         return Err(Refusal::AtLimit);
     }
-    let p = lay_out(refs, heightmap, junctions, links, nodes);
+    let p = lay_out(k);
     if 16777216 < p.total {
         return Err(Refusal::SystemTooLong);
     }
@@ -187,7 +179,13 @@ pub extern "C" fn ynd_lay_out(
         ≡ laid_told nodes junctions (places_of (sizes refs heightmap junctions links nodes))
         (laid addresses.old total.old) }
 {
-    let r = laid_out(refs, heightmap, junctions, links, nodes);
+    let r = laid_out(Blocks {
+        refs,
+        heightmap,
+        junctions,
+        links,
+        nodes,
+    });
     if let Ok(p) = r {
         *addresses = [p.refs, p.heightmap, p.junctions, p.links, p.nodes];
         *total = p.total;

@@ -10,7 +10,7 @@ ghost use Rattle.exports.specs.SetTold.{sizes_given, change_told};
 
 use crate::answers::tell;
 use crate::words::ynd_of;
-use cells::count::Counts;
+use cells::counts::Counts;
 use cells::node::NodeWords;
 
 fn sizes_of(s: [usize; 5]) -> Counts

@@ -7,7 +7,7 @@ ghost use Rattle.exports.specs.Texts.{version, text_of, text_put};
 pub extern "C" fn ynd_version() -> u32
     ensures { result ≡ version }
 {
-    10000
+    10100
 }
 
 // What refusal `number` is about.

@@ -474,6 +474,18 @@ extern "C" {
         end: *mut ynd_walk_end, count: *mut usize, place: *mut usize,
     ) -> u32;
 
+    /// As ynd_follow_round, with a scratch as ynd_walk_indexed has it: for long rounds in a cell that isn't
+    /// renumbered. The scratch may hold anything afterwards, after 7 at 8 too; other refusals leave it as it was.
+    /// Time: linear in n and in the choices, whatever the numbers. Refused, in this order: 14 over a limit; 7 at 0
+    /// where the nodes are fewer than their count; 13 no node has the number; 7 at 1 where the links are fewer than
+    /// their count; 7 at 6 where the scratch has under YND_SCRATCH entries; 7 at 8 where `visited` is too short
+    /// (choices_len + 1 entries always do).
+    pub fn ynd_follow_round_indexed(
+        ynd: *const ynd_cell, nodes: *const ynd_node_entry, nodes_len: usize, links: *const ynd_link_entry,
+        links_len: usize, start: u16, choices: *const u8, choices_len: usize, visited: *mut u32, visited_len: usize,
+        scratch: *mut u32, scratch_len: usize, end: *mut ynd_walk_end, count: *mut usize, place: *mut usize,
+    ) -> u32;
+
     /// Reads a round file of version 1 or 2: `version` gets which (1 or 2), `area` the area of version 2, or 0 for
     /// version 1; all else is as for ynd_read_round. Write a round back in the version that it was read in. Time:
     /// linear in the choices. Refused, in this order: 15 the first five bytes aren't the mark and version 1 or 2; 16
