@@ -1,5 +1,5 @@
 //! ns a node: reading, renumbering, writing, write-then-read, `node`.
-use super::{both, timed, Goal, Row, Wanted, SIZES};
+use super::{all_three, both, timed, Goal, Row, Wanted, SIZES};
 use crate::blocks::{Pod, Writer};
 use crate::inputs::rng::Rng;
 use crate::model::cell::{Cell, Junction, Link, Node, Ref};
@@ -28,7 +28,7 @@ fn of_size(size: usize, wanted: &Wanted) -> Vec<Row> {
     let mut row = |call, goal, rust: &dyn Fn() -> Duration, port: &mut dyn FnMut() -> Duration| {
         if !wanted.has(call) { return; }
         let (rust, port) = both(size, rust, port);
-        out.push(Row { call, size, rust: Some(rust), port: Some(port), goal });
+        out.push(Row { call, size, rust: Some(rust), floor: None, port: Some(port), goal });
     };
     let rust_reads = || { lend_sections(bytes.clone(), Vec::new()); timed(read) };
     row("reading", Goal::Ratio(0.55), &rust_reads, &mut || timed(|| lent.read(&bytes, &[])));
@@ -50,9 +50,9 @@ fn of_size(size: usize, wanted: &Wanted) -> Vec<Row> {
     lent.renumber(&mut scratch, &mut places).expect("room for all");
     let in_line = || timed(|| nodes_in_line(&by_place));
     row("node, the Rust's in line", Goal::Ratio(2.0), &in_line, &mut || timed(|| port_nodes(&lent)));
-    row("node, by a call", Goal::Ratio(2.0), &|| timed(|| nodes(&by_place)), &mut || timed(|| port_nodes(&lent)));
+    if wanted.has(NODE) { out.push(by_a_call(&by_place, &lent)); }
     for (call, near) in [("a walk's link, to a near node", true), ("a walk's link, in random order", false)] {
-        if wanted.has(call) { out.extend(walking(&cell, call, near)); }
+        if wanted.has(call) { out.push(walking(&cell, call, near)); }
     }
     out
 }
@@ -60,7 +60,7 @@ fn of_size(size: usize, wanted: &Wanted) -> Vec<Row> {
 /// A walk over a renumbered cell whose first links lead from node to node, through all of them: each to one that is
 /// near, or in random order. Beside it a plain loop over the same memory, which is what the machine needs for it at
 /// the least.
-fn walking(cell: &Cell, call: &'static str, near: bool) -> [Row; 2] {
+fn walking(cell: &Cell, call: &'static str, near: bool) -> Row {
     let (memory, size) = (circuit(cell, near), cell.nodes.len());
     let (choices, mut visited) = (vec![0; size], vec![0; size + 1]);
     let mut trodden = visited.clone();
@@ -69,9 +69,7 @@ fn walking(cell: &Cell, call: &'static str, near: bool) -> [Row; 2] {
     assert_eq!(visited[size], 0, "a walk over all nodes");
     assert_eq!(visited, trodden, "the same places");
     let goal = if size == 60_000 { Goal::Nanoseconds(25.0) } else { Goal::None };
-    let floor = if near { "a plain loop's link, to a near node" } else { "a plain loop's link, in random order" };
-    [Row { call, size, rust: None, port: Some(port), goal },
-        Row { call: floor, size, rust: Some(plain), port: None, goal: Goal::None }]
+    Row { call, size, rust: None, floor: Some(plain), port: Some(port), goal }
 }
 
 /// The cell renumbered, its first links leading through all nodes and back to the first.
@@ -160,4 +158,41 @@ fn nodes(ynd: &Ynd) {
 
 fn port_nodes(memory: &Memory) {
     for i in 0..memory.nodes.len() { black_box(memory.place_of(i as u16)); }
+}
+
+const NODE: &str = "node, by a call";
+
+fn by_a_call(ynd: &Ynd, memory: &Memory) -> Row {
+    let plain = || for i in 0..memory.nodes.len() { black_box(plain_place(memory, i as u16)); };
+    let size = memory.nodes.len();
+    let rust = || timed(|| nodes(ynd));
+    let [rust, floor, port] = all_three(size, rust, || timed(plain), || timed(|| port_nodes(memory)));
+    Row { call: NODE, size, rust, floor, port, goal: Goal::Ratio(2.0) }
+}
+
+/// As `Memory::place_of` asks the port.
+fn plain_place(memory: &Memory, node_id: u16) -> Option<usize> {
+    let (mut is, mut at, mut place) = (false, 0, 0);
+    let (ynd, nodes, n) = (memory.ynd.as_ptr(), memory.nodes.as_ptr(), memory.nodes.len());
+    unsafe { plain_node(ynd, nodes, n, node_id, &mut is, &mut at, &mut place) };
+    is.then_some(at)
+}
+
+/// The Rust's `node` over the port's words, behind the port's C call.
+#[no_mangle]
+#[inline(never)]
+unsafe extern "C" fn plain_node(
+    ynd: *const u32, nodes: *const [u32; 13], node_count: usize, node_id: u16, found: &mut bool, at: &mut usize,
+    place: &mut usize,
+) -> u32 {
+    let nodes = unsafe { std::slice::from_raw_parts(nodes, node_count.min(*ynd.add(10) as usize)) };
+    let has = |w: &[u32; 13]| (w[0] >> 16) as u16 == node_id;
+    let there = match nodes.get(node_id as usize) {
+        Some(w) if has(w) => Some(node_id as usize),
+        _ => nodes.iter().position(has),
+    };
+    *found = there.is_some();
+    if let Some(p) = there { *at = p; }
+    *place = 0;
+    0
 }

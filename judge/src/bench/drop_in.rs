@@ -22,7 +22,7 @@ fn of_size(size: usize, wanted: &Wanted) -> Vec<Row> {
     let mut row = |call, rust: &dyn Fn() -> Duration, port: &dyn Fn() -> Duration| {
         if !wanted.has(call) { return; }
         let (rust, port) = both(size, rust, port);
-        out.push(Row { call, size, rust: Some(rust), port: Some(port), goal: Goal::None });
+        out.push(Row { call, size, rust: Some(rust), floor: None, port: Some(port), goal: Goal::None });
     };
     let rust_reads = || { lend_sections(bytes.clone(), Vec::new()); timed(read) };
     row("the drop-in, reading", &rust_reads, &|| timed(|| Ynd::from_sections(&bytes, &[])));

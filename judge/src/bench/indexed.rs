@@ -35,7 +35,7 @@ pub fn rows(wanted: &Wanted) -> Vec<Row> {
                 || timed(|| if call == PLAIN { memory.walk(0, &choices, &mut visited) }
                     else { memory.walk_indexed(0, &choices, &mut visited, &mut scratch) }));
             assert_eq!(visited, plain, "the same places");
-            out.push(Row { call, size, rust: Some(rust), port: Some(port), goal: Goal::None });
+            out.push(Row { call, size, rust: Some(rust), floor: None, port: Some(port), goal: Goal::None });
         }
     }
     out

@@ -1,5 +1,5 @@
 //! ns a call: a position stored, its cell, a length.
-use super::{both, timed, Goal, Row, Wanted, SIZES};
+use super::{all_three, timed, Goal, Row, Wanted, SIZES};
 use crate::inputs::rng::Rng;
 use crate::math::Vec3;
 use crate::port;
@@ -8,8 +8,8 @@ use std::hint::black_box;
 
 type Measured = fn(&[[f32; 3]], &'static str) -> Row;
 
-const CALLS: [(&str, Measured); 4] = [("cell_for_position", grid), ("length_between", lengths),
-    ("set_position's steps", steps), ("set_position's steps, the Rust's behind a C call", floor)];
+const CALLS: [(&str, Measured); 3] = [("cell_for_position", grid), ("length_between", lengths),
+    ("set_position's steps", steps)];
 
 pub fn rows(wanted: &Wanted) -> Vec<Row> {
     let calls = CALLS.into_iter().filter(|(call, _)| wanted.has(call));
@@ -34,17 +34,43 @@ fn rust_steps(p: [f32; 3]) -> [f32; 3] {
 
 fn port_steps(p: [f32; 3]) -> [f32; 3] { port::numbers::stored_right(p).map(f32::from_bits) }
 
-/// The Rust's own expression behind the port's C call: what such a call takes at least.
+/// The floors: the Rust's own expressions behind the port's C calls, for the archive's processor.
 #[no_mangle]
 #[inline(never)]
-extern "C" fn rust_stored_position(x: f32, y: f32, z: f32, stored: &mut [f32; 3]) {
+#[target_feature(enable = "sse4.2")]
+extern "C" fn plain_stored_position(x: f32, y: f32, z: f32, stored: &mut [f32; 3]) {
     *stored = [(x * 4.0) as i16 as f32 / 4.0, (y * 4.0) as i16 as f32 / 4.0, (z * 32.0) as i16 as f32 / 32.0];
 }
 
-fn floor_steps([x, y, z]: [f32; 3]) -> [f32; 3] {
+#[no_mangle]
+#[inline(never)]
+#[target_feature(enable = "sse4.2")]
+extern "C" fn plain_cell_for_position(x: f32, y: f32, cell: &mut [u32; 2]) {
+    *cell = [x, y].map(|x| ((x + 8192.0) / 512.0).floor().clamp(0.0, 31.0) as u32);
+}
+
+#[no_mangle]
+#[inline(never)]
+#[target_feature(enable = "sse4.2")]
+extern "C" fn plain_length_between(ax: f32, ay: f32, az: f32, bx: f32, by: f32, bz: f32) -> u8 {
+    let [x, y, z] = [bx - ax, by - ay, bz - az];
+    (x * x + y * y + z * z).sqrt().min(255.0) as u8
+}
+
+fn plain_steps([x, y, z]: [f32; 3]) -> [f32; 3] {
     let mut stored = [0.0; 3];
-    rust_stored_position(x, y, z, &mut stored);
+    unsafe { plain_stored_position(x, y, z, &mut stored) };
     stored.map(f32::to_bits).map(f32::from_bits)
+}
+
+fn plain_grid(x: f32, y: f32) -> [u32; 2] {
+    let mut cell = [u32::MAX; 2];
+    unsafe { plain_cell_for_position(x, y, &mut cell) };
+    cell
+}
+
+fn plain_length([ax, ay, az]: [f32; 3], [bx, by, bz]: [f32; 3]) -> u8 {
+    unsafe { plain_length_between(ax, ay, az, bx, by, bz) }
 }
 
 fn rust_grid(x: f32, y: f32) -> [u32; 2] { ynd::cell_for_position(x, y).into() }
@@ -54,29 +80,24 @@ fn rust_length(a: [f32; 3], b: [f32; 3]) -> u8 {
 }
 
 fn steps(points: &[[f32; 3]], call: &'static str) -> Row {
-    let (f, g) = (black_box(rust_steps as fn(_) -> _), black_box(port_steps as fn(_) -> _));
+    let [f, g, h] = [rust_steps, plain_steps, port_steps].map(|f: fn(_) -> _| black_box(f));
     let run = |f: fn([f32; 3]) -> [f32; 3]| for p in points { black_box(f(*p)); };
-    let (rust, port) = both(points.len(), || timed(|| run(f)), || timed(|| run(g)));
-    Row { call, size: points.len(), rust: Some(rust), port: Some(port), goal: Goal::Ratio(2.0) }
-}
-
-fn floor(points: &[[f32; 3]], call: &'static str) -> Row {
-    let (f, g) = (black_box(rust_steps as fn(_) -> _), black_box(floor_steps as fn(_) -> _));
-    let run = |f: fn([f32; 3]) -> [f32; 3]| for p in points { black_box(f(*p)); };
-    let (_, behind) = both(points.len(), || timed(|| run(f)), || timed(|| run(g)));
-    Row { call, size: points.len(), rust: Some(behind), port: None, goal: Goal::None }
+    row(points, call, points.len(), || run(f), || run(g), || run(h))
 }
 
 fn grid(points: &[[f32; 3]], call: &'static str) -> Row {
-    let (f, g) = (black_box(rust_grid as fn(_, _) -> _), black_box(port::numbers::cell_right as fn(_, _) -> _));
+    let [f, g, h] = [rust_grid, plain_grid, port::numbers::cell_right].map(|f: fn(_, _) -> _| black_box(f));
     let run = |f: fn(f32, f32) -> [u32; 2]| for p in points { black_box(f(p[0], p[1])); };
-    let (rust, port) = both(points.len(), || timed(|| run(f)), || timed(|| run(g)));
-    Row { call, size: points.len(), rust: Some(rust), port: Some(port), goal: Goal::Ratio(2.0) }
+    row(points, call, points.len(), || run(f), || run(g), || run(h))
 }
 
 fn lengths(points: &[[f32; 3]], call: &'static str) -> Row {
-    let (f, g) = (black_box(rust_length as fn(_, _) -> _), black_box(port::numbers::length_right as fn(_, _) -> _));
+    let [f, g, h] = [rust_length, plain_length, port::numbers::length_right].map(|f: fn(_, _) -> _| black_box(f));
     let run = |f: fn([f32; 3], [f32; 3]) -> u8| for p in points.windows(2) { black_box(f(p[0], p[1])); };
-    let (rust, port) = both(points.len() - 1, || timed(|| run(f)), || timed(|| run(g)));
-    Row { call, size: points.len(), rust: Some(rust), port: Some(port), goal: Goal::Ratio(2.0) }
+    row(points, call, points.len() - 1, || run(f), || run(g), || run(h))
+}
+
+fn row(points: &[[f32; 3]], call: &'static str, calls: usize, f: impl Fn(), g: impl Fn(), h: impl Fn()) -> Row {
+    let [rust, floor, port] = all_three(calls, || timed(&f), || timed(&g), || timed(&h));
+    Row { call, size: points.len(), rust, floor, port, goal: Goal::Ratio(1.0) }
 }

@@ -71,7 +71,7 @@ pub fn rows(wanted: &Wanted) -> Vec<Row> {
             assert_eq!(said, dijkstra(&ynd).map(|a| a.0), "the same distance");
             let port = || timed(|| memory.shortest_path(0, size - 1, &mut lists));
             let (rust, port) = both(size, || timed(|| dijkstra(&ynd)), port);
-            out.push(Row { call, size, rust: Some(rust), port: Some(port), goal: Goal::Ratio(1.5) });
+            out.push(Row { call, size, rust: Some(rust), floor: None, port: Some(port), goal: Goal::Ratio(1.5) });
         }
     }
     out.sort_by_key(|r| r.call);

@@ -87,7 +87,7 @@ fn listed(cell: &Cell, call: &'static str, point: [i16; 2], radius: u16, few: bo
         false => timed(|| within(&ynd.nodes, point, radius, &mut a)),
     };
     let (rust, port) = both(size, rust, || timed(|| memory.within_into(point, radius, &mut b[..room])));
-    Row { call, size, rust: Some(rust), port: Some(port), goal: Goal::Ratio(2.0) }
+    Row { call, size, rust: Some(rust), floor: None, port: Some(port), goal: Goal::Ratio(2.0) }
 }
 
 pub fn rows(wanted: &Wanted) -> Vec<Row> {
@@ -105,7 +105,7 @@ pub fn rows(wanted: &Wanted) -> Vec<Row> {
             assert_eq!(memory.nearest(MIDDLE).0, Ok(nearest(&ynd.nodes, MIDDLE)), "the same node");
             let rust = || timed(|| nearest(&ynd.nodes, MIDDLE));
             let (rust, port) = both(size, rust, || timed(|| memory.nearest(MIDDLE)));
-            out.push(Row { call, size, rust: Some(rust), port: Some(port), goal: Goal::Ratio(1.0) });
+            out.push(Row { call, size, rust: Some(rust), floor: None, port: Some(port), goal: Goal::Ratio(1.0) });
         }
     }
     for (call, shape) in SHAPES {

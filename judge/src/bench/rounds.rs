@@ -44,7 +44,7 @@ pub fn rows(wanted: &Wanted) -> Vec<Row> {
             let (rust, port) = both(size, || timed(|| followed(&memory, 0, &choices, &mut plain)),
                 || timed(|| memory.follow(0, &choices, &mut visited)));
             assert_eq!((visited[size], &visited), (0, &plain), "the same places, all of them");
-            out.push(Row { call, size, rust: Some(rust), port: Some(port), goal: Goal::Ratio(1.1) });
+            out.push(Row { call, size, rust: Some(rust), floor: None, port: Some(port), goal: Goal::Ratio(1.1) });
         }
     }
     out

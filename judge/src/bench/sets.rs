@@ -14,9 +14,9 @@ const SIZES: [usize; 4] = [90, 900, 9_000, 63_000];
 const MEMBER_SIZES: [usize; 3] = [70, 700, 7_000];
 
 pub const NOTE: &str = "a crossing walk's link: a walk through all nodes of nine members; near is within 16 places of \
-a member, which it leaves after\nthem. The plain loop is Rust that goes the same way over the same memory with no test \
+a member, which it leaves after\nthem. The floor is Rust that goes the same way over the same memory with no test \
 but that of the index; it finds the\nmember by its area less the first one's. Renumbering one of nine, a node of that \
-one: three links a node, one of them into any\nmember, as in the other eight; the plain Rust moves the nodes, renames \
+one: three links a node, one of them into any\nmember, as in the other eight; the floor moves the nodes, renames \
 the member's links and refs and the links of the others,\neach once, in lent memory of the same kind, with no checks.";
 
 /// The cells of a set with this many nodes, each of its own area.
@@ -73,7 +73,7 @@ fn starts(set: &Set) -> [[usize; 2]; MEMBERS] {
     std::array::from_fn(|k| [0, 1].map(|list| sizes[..k].iter().map(|s| s[list]).sum()))
 }
 
-fn walking(call: &'static str, floor: &'static str, size: usize, near: bool) -> [Row; 2] {
+fn walking(call: &'static str, size: usize, near: bool) -> Row {
     let set = circuit(size, near);
     let (at, choices) = (starts(&set), vec![0; size]);
     let mut visited = vec![[0; 2]; size + 1];
@@ -82,8 +82,7 @@ fn walking(call: &'static str, floor: &'static str, size: usize, near: bool) -> 
         || timed(|| set.crossing((0, 0), &choices, &mut visited)));
     assert_eq!(visited[size], [0, 0], "a walk over all nodes");
     assert_eq!(visited, trodden, "the same locations");
-    [Row { call, size, rust: None, port: Some(port), goal: Goal::None },
-        Row { call: floor, size, rust: Some(plain), port: None, goal: Goal::None }]
+    Row { call, size, rust: None, floor: Some(plain), port: Some(port), goal: Goal::None }
 }
 
 /// Nine members of as many nodes; of three links of a node one leads into another member.
@@ -129,18 +128,15 @@ fn renumbering(call: &'static str, size: usize) -> Row {
     assert!(a == b && told == places, "the same set, the same new places");
     let plain = || { a = set.clone(); timed(|| renumber(&mut a, 4, &mut moved, &mut table, &mut told)) };
     let port = || { b = set.clone(); timed(|| b.renumber(4, &mut scratch, &mut places)) };
-    let (rust, port) = both(size, plain, port);
-    Row { call, size, rust: Some(rust), port: Some(port), goal: Goal::None }
+    let (plain, port) = both(size, plain, port);
+    Row { call, size, rust: None, floor: Some(plain), port: Some(port), goal: Goal::None }
 }
 
 pub fn rows(wanted: &Wanted) -> Vec<Row> {
     let mut out = Vec::new();
-    let kinds = [
-        ("a crossing walk's link, to a near node", "a plain loop's link across members, to a near node", true),
-        ("a crossing walk's link, in random order", "a plain loop's link across members, in random order", false),
-    ];
-    for (call, floor, near) in kinds {
-        if wanted.has(call) { out.extend(SIZES.into_iter().flat_map(|size| walking(call, floor, size, near))); }
+    let kinds = [("a crossing walk's link, to a near node", true), ("a crossing walk's link, in random order", false)];
+    for (call, near) in kinds {
+        if wanted.has(call) { out.extend(SIZES.map(|size| walking(call, size, near))); }
     }
     out.sort_by_key(|r| r.call);
     let call = "renumbering one member of nine";

@@ -1,5 +1,6 @@
 //! Round files and rounds followed, against T-03's sentences. The Rust has none of these calls.
 use super::run::Run;
+use super::scratch::with_scratch;
 use super::seen::{self, met, met_if, Call, Met};
 use super::{same, Verdict, MODEL, PORT};
 use crate::inputs::rng::Rng;
@@ -106,6 +107,11 @@ fn followed(t: &Trip) -> Verdict {
         let mut places = vec![KEPT_PLACE; room];
         let (have, kept) = t.memory.follow(t.round.start, &t.round.choices, &mut places);
         seen::note(Call::Follow, &have);
+        let mut by_index = vec![KEPT_PLACE; room];
+        let indexed = with_scratch(65_536, |s| {
+            t.memory.follow_indexed(t.round.start, &t.round.choices, &mut by_index, s)
+        });
+        same("a round by an index", PORT, &(&indexed, &by_index), "its round", &(&(have.clone(), kept), &places))?;
         let mut list: Vec<u32> = want.as_ref().map_or(Vec::new(), |w| w.places.iter().map(|&p| p as u32).collect());
         list.resize(room, KEPT_PLACE);
         same("a round", MODEL, &want.map(|w| (w.end, w.places.len())), PORT, &have)?;

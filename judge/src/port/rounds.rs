@@ -20,6 +20,11 @@ extern "C" {
         choices: *const u8, choice_count: usize, visited: *mut u32, visited_count: usize, end: &mut [u32; 3],
         count: &mut usize, place: &mut usize,
     ) -> u32;
+    fn ynd_follow_round_indexed(
+        ynd: *const u32, nodes: *const Node, node_count: usize, links: *const Link, link_count: usize, start: u16,
+        choices: *const u8, choice_count: usize, visited: *mut u32, visited_count: usize, scratch: *mut u32,
+        scratch_count: usize, end: &mut [u32; 3], count: &mut usize, place: &mut usize,
+    ) -> u32;
 }
 
 const KEPT_START: u16 = 0xA5A5;
@@ -80,6 +85,25 @@ impl Memory {
         by.stays("ynd_follow_round", "choices");
         to.back("ynd_follow_round", "visited");
         self.stays("ynd_follow_round", NODES | LINKS, kept);
+        ended(number, place, end, count)
+    }
+
+    pub fn follow_indexed(&self, start: u16, choices: &[u8], visited: &mut [u32], scratch: &mut [u32]) -> Walked {
+        if slips::any() { return slips::rounds::follow(self, start, choices, visited); }
+        let (mut end, mut count, mut place) = ([KEPT; 3], KEPT_PLACE, KEPT_PLACE);
+        let (kept, mut ynd) = (self.keep(NODES | LINKS), Shown::of(&self.ynd));
+        let (mut by, mut to) = (Shown::of(choices), Filled::of(visited));
+        let number = unsafe {
+            ynd_follow_round_indexed(
+                ynd.ptr(), self.nodes.as_ptr(), self.nodes.len(), self.links.as_ptr(), self.links.len(), start,
+                by.ptr(), by.len(), to.ptr(), to.len(), scratch.as_mut_ptr(), scratch.len(), &mut end, &mut count,
+                &mut place,
+            )
+        };
+        ynd.stays("ynd_follow_round_indexed", "struct");
+        by.stays("ynd_follow_round_indexed", "choices");
+        to.back("ynd_follow_round_indexed", "visited");
+        self.stays("ynd_follow_round_indexed", NODES | LINKS, kept);
         ended(number, place, end, count)
     }
 }
