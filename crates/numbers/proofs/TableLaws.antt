@@ -175,9 +175,12 @@ module _ (b r : ℕ) (h : IsPartitionPoint (λ y. leb y b ≡ true) (λ y. leb y
     | inr g ↦ absurd (omega (arith, leb-false (entry 0) b (h.1 0 0 g (omega (arith, all))), zero_first))
   ]
 
-  pub point_is : b ≤ 2139095040 → r ≤ 256 → r - 1 ≡ length_of (of_bits binary32 b)
-  point_is l m =
-      length_is (r - 1) b (omega (arith, point_some)) l
-      (leb→le (entry (r - 1)) b (subst T (sym (h.0 (r - 1) 0 zero-le (omega (arith, point_some)))) tt))
-      (λ g. leb-false (entry (suc (r - 1))) b
-      (h.1 (suc (r - 1)) 0 (omega (arith, point_some)) (omega (arith, all, g))))
+  -- a pattern above infinity's is taken as that: no entry lies between
+  pub point_is : r ≤ 256 → r - 1 ≡ length_of (of_bits binary32 (min b 2139095040))
+  point_is m =
+      let here : r - 1 < 256 = omega (arith, point_some) in
+      let low : entry (r - 1) ≤ b = leb→le (entry (r - 1)) b
+      (subst T (sym (h.0 (r - 1) 0 zero-le (omega (arith, point_some)))) tt) in
+      length_is (r - 1) (min b 2139095040) here (omega arith) (omega (arith, low, finite (r - 1) here))
+      (λ g. let high = leb-false (entry (suc (r - 1))) b
+      (h.1 (suc (r - 1)) 0 (omega (arith, point_some)) (omega (arith, all, g))) in omega (arith, high))

@@ -1,15 +1,15 @@
 // The length of a link (document 01, section 6): the whole part of the machine's square root. Beside it the same by
 // the table of thresholds.
-ghost use Rattle.std.specs.Prelude.{◌≡◌, ◌≤◌, from_bits};
+ghost use Rattle.std.specs.Prelude.{◌≡◌, min, from_bits};
 ghost use Rattle.std.specs.Float.{binary32};
 ghost use Rattle.numbers.specs.Lengths.{length_of, length_between};
 
 use crate::math::Vec3;
 use crate::thresholds::THRESHOLDS;
 
-// The length whose square has the pattern b, of a number with no sign: the last entry that is at most b.
+// The length whose square has the pattern b: the last entry that is at most b. From infinity's pattern on, 255.
 pub fn length_by_table(b: u32) -> u8
-    ensures { b ≤ 0x7f80_0000 → result ≡ length_of (from_bits binary32 b) }
+    ensures { result ≡ length_of (from_bits binary32 (min b 0x7f80_0000)) }
 {
     (THRESHOLDS.partition_point(|t| *t <= b) - 1) as u8
 }

@@ -18,4 +18,4 @@ overflow_sub-result c = point_some c.args.b c.partition_point.result (found c)
 
 pub returns : goal.returns
 unfolding thresholds
-returns c b = point_is c.args.b c.partition_point.result (found c) b c.partition_point.ensures.bound
+returns c = point_is c.args.b c.partition_point.result (found c) c.partition_point.ensures.bound
