@@ -73,10 +73,13 @@ room_causes k nodes links junctions heights refs =
     ∷ when (ltb refs k.refs) (TooShort lent.Refs)
     ∷ []
 
--- as many as the cell counts
+-- how many entries of each list a cell has
+abbrev pub counts_of : Ynd → Counts
+counts_of y = per_list y.node_count y.link_count y.junction_count y.heightmap_count y.ref_count
+
+-- the lists have as many
 abbrev pub short_causes : Ynd → ℕ → ℕ → ℕ → ℕ → ℕ → List Cause
-short_causes y =
-    room_causes (per_list y.node_count y.link_count y.junction_count y.heightmap_count y.ref_count)
+short_causes y = room_causes (counts_of y)
 
 unfoldable pub short_of : Ynd → ℕ → ℕ → ℕ → ℕ → ℕ → Answer
 short_of y nodes links junctions heights refs = decided (short_causes y nodes links junctions heights refs)

@@ -1,5 +1,5 @@
--- What the parts of renumbering require of each other, and what a cell counts and the lent lists are long, which the
--- contracts of `counts` and `lengths` cite; no other public function's contract cites a word of this file.
+-- What the parts of renumbering require of each other, what whoever makes a `Numbers` has to know (`Leads`), and how
+-- long the lent lists are, which the contract of `lengths` cites; no other public contract cites a word of this file.
 use Rattle.std.specs.Prelude.{ℕ, ◌≤◌, ◌≡◌, List, map, length, get_or}
 use Rattle.std.proofs.Math.Option.{some}
 use Rattle.cells.specs.Order.{new_places, last_with}
@@ -21,10 +21,6 @@ pub record Leads (numbers : List ℕ) (scratch : List ℕ) : Type 0 where
 pub record Placed (nodes : List (List ℕ)) (places : List ℕ) : Type 0 where
   pub few : length nodes ≤ 65536
   pub are : places ≡ new_places (map is_ped nodes)
-
--- how many entries of each list a cell has
-abbrev pub counts_of : Ynd → Counts
-counts_of y = per_list y.node_count y.link_count y.junction_count y.heightmap_count y.ref_count
 
 -- how long the lent lists are
 abbrev pub lengths_of : List (List ℕ) → List (List ℕ) → List (List ℕ) → List ℕ → List (List ℕ) → Counts

@@ -1,7 +1,7 @@
 // A cell's own words and counts; its entries stand in five lent lists beside it.
 ghost use Rattle.std.specs.Prelude.{◌≡◌};
 ghost use Rattle.cells.specs.NewYnd.{new_ynd};
-ghost use Rattle.cells.specs.RenumberParts.{counts_of};
+ghost use Rattle.cells.specs.Memory.{counts_of};
 ghost use Rattle.cells.specs.OwnWords.{with_vft, with_vehicles, with_peds, with_unknowns};
 
 use crate::counts::Counts;

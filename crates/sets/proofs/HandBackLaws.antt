@@ -20,7 +20,8 @@ use Rattle.cells.proofs.Reading.Fits.{Whole, whole}
 use Rattle.sets.specs.CellSet.{CellSet, ynd_of, set_causes}
 use Rattle.sets.specs.Leave.{first_of_area, leave_causes, start_of}
 use Rattle.sets.specs.Join.{stored, set_lengths, cell_lengths}
-use Rattle.cells.specs.RenumberParts.{counts_of, lengths_of}
+use Rattle.cells.specs.Memory.{counts_of}
+use Rattle.cells.specs.RenumberParts.{lengths_of}
 use Rattle.sets.specs.SetParts.{named_of, areas_of, count_of, Holding}
 use Rattle.sets.specs.SetStored.{member_in, ask_causes}
 use Rattle.sets.specs.HandBack.{copied, leaver, lack_of_back, hand_causes, hand_back}

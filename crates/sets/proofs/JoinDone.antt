@@ -19,7 +19,7 @@ use Rattle.sets.specs.MemberList.{cells_of, node_count, nodes_together, any_over
 use Rattle.sets.specs.CellSet.{CellSet, cell_set, words_at, total, parts_in, members_of}
 use Rattle.sets.specs.Leave.{SetLeft, set_left, left_after, used, start_of, first_of_area}
 use Rattle.sets.specs.Join.{entry_of, stored, lack_for, set_lengths, cell_lengths, join_causes, with_cell, join_cell}
-use Rattle.cells.specs.RenumberParts.{counts_of}
+use Rattle.cells.specs.Memory.{counts_of}
 use Rattle.sets.specs.SetParts.{starts_of, areas_of, bare, bare_cell, entry_causes}
 use Rattle.cells.specs.declared.counts.Counts.{Counts}
 use Rattle.sets.proofs.PartLaws.{start_all}

@@ -3,7 +3,7 @@ ghost use Rattle.std.specs.Prelude.{◌≡◌, List, [], ◌∷◌, ◌++◌, �
 ghost use Rattle.numbers.specs.Refusals.{decided, lent_of, when};
 ghost use Rattle.cells.specs.Lookup.{first_with, is_some};
 ghost use Rattle.cells.specs.Memory.{memory};
-ghost use Rattle.cells.specs.RenumberParts.{counts_of};
+ghost use Rattle.cells.specs.Memory.{counts_of};
 ghost use Rattle.sets.specs.MemberList.{over_set};
 ghost use Rattle.sets.specs.CellSet.{cell_set};
 ghost use Rattle.sets.specs.Leave.{left_after};
