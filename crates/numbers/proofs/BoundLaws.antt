@@ -24,7 +24,7 @@ same_bits x y p q e = sym (of_bits-to_bits binary32 x p) ∙ ap (of_bits binary3
 abbrev alike : (ℕ → Float) → (ℕ → Float) → ℕ → Bool
 alike f g n = eqb (to_bits binary32 (f n)) (to_bits binary32 (g n))
 
-agree : (f g : ℕ → Float) (m : ℕ) → ((n : ℕ) → T (fits binary32 (f n))) → ((n : ℕ) → T (fits binary32 (g n)))
+pub agree : (f g : ℕ → Float) (m : ℕ) → ((n : ℕ) → T (fits binary32 (f n))) → ((n : ℕ) → T (fits binary32 (g n)))
     → agree_below (alike f g) (λ _. true) m ≡ true → (n : ℕ) → n < m → f n ≡ g n
 agree f g m p q t n h =
     same_bits (f n) (g n) (p n) (q n) (eqb-true (to_bits binary32 (f n)) (to_bits binary32 (g n))

@@ -1,4 +1,5 @@
 pub mod Refusing
+pub mod RefusalLaws
 pub mod Patterns
 pub mod Units
 pub mod StepLaws
@@ -6,18 +7,16 @@ pub mod CaseLaws
 pub mod Worked
 pub mod AsCast
 pub mod PositionLaws
-pub mod Cuts
 pub mod Orders
-pub mod GridLaws
 pub mod BoundLaws
+pub mod WholeParts
+pub mod GridLaws
 pub mod NameLaws
 pub mod NameBack
 pub mod Dots
 pub mod Roots
 pub mod TableLaws
 pub mod RootLaws
-pub mod WholeParts
+pub mod StartLaws
 pub mod LengthLaws
-pub mod FloatCuts
-pub mod Lanes
 pub mod SearchedThresholds

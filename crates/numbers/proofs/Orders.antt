@@ -2,7 +2,8 @@
 use Rattle.std.proofs.Common.{◌≡◌, ℕ, ◌*◌, ◌^◌, ◌<◌, ◌≤◌, Bool, true, false, not, T, leb, sym, refl, ap}
 use Rattle.std.proofs.Common.{◌∙◌, subst, inl, inr, lt_of_lt_of_le}
 use Rattle.std.proofs.Common.{eq-or-lt_of_le, mul-lt-mul_of_pos_right, lt_of_not-le, not-le_of_lt, arith}
-use Rattle.std.proofs.Common.{ltb→lt, lt→ltb, leb→le, pow_pos}
+use Rattle.std.proofs.Common.{ltb→lt, lt→ltb, leb→le, pow_pos, ltb, eqb, ◌&&◌, ◌||◌}
+use Rattle.std.proofs.lemmas.Bool.Decides.{nat_tests}
 use Rattle.std.proofs.lemmas.Float as floats
 use lib.Ieee.{Float, nan, inf, fin, binary32, up, down, lt, le, fits, is_nan, of_bits, to_bits}
 use lib.Ieee.Bits.{of_bits-to_bits}
@@ -12,7 +13,10 @@ use lib.Ieee.Order.{transfer}
 use Rattle.numbers.specs.Cases.{sign}
 use Rattle.numbers.proofs.Patterns.{val, val_strict, finite_value, unsigned, pattern_in}
 use Rattle.std.proofs.lemmas.Bool.{cases_lt}
-use Rattle.numbers.proofs.Cuts.{lt_or_eq}
+
+-- ---- `<=` of two values with no sign, as their fractions
+pub lt_or_eq : (a b : ℕ) → T (ltb a b || (eqb a b && true)) → a ≤ b
+lt_or_eq a b t = grind (arith, nat_tests)
 
 -- ---- a finite pattern without a sign
 plus : (b : ℕ) → b < 2139095040 → sign b ≡ false

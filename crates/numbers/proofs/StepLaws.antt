@@ -4,8 +4,11 @@ use Rattle.std.proofs.Common.{not, ℤ, pos, negsuc, neg_ℤ, nat_abs, sym, refl
 use Rattle.std.proofs.Common.{lt_of_lt_of_le, le_of_lt, mul-le-mul_right, zero-lt-suc, mul_assoc, mul_comm}
 use Rattle.std.proofs.Common.{eq-zero-or-pos, mul-lt-mul_of_pos_right, mul-pos, one-mul, le-div_iff_mul-le}
 use Rattle.std.proofs.Common.{mul_right_comm, mul-div_cancel, arith, to_z-of_z, pow_pos, pow_mono, pow-add, shr_lt}
+use Rattle.std.proofs.Common.{get_or, eqb, eqb-true, lit<, subst}
 use native.Mathlib.Nat.{div-eq_of_lt}
-use lib.Ieee.{Float, nan, inf, fin, binary32, up, down, of_bits, round, div, of_int}
+use Rattle.std.proofs.lemmas.Bool.{agree_below_at}
+use Rattle.numbers.specs.declared.steps.TheConstants.{POWERS}
+use lib.Ieee.{Float, nan, inf, fin, binary32, up, down, is_nan, of_bits, round, mul, of_int}
 use lib.Ieee.Fits.{down_pos}
 use lib.Ieee.Exact.{HasValue, round_exact}
 use lib.Ieee.Back.{round_whole}
@@ -14,7 +17,7 @@ use lib.Signed.{mag, non_neg}
 use lib.Ieee.Nearest.{div_same}
 use Rattle.numbers.specs.Steps.{limited, step_of, unstep}
 use Rattle.numbers.specs.Cases.{sign, field, fraction}
-use Rattle.numbers.proofs.Patterns.{low_value, mid_value, infinite, no_number}
+use Rattle.numbers.proofs.Patterns.{low_value, mid_value, infinite, no_number, nan_is}
 
 -- the steps of ±a / c
 pub step_of_value : (k : ℕ) (x : Float) (s : Bool) (a c : ℕ) → 0 < c → HasValue x s a c → step_of k x
@@ -90,6 +93,39 @@ in_range b k h p l =
     (8388608 + fraction b) (2 ^ (150 - k - field b)) (pow_pos 149) (pow_pos (150 - k - field b))
     (shift (8388608 + fraction b) (field b) k (omega arith) l))
 
+-- the same by the exponent, field - (127 - k), as the code has it
+exponent : (k f : ℕ) → k ≤ 5 → 127 ≤ f + k → f + k < 142 → 150 - k - f ≡ 23 - (f - (127 - k))
+exponent k f h p l = omega arith
+
+pub cut_by : (b k : ℕ) → k ≤ 5 → 127 ≤ field b + k → field b + k < 142
+    → (8388608 + fraction b) / 2 ^ (23 - (field b - (127 - k))) < 32768
+cut_by b k h p l = subst (λ (n : ℕ). (8388608 + fraction b) / 2 ^ n < 32768) (exponent k (field b) h p l) (cut_in b k l)
+
+pub by_exponent : (b k : ℕ) → k ≤ 5 → 127 ≤ field b + k → field b + k < 142 → step_of k (of_bits binary32 b)
+    ≡ limited (sign b) ((8388608 + fraction b) / 2 ^ (23 - (field b - (127 - k))))
+by_exponent b k h p l = in_range b k h p l
+    ∙ ap (λ (n : ℕ). limited (sign b) ((8388608 + fraction b) / 2 ^ n)) (exponent k (field b) h p l)
+
+-- the cut by a product, for `cut`
+pub cut_is : (a e : ℕ) → e ≤ 14 → a * 2 ^ e / 8388608 ≡ a / 2 ^ (23 - e)
+cut_is a e h = div_same (a * 2 ^ e) 8388608 a (2 ^ (23 - e)) (lit< tt) (pow_pos (23 - e))
+    (mul_assoc a (2 ^ e) (2 ^ (23 - e)) ∙ ap (λ (n : ℕ). a * n) (sym (pow-add 2 e (23 - e)) ∙ whole e h))
+  where
+    whole : (e : ℕ) → e ≤ 14 → 2 ^ (e + (23 - e)) ≡ 8388608
+    whole e h = ap (λ (n : ℕ). 2 ^ n) {x = e + (23 - e)} {y = 23} (omega arith)
+
+pub product_in : (a e : ℕ) → a < 2 ^ 24 → e ≤ 14 → a * 2 ^ e < 2 ^ 38
+product_in a e h l = lt_of_lt_of_le (mul-lt-mul_of_pos_right h (pow_pos e))
+    (le_trans (le_of_eq (sym (pow-add 2 24 e))) (pow_mono {j = 38} (omega (arith, l))))
+
+pub cut_small : (a e : ℕ) → a < 2 ^ 24 → e ≤ 14 → a * 2 ^ e / 8388608 < 32768
+cut_small a e h l = omega (arith, product_in a e h l)
+
+-- the table of powers
+pub power_at : (e : ℕ) → e ≤ 14 → get_or POWERS e 0 ≡ 2 ^ e
+power_at e h = eqb-true _ _ (agree_below_at (λ n. eqb (get_or POWERS n 0) (2 ^ n)) (λ _. true) 15 e refl (omega
+    (arith, h)))
+
 -- ---- beyond it
 large : (q x k : ℕ) → 8388608 ≤ q → k ≤ 5 → 142 ≤ x + k → 32768 * 2 ^ 149 ≤ q * 2 ^ (x - 1) * 2 ^ k
 large q x k h j l =
@@ -115,40 +151,49 @@ pub at_nan : (b k : ℕ) → field b ≡ 255 → (fraction b ≡ 0 → ⊥) → 
 unfolding step_of
 at_nan b k e z = ap (step_of k) (no_number b e z)
 
--- ---- reading: ±n divided by 2 ^ k
-alike : (t s : Bool) (m n u d k : ℕ) → 0 < d → t ≡ s → m * u * 1 ≡ n * d
-    → round binary32 t (m * u * 1) (1 * 2 ^ k * d) ≡ round binary32 s n (2 ^ k)
-alike t s m n u d k D p q =
-    ap (λ (b : Bool). round binary32 b (m * u * 1) (1 * 2 ^ k * d)) p
-    ∙ round_same binary32 s (m * u * 1) (1 * 2 ^ k * d) n (2 ^ k) (mul-pos (mul-pos (zero-lt-suc 0) (pow_pos k)) D)
-    (pow_pos k)
-    (ap (λ (a : ℕ). a * 2 ^ k) q ∙ mul_assoc n d (2 ^ k)
-    ∙ ap (λ (a : ℕ). n * a) (mul_comm d (2 ^ k) ∙ ap (λ (a : ℕ). a * d) (sym (one-mul (2 ^ k)))))
+-- ---- the pattern that stands for a NaN's
+as_nan : (k : ℕ) → step_of k nan ≡ step_of k (of_bits binary32 0x7fc0_0000)
+unfolding step_of of_bits
+as_nan k = refl
 
-by_power : (k : ℕ) (x : Float) (s : Bool) (n : ℕ) → HasValue x s n 1 → div binary32 x (fin false 1 (pos k))
-    ≡ round binary32 s n (2 ^ k)
-unfolding div
-by_power k nan s n h = absurd h
-by_power k (inf t) s n h = absurd h
-by_power k (fin true m e) s n h = alike true s m n (up e) (down e) k (down_pos e) h.0 h.1
-by_power k (fin false m e) s n h = alike false s m n (up e) (down e) k (down_pos e) h.0 h.1
+pub at_pattern : (k : ℕ) (x : Float) → is_nan x ≡ true → step_of k x ≡ step_of k (of_bits binary32 0x7fc0_0000)
+at_pattern k x e = ap (step_of k) (nan_is x e) ∙ as_nan k
 
--- 2 ^ k as the code has it, in 32 bits
-pub power_is : (k : ℕ) → k ≤ 5 → of_int binary32 (pos (1 * 2 ^ k % 4294967296)) ≡ fin false 1 (pos k)
-unfolding of_int round
-power_is zero h = refl
-power_is (suc zero) h = refl
-power_is (suc (suc zero)) h = refl
-power_is (suc (suc (suc zero))) h = refl
-power_is (suc (suc (suc (suc zero)))) h = refl
-power_is (suc (suc (suc (suc (suc zero))))) h = refl
-power_is (suc (suc (suc (suc (suc (suc k)))))) h = absurd (omega arith)
+-- ---- reading: ±n times 2 ^ -(k + 1)
+alike : (s : Bool) (m n u d k : ℕ) → 0 < d → m * u * 1 ≡ n * d
+    → round binary32 s (m * u * (1 * 1)) (d * 2 ^ suc k) ≡ round binary32 s n (2 ^ suc k)
+alike s m n u d k D q =
+    round_same binary32 s (m * u * (1 * 1)) (d * 2 ^ suc k) n (2 ^ suc k) (mul-pos D (pow_pos (suc k)))
+    (pow_pos (suc k)) (ap (λ (a : ℕ). a * 2 ^ suc k) q ∙ mul_assoc n d (2 ^ suc k))
 
-pub divided : (k : ℕ) (z : ℤ) → mag z < 32768 → div binary32 (of_int binary32 z) (fin false 1 (pos k)) ≡ unstep k z
+by_part : (k : ℕ) (x : Float) (s : Bool) (n : ℕ) → HasValue x s n 1 → mul binary32 x (fin false 1 (negsuc k))
+    ≡ round binary32 s n (2 ^ suc k)
+unfolding mul
+by_part k nan s n h = absurd h
+by_part k (inf t) s n h = absurd h
+by_part k (fin true m e) s n h =
+    ap (λ (b : Bool). round binary32 b (m * up e * (1 * 1)) (down e * 2 ^ suc k)) h.0
+    ∙ alike s m n (up e) (down e) k (down_pos e) h.1
+by_part k (fin false m e) s n h =
+    ap (λ (b : Bool). round binary32 b (m * up e * (1 * 1)) (down e * 2 ^ suc k)) h.0
+    ∙ alike s m n (up e) (down e) k (down_pos e) h.1
+
+times : (k : ℕ) (z : ℤ) → mag z < 32768 → mul binary32 (of_int binary32 z) (fin false 1 (negsuc k)) ≡ unstep (suc k) z
 unfolding of_int unstep
-divided k (pos n) h = by_power k (round binary32 false n 1) false n (round_whole binary32 false n (omega arith))
-divided k (negsuc n) h = by_power k (round binary32 true (suc n) 1) true (suc n)
+times k (pos n) h = by_part k (round binary32 false n 1) false n (round_whole binary32 false n (omega arith))
+times k (negsuc n) h = by_part k (round binary32 true (suc n) 1) true (suc n)
     (round_whole binary32 true (suc n) (omega arith))
+
+-- 0.25 and 0.03125, as the code has them
+pub times_quarter : (z : ℤ) → mag z < 32768 → mul binary32 (of_int binary32 z) (of_bits binary32 0x3e80_0000)
+    ≡ unstep 2 z
+unfolding of_bits
+times_quarter z l = times 1 z l
+
+pub times_thirty_second : (z : ℤ) → mag z < 32768
+    → mul binary32 (of_int binary32 z) (of_bits binary32 0x3d00_0000) ≡ unstep 5 z
+unfolding of_bits
+times_thirty_second z l = times 4 z l
 
 -- it is exact
 exact : (k : ℕ) (s : Bool) (n : ℕ) → k ≤ 5 → n ≤ 32768 → HasValue (round binary32 s n (2 ^ k)) s n (2 ^ k)
@@ -201,5 +246,7 @@ step_in k nan = omega arith
 step_in k (inf s) = limited_in s 32768
 step_in k (fin s m e) = limited_in s (m * up e * 2 ^ k / down e)
 
--- for `steps_of_number`
-pub ruleset step_laws = (cut_in, too_small, in_range, beyond, at_infinity, to_z-of_z)
+-- for `cut`, and for `steps_of_bits`
+pub ruleset cut_laws = (cut_is, product_in, cut_small)
+
+pub ruleset step_laws = (cut_by, too_small, by_exponent, beyond, at_infinity, at_nan, to_z-of_z)

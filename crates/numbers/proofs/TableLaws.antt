@@ -1,8 +1,8 @@
 -- The table's rule: for every pattern from +0 to the infinity, its rounded root is k or more exactly where the
 -- pattern is entry k or more. One computed test at the
 -- entries, and that the rounded root grows with the pattern. Assumes nothing.
-use Rattle.std.proofs.Common.{◌≡◌, ℕ, suc, ◌+◌, ◌-◌, ◌*◌, ◌/◌, ◌^◌, ◌<◌, ◌≤◌, min, Bool, true, false, not, ◌&&◌}
-use Rattle.std.proofs.Common.{◌||◌, T, eqb, ltb, leb, ◌⊎◌, length, get_or, zero-le, sym, refl, ap, ◌∙◌, subst, inl}
+use Rattle.std.proofs.Common.{◌≡◌, ℕ, suc, ◌-◌, ◌*◌, ◌/◌, ◌^◌, ◌<◌, ◌≤◌, min, Bool, true, false, not, ◌&&◌}
+use Rattle.std.proofs.Common.{◌||◌, T, eqb, ltb, leb, ◌⊎◌, get_or, sym, refl, ap, ◌∙◌, subst, inl}
 use Rattle.std.proofs.Common.{inr, le_trans, le_of_eq, le_of_lt, mul-le-mul_right, zero-lt-suc, mul_assoc}
 use Rattle.std.proofs.Common.{div-lt_iff_lt-mul, eq-or-lt_of_le, le-div_iff_mul-le, mul-one, mul_right_comm}
 use Rattle.std.proofs.Common.{le_of_mul-le-mul_right, div-one, arith, le→leb, leb→le, T_not}
@@ -13,16 +13,12 @@ use lib.Ieee.Exact.{HasValue}
 use lib.Ieee.Nearest.{div_same}
 use Rattle.numbers.specs.Lengths.{root_of, root, reaches, capped, length_of}
 use Rattle.numbers.specs.Table.{thresholds, Least}
-use Rattle.std.specs.List.Sorted.{IsNonDecreasingBy, IsPartitionedBy, IsPartitionPoint}
-use Rattle.std.proofs.lemmas.List.Sorted.{IsNonDecreasingBy-from_all_adjacent, IsPartitionedBy-leb}
-use borrow.Author.Tests.{eqb-true, leb-true, leb-false, ltb-true}
-use Rattle.std.proofs.lemmas.List.{get_or_default}
+use borrow.Author.Tests.{eqb-true, ltb-true}
 use Rattle.numbers.proofs.Patterns.{val, val_mono, unsigned}
-use Rattle.numbers.proofs.Orders.{plain}
+use Rattle.numbers.proofs.Orders.{plain, lt_or_eq}
 use Rattle.numbers.proofs.Roots.{root_of_mono, no_sign}
 use Rattle.std.proofs.lemmas.Bool.{agree_below_at, and_parts, cases_lt, or_cases}
 use Rattle.std.proofs.lemmas.Float.{T_from_true}
-use Rattle.numbers.proofs.Cuts.{lt_or_eq}
 
 -- The test of entry k: it is a finite f32's, its own root reaches k, and that of the pattern before it does not.
 unfoldable least : ℕ → ℕ → Bool
@@ -145,42 +141,3 @@ least_entry k h = record {
   none_below = λ b l.
       missed k b h l;
 }
-
--- ---- the place where the entries become more than a pattern
-adjacent : (k : ℕ) → k + 1 < 256 → entry k ≤ entry (k + 1)
-unfolding thresholds
-adjacent k h = leb-true (entry k) (entry (k + 1))
-    (agree_below_at (λ q. leb (entry q) (entry (q + 1))) (λ _. true) 255 k refl (omega arith))
-
-all : length thresholds ≡ 256
-unfolding thresholds
-all = refl
-
-rising : IsNonDecreasingBy (λ (y : ℕ). y) thresholds
-rising = IsNonDecreasingBy-from_all_adjacent (λ (y : ℕ). y) thresholds (λ k d h.
-    rw (get_or_default thresholds k d 0 (omega arith), get_or_default thresholds (k + 1) d 0 h)
-    (adjacent k (omega (arith, all))))
-
-pub partitioned : (b : ℕ) → IsPartitionedBy (λ y. leb y b) thresholds
-partitioned b = IsPartitionedBy-leb (λ (y : ℕ). y) thresholds b rising
-
-module _ (b r : ℕ) (h : IsPartitionPoint (λ y. leb y b ≡ true) (λ y. leb y b ≡ false) thresholds r) where
-  zero_first : entry 0 ≡ 0
-  unfolding thresholds
-  zero_first = refl
-
-  pub point_some : 1 ≤ r
-  point_some = elim (cases_lt 0 r) [
-    | inl l ↦ l
-    | inr g ↦ absurd (omega (arith, leb-false (entry 0) b (h.1 0 0 g (omega (arith, all))), zero_first))
-  ]
-
-  -- a pattern above infinity's is taken as that: no entry lies between
-  pub point_is : r ≤ 256 → r - 1 ≡ length_of (of_bits binary32 (min b 2139095040))
-  point_is m =
-      let here : r - 1 < 256 = omega (arith, point_some) in
-      let low : entry (r - 1) ≤ b = leb→le (entry (r - 1)) b
-      (subst T (sym (h.0 (r - 1) 0 zero-le (omega (arith, point_some)))) tt) in
-      length_is (r - 1) (min b 2139095040) here (omega arith) (omega (arith, low, finite (r - 1) here))
-      (λ g. let high = leb-false (entry (suc (r - 1))) b
-      (h.1 (suc (r - 1)) 0 (omega (arith, point_some)) (omega (arith, all, g))) in omega (arith, high))

@@ -1,6 +1,9 @@
 -- Closed facts, each worked out. A wrong definition is refused here.
-use Rattle.std.proofs.Common.{◌≡◌, ℕ, ◌+◌, ◌*◌, true, negsuc, refl}
-use lib.Ieee.{binary32, round}
+use Rattle.std.proofs.Common.{◌≡◌, ℕ, ◌+◌, ◌-◌, ◌*◌, true, false, negsuc, refl, get_or}
+use lib.Ieee.{binary32, nan, round}
+use Rattle.numbers.specs.Grid.{cell_along}
+use Rattle.numbers.specs.declared.starts.TheConstants.{STARTS}
+use Rattle.numbers.specs.declared.thresholds.TheConstants.{THRESHOLDS}
 use Rattle.numbers.specs.Steps.{step_of}
 use Rattle.numbers.specs.Cases.{field, fraction, StepCase, case_of, case_step}
 use Rattle.numbers.specs.Cases.{too_small, within_range, beyond_range, infinite, not_a_number}
@@ -59,3 +62,28 @@ strip_step = refl
 
 strip_given : case_step beyond_range 2 0xc600_00ff ≡ negsuc 32767
 strip_given = refl
+
+-- ---- the grid: its ends, and what lies beyond
+last_cell : cell_along (round binary32 false 8191 1) ≡ 31
+unfolding cell_along round
+last_cell = refl
+
+beyond_the_grid : cell_along (round binary32 false 8192 1) ≡ 31
+unfolding cell_along round
+beyond_the_grid = refl
+
+before_the_grid : cell_along (round binary32 true 8193 1) ≡ 0
+unfolding cell_along round
+before_the_grid = refl
+
+no_number : cell_along nan ≡ 0
+unfolding cell_along
+no_number = refl
+
+-- ---- the code's tables: s = 32761 - 1/512 is 0x46fff1ff, where the length becomes 181, and its slice begins below
+-- that
+threshold_of_181 : get_or THRESHOLDS 181 0 ≡ 0x46ff_f1ff
+threshold_of_181 = refl
+
+start_of_its_slice : get_or STARTS (0x46ff - 0x3f7f) 0 ≡ 180
+start_of_its_slice = refl

@@ -15,6 +15,13 @@ grid_floor nan = 0
 grid_floor (inf s) = cond s 0 31
 grid_floor (fin s m e) = cond s 0 (min (m * up e / (down e * 512)) 31)
 
+-- The whole part of x, limited to 0 .. 31: what is below zero gives 0, and a NaN too. The law `cell_is` says that the
+-- cell of y is the whole part of y / 512, rounded to f32.
+unfoldable pub whole_part : Float → ℕ
+whole_part nan = 0
+whole_part (inf s) = cond s 0 31
+whole_part (fin s m e) = cond s 0 (min (m * up e / down e) 31)
+
 -- Section 6: the cell along one axis. The sum x + 8192 is rounded once to f32.
 unfoldable pub cell_along : Float → ℕ
 unfolding grid_floor add

@@ -1,7 +1,8 @@
-// The grid of cells, as at the head of the Rust's `ynd.rs` (document 01, section 6): 32 by 32 cells
-// of 512 metres from (-8192, -8192). A cell's area is y * 32 + x.
+// The grid of cells (docs/FORMAT.md, "Grid and file names"): 32 by 32 cells of 512 metres from (-8192, -8192). A cell's
+// area is y * 32 + x.
 ghost use Rattle.std.specs.Prelude.{◌≡◌, ◌≤◌};
-ghost use Rattle.numbers.specs.Grid.{cell_along, cell_for_position, in_grid, area_id, cell_of_area, is_island_area};
+ghost use Rattle.numbers.specs.Grid.{whole_part, cell_along, cell_for_position};
+ghost use Rattle.numbers.specs.Grid.{in_grid, area_id, cell_of_area, is_island_area};
 ghost use Rattle.numbers.specs.Grid.{same_cell, lower_bound, cell_bounds};
 
 use crate::refusal::Refusal;
@@ -33,17 +34,27 @@ pub struct Bounds {
     pub y1: f32,
 }
 
-// The cell along one axis. A NaN and what is below zero become zero; from 31 on it is 31, whose pattern is the limit,
-// as the patterns' order is the numbers'. The whole part is taken as a length's (length.rt). With no way out before it
-// the compiler takes both axes at once: 4 ns instead of 9.
+// The whole part of x, limited to 0..31. What is below zero gives 0, and a NaN too.
+//
+// IEEE 754, binary32: an f32 has 24 binary digits, so from 2^23 = 8388608 up to 2^24 neighbours are 1 apart, and their
+// patterns too: that of 2^23 + n is 0x4b000000 + n. The sum with 2^23 is therefore rounded to the nearest whole number.
+// Where that is more than the number was, it is one too many. Numbers from 2^23 on have greater patterns than any of
+// these, and fall to the limit.
+fn whole_part(x: f32) -> u32
+    ensures { result ≡ whole_part x }
+{
+    let from = if 0.0 < x { x } else { 0.0 };
+    let sum = from + 8388608.0;
+    let over = if from < sum - 8388608.0 { 1 } else { 0 };
+    (sum.to_bits() - 0x4b00_0000 - over).min(31)
+}
+
+// The cell along one axis.
+#[tactic(auto, using(crate::proofs::GridLaws::cell_of_sum))]
 fn cell_along(x: f32) -> u32
     ensures { result ≡ cell_along x }
 {
-    let q = (x + 8192.0) / CELL_SIZE;
-    let from = if 0.0 < q { q } else { 0.0 };
-    let least = f32::from_bits(from.to_bits().min(0x41f8_0000));
-    let raised = least as f64 + 268435456.0;
-    (raised.to_bits() / 0x100_0000 % 32) as u32
+    whole_part((x + 8192.0) / CELL_SIZE)
 }
 
 // The cell that holds a position, limited to the grid.

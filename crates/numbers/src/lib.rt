@@ -10,6 +10,7 @@ pub mod math;
 pub mod names;
 pub mod position;
 pub mod refusal;
+pub mod starts;
 pub mod steps;
 pub mod threshold_search;
 pub mod thresholds;

@@ -1,5 +1,5 @@
-// Stored steps (document 01, section 3): x and y count quarters of a metre, z counts thirty-seconds.
-ghost use Rattle.std.specs.Prelude.{◌≡◌, ◌%◌, ◌≤◌, from_bits};
+// Stored steps: x and y count quarters of a metre, z counts thirty-seconds (docs/FORMAT.md, "Stored steps").
+ghost use Rattle.std.specs.Prelude.{◌≡◌, ◌-◌, ◌/◌, ◌^◌, ◌<◌, ◌≤◌, from_bits};
 ghost use Rattle.std.specs.Float.{binary32};
 ghost use Rattle.numbers.specs.Steps.{limited, step_of, unstep};
 
@@ -19,24 +19,52 @@ fn limit(negative: bool) -> i16
     if negative { i16::MIN } else { i16::MAX }
 }
 
-// The steps of the number that the pattern b stands for: times 2^k, cut towards zero, limited. Four of the five cases
-// on the exponent's field, in their order (T-04; specs/Cases.antt defines all five); NaN is the fifth, below.
+// 2^e for the exponents within range. By this table a cut takes one product, which is faster than a shift whose count
+// is not always the same.
+const POWERS: [u64; 15] = [
+    1, 2, 4, 8, 16, 32, 64, 128, 256, 512, 1024, 2048, 4096, 8192, 16384,
+];
+
+#[inline(always)]
+#[tactic(auto, using(crate::proofs::StepLaws::power_at))]
+fn power(e: u32) -> u64
+    requires { e ≤ 14 }
+    ensures { result ≡ 2 ^ e }
+{
+    POWERS[e as usize]
+}
+
+// The whole part of 1.fraction * 2^e, by the 24-bit significand 2^23 + fraction, which counts units of 2^-23.
+#[inline(always)]
+#[tactic(auto, using(crate::proofs::StepLaws::cut_laws))]
+fn cut(significand: u32, e: u32) -> u32
+    requires { (significand < 2 ^ 24) × (e ≤ 14) }
+    ensures { result ≡ significand / 2 ^ (23 - e) }
+{
+    (significand as u64 * power(e) >> 23) as u32
+}
+
+// The steps of the number that the pattern b stands for: times 2^k, cut towards zero, limited. These are the five cases
+// of specs/Cases.antt, in its order: too small, within range, beyond it, infinite, NaN. Every pattern is in exactly
+// one.
 //
 // IEEE 754, binary32: bit 31 is the sign, bits 30 to 23 are the exponent's field (8 bits), bits 22 to 0 the fraction
 // (23 bits). The field is the exponent plus the bias, 127. So a field from 1 to 254 stands for
-// ±1.fraction * 2^(field - 127), and times 2^k that lies from 2^(field + k - 127) up to below 2^(field + k - 126).
-// - Too small is below 1: field + k - 126 is at most 0, so field < 127 - k. The cut leaves nothing. Field 0, which is
-//   zero and the subnormal numbers below 2^-126, is among them.
-// - Within range is from 1 up to below 2^15 = 32768: field + k - 126 is at most 15, so field < 142 - k. The 24-bit
-//   significand 2^23 + fraction counts units of 2^(field + k - 150): its last 150 - k - field bits, 9 to 23 of them,
-//   are below 1 and are cut.
+// ±1.fraction * 2^(field - 127), and times 2^k that is ±1.fraction * 2^e, where e = field - 127 + k. It lies from 2^e
+// up
+// to below 2^(e + 1).
+// - Too small is below 1: e < 0, so field < 127 - k. The cut leaves nothing. Field 0, which is zero and the subnormal
+//   numbers below 2^-126, is among them.
+// - Within range is from 1 up to below 2^15 = 32768: e < 15, so field < 142 - k. The step is the whole part.
 // - Beyond it are the other finite numbers, from 32768 steps on: the limit of the sign, -32768 or 32767. What is
 //   cut to -32768 (along x and y from -8192 down to above -8192.25, along z from -1024 down to above -1024.03125)
 //   has the field of this case too, though an i16 holds it: the limit of its sign is the step that it has.
 // - Infinite is field 255 with the fraction 0: the limit of the sign.
+// - NaN is field 255 with any other fraction: 0.
+#[inline(always)]
 #[tactic(auto, using(crate::proofs::StepLaws::step_laws))]
-fn steps_of_number(b: u32, k: u32) -> i16
-    requires { (k ≤ 5) × (b % 0x8000_0000 ≤ 0x7f80_0000) }
+fn steps_of_bits(b: u32, k: u32) -> i16
+    requires { k ≤ 5 }
     ensures { result ≡ step_of k (from_bits binary32 b) }
 {
     let negative = b >= 0x8000_0000;
@@ -48,51 +76,34 @@ fn steps_of_number(b: u32, k: u32) -> i16
     }
     // within range
     if field < 142 - k {
-        return signed(negative, (0x80_0000 + fraction) >> (150 - k - field));
+        return signed(negative, cut(0x80_0000 + fraction, field - (127 - k)));
     }
     // beyond it
     if field < 255 {
         return limit(negative);
     }
     // infinite
-    limit(negative)
-}
-
-// The same for any pattern. NaN is field 255 with another fraction than 0, so a pattern above infinity's but for the
-// sign: 0.
-#[tactic(auto, using(crate::proofs::Patterns::nan_pattern), unfolding(crate::specs::Steps::step_of))]
-fn steps_of_bits(b: u32, k: u32) -> i16
-    requires { k ≤ 5 }
-    ensures { result ≡ step_of k (from_bits binary32 b) }
-{
-    // NaN
-    if 0x7f80_0000 < b % 0x8000_0000 {
-        return 0;
+    if fraction == 0 {
+        return limit(negative);
     }
-    steps_of_number(b, k)
+    // NaN
+    0
 }
 
-// The same, from the f32.
-#[tactic(auto, using(crate::proofs::Patterns::float_laws), unfolding(crate::specs::Steps::step_of))]
+// The steps of an f32, by its pattern. The language leaves the bits of a NaN undefined: the pattern of a NaN,
+// 0x7fc00000,
+// goes through the cases in their place.
+#[inline(always)]
+#[tactic(auto, using(crate::proofs::Patterns::float_laws, crate::proofs::StepLaws::at_pattern))]
 fn steps(x: f32, k: u32) -> i16
     requires { k ≤ 5 }
     ensures { result ≡ step_of k x }
 {
-    // NaN comes first here too: the language leaves the bits of a NaN undefined, so they may not be taken. The bits of
-    // every other value go through the cases.
     if x.is_nan() {
-        return 0;
+        steps_of_bits(0x7fc0_0000, k)
+    } else {
+        steps_of_bits(x.to_bits(), k)
     }
-    steps_of_number(x.to_bits(), k)
-}
-
-// What n steps stand for, 2 ^ k of them a metre.
-#[tactic(auto, using(crate::proofs::StepLaws::divided, crate::proofs::StepLaws::power_is))]
-fn metres(n: i16, k: u32) -> f32
-    requires { k ≤ 5 }
-    ensures { result ≡ unstep k n }
-{
-    n as f32 / (1u32 << k) as f32
 }
 
 // Along x and y 2 ^ 2 steps are a metre, along z 2 ^ 5.
@@ -100,21 +111,26 @@ const XY: u32 = 2;
 
 const Z: u32 = 5;
 
-// What n steps stand for, along x and y.
+// What n steps stand for, along x and y: n / 4.
+#[inline(always)]
+#[tactic(auto, using(crate::proofs::StepLaws::times_quarter))]
 pub fn metres_xy(n: i16) -> f32
     ensures { result ≡ unstep 2 n }
 {
-    metres(n, XY)
+    n as f32 * 0.25
 }
 
-// What n steps stand for, along z.
+// What n steps stand for, along z: n / 32.
+#[inline(always)]
+#[tactic(auto, using(crate::proofs::StepLaws::times_thirty_second))]
 pub fn metres_z(n: i16) -> f32
     ensures { result ≡ unstep 5 n }
 {
-    metres(n, Z)
+    n as f32 * 0.03125
 }
 
 // The steps of a coordinate x or y.
+#[inline(always)]
 pub fn steps_xy(x: f32) -> i16
     ensures { result ≡ step_of 2 x }
 {
@@ -122,6 +138,7 @@ pub fn steps_xy(x: f32) -> i16
 }
 
 // The steps of a coordinate z.
+#[inline(always)]
 pub fn steps_z(x: f32) -> i16
     ensures { result ≡ step_of 5 x }
 {

@@ -1,33 +1,27 @@
-use Rattle.std.proofs.Common.{◌/◌, ◌%◌, ◌^◌, not, T, sym, ap, ◌∙◌, subst}
-use lib.Ieee.{Float, binary64, is_nan, add, of_bits, to_bits}
+use Rattle.std.proofs.Common.{◌≤◌, ap, ◌∙◌, sym, subst, arith}
+use lib.Ieee.{Float, binary32, of_bits, to_bits}
+use lib.Ieee.Bits.{of_bits-to_bits}
 use Rattle.numbers.specs.Squares.{squared}
+use Rattle.numbers.specs.Lengths.{length_of}
 use Rattle.numbers.proofs.Dots.{dot_unsigned, dot_fits}
-use Rattle.numbers.proofs.LengthLaws.{root_number, root_cut, root_capped, number_at_255, cut_at_255}
+use Rattle.numbers.proofs.LengthLaws.{below, from_255, top_bits, at_top}
 use Rattle.numbers.proofs.length.length_between.Goals as goal
 
-pub float_to_bits-result : goal.float_to_bits-result
-float_to_bits-result c = elim c.if-root.branch [
-  | goal.then-root w ↦
-      subst (λ (x : Float). T (not (is_nan (add binary64 x (of_bits binary64 0x41b0_0000_0000_0000)))))
-      (sym w.least-is)
-      (root_number (squared c.args.a c.args.b) c.sqrt-root.result (dot_fits _ _ _) (dot_unsigned _ _ _)
-      c.sqrt-root.ensures.value w.if-root.true)
-  | goal.else-root w ↦
-      subst (λ (x : Float). T (not (is_nan (add binary64 x (of_bits binary64 0x41b0_0000_0000_0000)))))
-      (sym w.least-is) number_at_255
+pub length_of_bits-requires : goal.length_of_bits-requires
+length_of_bits-requires c = elim c.if-square.branch [
+  | goal.then-square w ↦ subst (λ (x : Float). to_bits binary32 x ≤ 0x477e_ffff) (sym w.least-is)
+      (omega (arith, below (squared c.args.a c.args.b) (dot_fits _ _ _) (dot_unsigned _ _ _) w.if-square.true))
+  | goal.else-square w ↦ subst (λ (x : Float). to_bits binary32 x ≤ 0x477e_ffff) (sym w.least-is)
+      (omega (arith, top_bits))
 ]
 
 pub returns : goal.returns
-returns c = elim c.if-root.branch [
-  | goal.then-root w ↦
-      ap (λ (x : Float). to_bits binary64 (add binary64 x (of_bits binary64 0x41b0_0000_0000_0000)) / 2 ^ 24 % 256)
-      w.least-is
-      ∙ root_cut (squared c.args.a c.args.b) c.sqrt-root.result (dot_fits _ _ _) (dot_unsigned _ _ _)
-      c.sqrt-root.ensures.value w.if-root.true
-  | goal.else-root w ↦
-      ap (λ (x : Float). to_bits binary64 (add binary64 x (of_bits binary64 0x41b0_0000_0000_0000)) / 2 ^ 24 % 256)
-      w.least-is
-      ∙ cut_at_255
-      ∙ root_capped (squared c.args.a c.args.b) c.sqrt-root.result (dot_fits _ _ _) (dot_unsigned _ _ _)
-      c.sqrt-root.ensures.value w.if-root.false
+returns c = c.length_of_bits.ensures.length ∙ elim c.if-square.branch [
+  | goal.then-square w ↦
+      ap (λ (x : Float). length_of (of_bits binary32 (to_bits binary32 x))) w.least-is
+      ∙ ap length_of (of_bits-to_bits binary32 (squared c.args.a c.args.b) (dot_fits _ _ _))
+  | goal.else-square w ↦
+      ap (λ (x : Float). length_of (of_bits binary32 (to_bits binary32 x))) w.least-is
+      ∙ at_top
+      ∙ from_255 (squared c.args.a c.args.b) (dot_fits _ _ _) (dot_unsigned _ _ _) w.if-square.false
 ]
