@@ -11,7 +11,9 @@ use Rattle.records.specs.Sections.{located, extent, bytes_of, array_at}
 use Rattle.records.specs.Root.{root_of, unknowns_of, root_bytes}
 use Rattle.records.specs.Records.{node_at, link_at, junction_at, node_bytes, link_bytes, junction_bytes, ref_bytes}
 use Rattle.cells.specs.Lists.{up_to, join_to, sum_to}
-use Rattle.cells.specs.Words.{path_link, link_words}
+use Rattle.cells.specs.Paths.{path_link}
+use Rattle.cells.specs.Nodes.{no_entry, no_link, no_map, no_ref}
+use Rattle.cells.specs.declared.link.PathLink.{PathLink}
 use Rattle.cells.specs.Checks.{sizes_check, arrays_found, scan, arrays_check}
 use Rattle.cells.specs.Memory.{Memory, memory}
 use Rattle.cells.specs.Read.{links_from, values_from, links_in, values_in, room_check, filled, read_arrays, read_of}
@@ -206,7 +208,7 @@ room =
       heightmap_count = 0;
       ref_count = 0;
     })
-    ([] ∷ [] ∷ []) ([] ∷ [] ∷ []) ([] ∷ []) (0 ∷ 0 ∷ 0 ∷ 0 ∷ []) ([] ∷ [])
+    (no_entry ∷ no_entry ∷ []) (no_link ∷ no_link ∷ []) (no_map ∷ []) (0 ∷ 0 ∷ 0 ∷ 0 ∷ []) (no_ref ∷ [])
 
 pub accepted : (read_of system graphics room).answer ≡ (Ok tt)
 unfolding read_of sizes_check arrays_found read_arrays arrays_check scan sum_to room_check room located bytes_of
@@ -315,17 +317,19 @@ unfolding arrays_of array_at located bytes_of extent root_of unknowns_of number_
 used_link_counts h = let e : ◌≡◌ {A = ℕ} 1 0 = (h.same_arrays (lit≤ tt)).links 2 (lit< tt)
     (record { node = 0; is_node = lit< tt; from = lit≤ tt; before = lit< tt }) in omega arith
 
--- and it is read: the words of each link, area and number first
-pub links_read : (read_of system graphics room).memory.links ≡ (5 ∷ 1 ∷ 0 ∷ 256 ∷ []) ∷ (5 ∷ 0 ∷ 0 ∷ 256 ∷ []) ∷ []
+-- and it is read: the links to these numbers, of length 1
+abbrev link_to : ℕ → PathLink
+link_to k = record { area_id = 5; node_id = k; flags0 = 0; flags1 = 0; flags2 = 0; length = 1 }
+
+pub links_read : (read_of system graphics room).memory.links ≡ link_to 1 ∷ link_to 0 ∷ []
 unfolding read_of sizes_check arrays_found read_arrays arrays_check scan sum_to room_check filled join_to up_to
-    links_in links_from link_words path_link link_at room located bytes_of extent root_of unknowns_of number_at
+    links_in links_from path_link link_at room located bytes_of extent root_of unknowns_of number_at
     node_at junction_at root_bytes node_bytes link_bytes junction_bytes ref_bytes number_bytes bits16 system graphics
 links_read = refl
 
-pub other_links_read : (read_of other_used_link graphics room).memory.links ≡ (5 ∷ 0 ∷ 0 ∷ 256 ∷ [])
-    ∷ (5 ∷ 0 ∷ 0 ∷ 256 ∷ []) ∷ []
+pub other_links_read : (read_of other_used_link graphics room).memory.links ≡ link_to 0 ∷ link_to 0 ∷ []
 unfolding read_of sizes_check arrays_found read_arrays arrays_check scan sum_to room_check filled join_to up_to
-    links_in links_from link_words path_link link_at room other_used_link located bytes_of extent root_of
+    links_in links_from path_link link_at room other_used_link located bytes_of extent root_of
     unknowns_of number_at node_at junction_at root_bytes node_bytes link_bytes junction_bytes ref_bytes number_bytes
     bits16 system graphics
 other_links_read = refl

@@ -12,7 +12,7 @@ use Rattle.records.specs.declared.node.Node as raw-node
 use Rattle.records.specs.declared.junction.NodeJunction.{NodeJunction}
 use Rattle.records.specs.declared.junction_ref.NodeJunctionRef.{NodeJunctionRef}
 use Rattle.cells.specs.Lists.{up_to, join_to, sum_to}
-use Rattle.cells.specs.Words.{path_node, path_link, path_junction, node_words, link_words, junction_words, ref_words}
+use Rattle.cells.specs.Paths.{path_node, path_link, path_junction}
 use Rattle.cells.specs.Checks.{counts_of, links_at, values_at}
 use Rattle.cells.specs.Memory.{Memory, memory}
 use Rattle.cells.specs.Read.{links_from, values_from, node_in, links_in, junction_in, values_in, ref_in}
@@ -85,10 +85,10 @@ module _ (a b : Arrays) (long : Alike a b) (same : SameArrays a b) where
   node_links : (i : ℕ) → i < length a.nodes / 40 → links_in a.nodes a.links i ≡ links_in b.nodes b.links i
   unfolding links_in links_from
   node_links i lt =
-      up_to_same (λ k. link_words (path_link (link_at a.links ((from i + k) * 8))))
-      (λ k. link_words (path_link (link_at b.links ((from i + k) * 8)))) (links_at a.nodes i)
-      (λ k few. λ q. link_words (path_link (raw_link i k lt few q)))
-      ∙ (λ q. up_to (λ k. link_words (path_link (link_at b.links (((ns q (i * 40)).link_id + k) * 8))))
+      up_to_same (λ k. path_link (link_at a.links ((from i + k) * 8)))
+      (λ k. path_link (link_at b.links ((from i + k) * 8))) (links_at a.nodes i)
+      (λ k few. λ q. path_link (raw_link i k lt few q))
+      ∙ (λ q. up_to (λ k. path_link (link_at b.links (((ns q (i * 40)).link_id + k) * 8)))
       ((ns q (i * 40)).link_count_flags / 8))
 
   abbrev first : ℕ → ℕ
@@ -122,12 +122,12 @@ module _ (a b : Arrays) (long : Alike a b) (same : SameArrays a b) where
       λ q.
       memory
       (cell_read root c)
-      (up_to (λ i. node_words (path_node (ns q (i * 40)) (sum_to (λ p. (ns q (p * 40)).link_count_flags / 8) i)))
+      (up_to (λ i. path_node (ns q (i * 40)) (sum_to (λ p. (ns q (p * 40)).link_count_flags / 8) i))
       c.nodes ++ drop c.nodes m.nodes)
       (join_to_same (links_in a.nodes a.links) (links_in b.nodes b.links) c.nodes node_links q ++ drop c.links m.links)
-      (up_to (λ i. junction_words (path_junction (js q (i * 12)) (sum_to
-      (λ p. (js q (p * 12)).heightmap_dim_x * (js q (p * 12)).heightmap_dim_y) i))) c.junctions
+      (up_to (λ i. path_junction (js q (i * 12)) (sum_to
+      (λ p. (js q (p * 12)).heightmap_dim_x * (js q (p * 12)).heightmap_dim_y) i)) c.junctions
       ++ drop c.junctions m.junctions)
       (join_to_same (values_in a.junctions a.heights) (values_in b.junctions b.heights) c.junctions
       junction_values_law q ++ drop c.heights m.heights)
-      (up_to (λ i. ref_words (raw_refs q (i * 8))) c.refs ++ drop c.refs m.refs)
+      (up_to (λ i. raw_refs q (i * 8)) c.refs ++ drop c.refs m.refs)

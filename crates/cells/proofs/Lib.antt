@@ -4,7 +4,7 @@ pub mod Forms
 pub mod Reading
 pub mod Lookups
 pub mod Renumbering
+pub mod Editing
 pub mod Writing
 pub mod WritingBack
-pub mod Editing
 pub mod Worked

@@ -2,8 +2,8 @@
 pub mod ReadLaws
 pub mod Whole
 pub mod FileRead
-pub mod Listed
 pub mod Fits
 pub mod NewYnd
 pub mod Undrawn
+pub mod Listed
 pub mod UndrawnCell

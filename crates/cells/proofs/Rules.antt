@@ -3,14 +3,6 @@ use lib.Seq.{length-take-le, take_all}
 use Rattle.std.proofs.lemmas.List.{drop_all}
 use mir.ValLaws.{to_z-of_z}
 use borrow.Author.Rules.{sfits_of}
-use Rattle.records.proofs.Puts.{joined_ended}
-use Rattle.records.proofs.RecordBack.{junction_length}
-use Rattle.cells.proofs.Writing.CheckTurns.{junctions_inside, nodes_inside}
-use Rattle.cells.proofs.Writing.BlockLaws.{nodes_length, record_length, junctions_length, links_length, refs_length}
-use Rattle.cells.proofs.Writing.BlockSteps.{array_room, array_put}
-use Rattle.records.proofs.Laid.{lay_done}
-use Rattle.cells.proofs.Sequences.Turns.{joined_room, joined_none, joined_put, joined_behind, laid_put, laid_ended}
-use Rattle.cells.proofs.Writing.Ranges.{link_count_law, value_count_law, links_size}
 use Rattle.std.proofs.lemmas.List.Edits.{swap_is}
 use Rattle.std.proofs.lemmas.Slice.Zip.{zip_turn, zip_end}
 use Rattle.cells.proofs.Sequences.Moved.{exchange_less, below_t}
@@ -23,36 +15,38 @@ use Rattle.cells.proofs.Reading.ReadLaws.{holds, nodes_few, junctions_few, refs_
 use Rattle.cells.proofs.Reading.ReadLaws.{links_fit_word, heights_fit_word, scan_start, scan_hit, scan_on, scan_end}
 use Rattle.cells.proofs.Reading.ReadLaws.{sum_next, sum_room, fill_turn, join_turn, small, part_short}
 use Rattle.cells.proofs.Reading.Whole.{node_range_inside, junction_range_inside}
-use Rattle.cells.proofs.Reading.Whole.{node_start, node_count, map_start, map_width, map_height}
 use Rattle.cells.proofs.Lookups.LookupLaws.{find_at, find_past, find_other}
 use Rattle.cells.proofs.Renumbering.Looked.{places_long, last_inside, place_below, looked_up, left_alone}
-use Rattle.cells.proofs.Renumbering.Looked.{relinked_own, relinked_other, four}
+use Rattle.cells.proofs.Renumbering.Looked.{relinked_own, relinked_other}
 use Rattle.cells.proofs.Renumbering.Named.{index_starts, index_turn, last_here, last_nowhere}
 use Rattle.cells.proofs.Renumbering.CellRenumbered.{number_length}
 use Rattle.cells.proofs.Renumbering.Reordered.{are_places, places_many, place_at, number_turn}
+use Rattle.cells.proofs.WritingBack.BackAnswer.{back_told}
+use Rattle.cells.proofs.Editing.EditLaws.{held_bound, lent_false}
+use Rattle.cells.proofs.Editing.Inserted.{behind_bound, held_few}
+use Rattle.records.proofs.Puts.{joined_ended}
+use Rattle.records.proofs.RecordBack.{junction_length}
+use Rattle.cells.proofs.Writing.EntryTurns.{node_room, node_behind, node_laid, node_inside}
+use Rattle.cells.proofs.Writing.EntryTurns.{map_room, map_put, map_laid, map_inside}
+use Rattle.cells.proofs.Writing.BlockLaws.{nodes_length, record_length, junctions_length, links_length, refs_length}
+use Rattle.cells.proofs.Writing.BlockSteps.{array_room, array_put}
+use Rattle.records.proofs.Laid.{lay_done}
+use Rattle.cells.proofs.Sequences.Turns.{joined_room, joined_none, joined_put, joined_behind, laid_put, laid_ended}
+use Rattle.cells.proofs.Writing.Ranges.{link_count_law, value_count_law, links_size}
 use Rattle.cells.proofs.Writing.Starts.{start_sum}
 use Rattle.cells.proofs.Writing.CheckTurns.{nodes_end, nodes_8, nodes_9, nodes_next}
 use Rattle.cells.proofs.Writing.CheckTurns.{junctions_end, junctions_10, junctions_next}
-use Rattle.cells.proofs.WritingBack.BackAnswer.{back_told}
 use Rattle.records.proofs.Puts.{put_fits}
 use Rattle.records.proofs.Laid.{header_length}
 use Rattle.cells.proofs.Writing.WriteSteps.{stored_in, section_put, nodes_say, junctions_say, rooted, ending}
 use Rattle.cells.proofs.Writing.WriteSteps.{arrays_room, stored_fits}
 use Rattle.cells.proofs.Writing.WriteSteps.{counts_refused, list_refused, goes_on}
-use Rattle.cells.proofs.Editing.EditLaws.{held_bound, lent_false}
-use Rattle.cells.proofs.Editing.Inserted.{behind_bound, held_few}
 
 pub ruleset range_laws = (tested, leb-false, lent_false, held_bound)
-
-pub ruleset stored_ranges = (node_start, node_count, map_start, map_width, map_height)
-
-pub ruleset behind_laws = (behind_bound, held_few)
 
 pub ruleset scan_laws = (scan_start, scan_hit, scan_on, scan_end, sum_next, lt-ltb, le-ltb)
 
 pub ruleset fill_laws = (sum_room, sum_next, fill_turn, join_turn)
-
-pub ruleset zero_tests = (eq-eqb, ne_eqb)
 
 pub ruleset sections_laws = (small, part_short)
 
@@ -78,13 +72,21 @@ pub ruleset looked_laws = (places_long, last_inside, place_below, looked_up, lef
 
 pub ruleset last_laws = (last_here, last_nowhere)
 
-pub ruleset relink_laws = (relinked_own, relinked_other, four)
+pub ruleset relink_laws = (relinked_own, relinked_other, mapped_turn, take_all, drop_all)
 
 pub ruleset mapped_laws = (mapped_turn, take_all, drop_all)
 
 pub ruleset number_laws = (number_turn, fill_all, number_length)
 
 pub ruleset move_laws = (are_places, places_many)
+
+pub ruleset file_laws = (to_z-of_z, sfits_of)
+
+pub ruleset permute_laws = (exchange_less, swap_is, below_t)
+
+pub ruleset renumber_laws = (old_front, peds_are)
+
+pub ruleset zero_tests = (eq-eqb, ne_eqb)
 
 pub ruleset node_turns = (nodes_end, nodes_8, nodes_9, nodes_next, start_sum)
 
@@ -96,30 +98,30 @@ pub ruleset store_laws = (room_laws, put_fits, stored_in, section_put, rooted, h
 
 pub ruleset write_laws = (counts_refused, list_refused, goes_on)
 
+pub ruleset heights_laws = (map_room, map_put, joined_ended, joined_none)
+
 -- for a function that puts what each entry makes
 pub ruleset joined_laws = (joined_room, joined_put, joined_ended, joined_none)
 
-pub ruleset links_laws = (joined_room, joined_behind, joined_ended, joined_none, links_size, link_count_law)
+pub ruleset links_laws = (node_room, node_behind, joined_ended, joined_none, links_size, link_count_law)
 
 pub ruleset junctions_laws = (
   junctions_length,
   junction_length,
   value_count_law,
-  junctions_inside,
-  laid_put,
+  map_inside,
+  map_laid,
   laid_ended,
 )
 
-pub ruleset nodes_laws = (nodes_length, record_length, link_count_law, nodes_inside, start_sum, laid_put, laid_ended)
+pub ruleset nodes_laws = (nodes_length, record_length, link_count_law, node_inside, start_sum, node_laid, laid_ended)
 
 pub ruleset arrays_laws = (array_room, array_put, lay_done, refs_length, junctions_length, links_length, nodes_length)
 
-pub ruleset file_laws = (to_z-of_z, sfits_of)
-
-pub ruleset permute_laws = (exchange_less, swap_is, below_t)
-
-pub ruleset renumber_laws = (old_front, peds_are)
-
 pub ruleset counts_laws = (tested, nodes_say, junctions_say)
+
+pub ruleset behind_laws = (behind_bound, held_few)
+
+pub ruleset shifted_laws = (tested, mapped_turn, take_all, drop_all)
 
 pub ruleset back_laws = (room_laws, back_told)

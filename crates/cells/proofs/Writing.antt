@@ -8,3 +8,4 @@ pub mod WriteListed
 pub mod BlockLaws
 pub mod BlockSteps
 pub mod Nines
+pub mod EntryTurns

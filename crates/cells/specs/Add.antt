@@ -7,8 +7,8 @@ use Rattle.numbers.specs.Positions.{quantised, dequantised}
 use Rattle.numbers.specs.declared.math.Vec3.{Vec3}
 use Rattle.records.specs.Put.{put}
 use Rattle.records.specs.declared.junction_ref.NodeJunctionRef.{NodeJunctionRef}
-use Rattle.cells.specs.Words.{node_words, junction_words, ref_words}
 use Rattle.cells.specs.NodeAccess.{new_node}
+use Rattle.cells.specs.EntryForms.{node_as_entry, junction_as_entry}
 use Rattle.cells.specs.Memory.{Memory, memory, Left, unless, over_limit}
 use Rattle.cells.specs.Edit.{start_at}
 use Rattle.cells.specs.declared.ynd.Ynd.{Ynd}
@@ -21,11 +21,7 @@ use Rattle.numbers.specs.declared.refusal.Lent.TheVariants as lent
 
 -- the struct with other counts
 unfoldable pub with_counts : Ynd → ℕ → ℕ → ℕ → ℕ → ℕ → Ynd
-with_counts y nodes links junctions heights refs = record {
-  vft = y.vft;
-  vehicle_node_count = y.vehicle_node_count;
-  ped_node_count = y.ped_node_count;
-  unknowns = y.unknowns;
+with_counts y nodes links junctions heights refs = record y {
   node_count = nodes;
   link_count = links;
   junction_count = junctions;
@@ -59,14 +55,14 @@ unfoldable pub add_node : Memory → ℕ → Vec3 → Left
 add_node m area at =
     unless (room_for (over_limit m.ynd) 65536 m.ynd.node_count (length m.nodes) lent.Nodes) m
     (done (memory (more_nodes m.ynd)
-    (set m.nodes m.ynd.node_count (node_words (new_node area m.ynd.node_count (dequantised (quantised at)))))
+    (set m.nodes m.ynd.node_count (node_as_entry (new_node area m.ynd.node_count (dequantised (quantised at)))))
     m.links m.junctions m.heights m.refs))
 
 -- section 4 has no limit on refs; the count is a number of 32 bits
 unfoldable pub add_ref : Memory → NodeJunctionRef → Left
 add_ref m r =
     unless (room_for (over_limit m.ynd) 4294967295 m.ynd.ref_count (length m.refs) lent.Refs) m
-    (done (memory (more_refs m.ynd) m.nodes m.links m.junctions m.heights (set m.refs m.ynd.ref_count (ref_words r))))
+    (done (memory (more_refs m.ynd) m.nodes m.links m.junctions m.heights (set m.refs m.ynd.ref_count r)))
 
 -- one more junction of this size behind n, with v values behind h
 unfoldable pub room_for_junction : Bool → ℕ → ℕ → ℕ → ℕ → ℕ → ℕ → Answer
@@ -86,7 +82,7 @@ add_junction m j values =
     unless (room_for_junction (over_limit m.ynd) m.ynd.junction_count m.ynd.heightmap_count (j.width * j.height)
     (length values) (length m.junctions) (length m.heights)) m
     (done (memory (more_junctions m.ynd (length values)) m.nodes m.links
-    (set m.junctions m.ynd.junction_count (junction_words (start_at j m.ynd.heightmap_count)))
+    (set m.junctions m.ynd.junction_count (start_at (junction_as_entry j) m.ynd.heightmap_count))
     (put m.heights m.ynd.heightmap_count values)
     m.refs))
 

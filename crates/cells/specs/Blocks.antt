@@ -4,26 +4,26 @@ use Rattle.records.specs.Put.{joined}
 use Rattle.records.specs.Records.{node_bytes, link_bytes, junction_bytes, ref_bytes}
 use Rattle.records.specs.Layout.{places_of, section_bytes}
 use Rattle.records.specs.declared.root.Root.{Root}
-use Rattle.cells.specs.Words.{to_node, to_link, to_junction, to_ref}
 use Rattle.cells.specs.Entries.{links_in, values_in, stored_start, file_node, file_link, file_junction}
 use Rattle.cells.specs.Memory.{Memory}
+use Rattle.cells.specs.declared.node_entry.NodeEntry.{NodeEntry}
+use Rattle.cells.specs.declared.link.PathLink.{PathLink}
+use Rattle.cells.specs.declared.junction_entry.JunctionEntry.{JunctionEntry}
+use Rattle.records.specs.declared.junction_ref.NodeJunctionRef.{NodeJunctionRef}
 
 -- ---- records
 
-abbrev pub link_record : List ℕ → List ℕ
-link_record e = link_bytes (file_link (to_link e))
-
-abbrev pub ref_record : List ℕ → List ℕ
-ref_record e = ref_bytes (to_ref e)
+abbrev pub link_record : PathLink → List ℕ
+link_record l = link_bytes (file_link l)
 
 -- with how many bytes of heightmaps stand before its own
-abbrev pub junction_record : ℕ → List ℕ → List ℕ
-junction_record start j = junction_bytes (file_junction start (to_junction j))
+abbrev pub junction_record : ℕ → JunctionEntry → List ℕ
+junction_record start j = junction_bytes (file_junction start j)
 
 -- with how many links stand before its own
-abbrev pub node_record : List (List ℕ) → ℕ → List ℕ → List ℕ
+abbrev pub node_record : List PathLink → ℕ → NodeEntry → List ℕ
 node_record links before n =
-    node_bytes (file_node (stored_start before (length (links_in links n))) (length (links_in links n)) (to_node n))
+    node_bytes (file_node (stored_start before (length (links_in links n))) (length (links_in links n)) n)
 
 -- ---- arrays
 
@@ -32,28 +32,29 @@ unfoldable pub laid : {A B C : Type 0} → (A → List B) → (ℕ → A → Lis
 laid f g k [] = []
 laid f g k (x ∷ xs) = g k x ++ laid f g (k + length (f x)) xs
 
-abbrev pub refs_block : List (List ℕ) → List ℕ
-refs_block refs = joined ref_record refs
+abbrev pub refs_block : List NodeJunctionRef → List ℕ
+refs_block refs = joined ref_bytes refs
 
 -- heightmaps in junction order
-abbrev pub heights_block : List ℕ → List (List ℕ) → List ℕ
+abbrev pub heights_block : List ℕ → List JunctionEntry → List ℕ
 heights_block heights junctions = joined (values_in heights) junctions
 
-abbrev pub junctions_block : List ℕ → List (List ℕ) → List ℕ
+abbrev pub junctions_block : List ℕ → List JunctionEntry → List ℕ
 junctions_block heights junctions = laid (values_in heights) junction_record 0 junctions
 
-abbrev pub links_records : List (List ℕ) → List ℕ → List ℕ
+abbrev pub links_records : List PathLink → NodeEntry → List ℕ
 links_records links n = joined link_record (links_in links n)
 
 -- links in node order
-abbrev pub links_block : List (List ℕ) → List (List ℕ) → List ℕ
+abbrev pub links_block : List PathLink → List NodeEntry → List ℕ
 links_block links nodes = joined (links_records links) nodes
 
-abbrev pub nodes_block : List (List ℕ) → List (List ℕ) → List ℕ
+abbrev pub nodes_block : List PathLink → List NodeEntry → List ℕ
 nodes_block links nodes = laid (links_in links) (node_record links) 0 nodes
 
 -- refs, heightmap bytes, junctions, links, nodes
-unfoldable pub arrays : List (List ℕ) → List (List ℕ) → List (List ℕ) → List ℕ → List (List ℕ) → List (List ℕ)
+unfoldable pub arrays : List NodeEntry → List PathLink → List JunctionEntry → List ℕ → List NodeJunctionRef
+    → List (List ℕ)
 arrays nodes links junctions heights refs =
     refs_block refs ∷ heights_block heights junctions ∷ junctions_block heights junctions
     ∷ links_block links nodes ∷ nodes_block links nodes ∷ []

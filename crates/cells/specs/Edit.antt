@@ -3,17 +3,18 @@
 use Rattle.std.specs.Prelude.{ℕ, ◌+◌, ◌-◌, ◌*◌, min, Bool, not, ◌&&◌, List, [], ◌∷◌, eqb, ltb, leb, length}
 use Rattle.std.specs.Prelude.{get_or, set}
 use Rattle.numbers.specs.Refusals.{when, decided, unless}
-use Rattle.cells.specs.NodeWords.{link_start, link_count, value_start, value_count}
-use Rattle.cells.specs.Words.{to_node, node_words, to_link, link_words, to_junction, junction_words, to_ref, ref_words}
-use Rattle.cells.specs.NodeAccess.{with_position, with_range}
+use Rattle.cells.specs.Nodes.{no_entry, no_link, no_map, no_ref, value_count}
+use Rattle.cells.specs.EntryForms.{moved_to, node_as_entry, junction_as_entry, with_range}
+use Rattle.cells.specs.declared.node.PathNode.{PathNode}
+use Rattle.cells.specs.declared.junction.PathJunction.{PathJunction}
 use Rattle.cells.specs.Memory.{over_limit, Memory, memory, Left}
 use Rattle.numbers.specs.Positions.{quantised, dequantised}
 use Rattle.numbers.specs.declared.math.Vec3.{Vec3}
 use Rattle.records.specs.declared.junction_ref.NodeJunctionRef.{NodeJunctionRef}
 use Rattle.cells.specs.declared.ynd.Ynd.{Ynd}
-use Rattle.cells.specs.declared.node.PathNode.{PathNode}
+use Rattle.cells.specs.declared.node_entry.NodeEntry.{NodeEntry}
 use Rattle.cells.specs.declared.link.PathLink.{PathLink}
-use Rattle.cells.specs.declared.junction.PathJunction.{PathJunction}
+use Rattle.cells.specs.declared.junction_entry.JunctionEntry.{JunctionEntry}
 use Rattle.cells.specs.declared.range.Range.{Range}
 use Rattle.std.specs.Prelude.{Result, Ok, Err}
 use Rattle.numbers.specs.Refusals.{Answer}
@@ -31,13 +32,13 @@ entry_at over n len list p =
     unless (decided (when (leb n p) NoSuchPlace ∷ when over AtLimit ∷ when (ltb len n) (TooShort list) ∷ [])) (Ok p)
 
 -- Section 4: a node's range of links, a junction's range of values; none at a place that the list has not
-abbrev pub link_range : List (List ℕ) → ℕ → Range
-link_range nodes p = record { start = link_start (get_or nodes p []); count = link_count (get_or nodes p []) }
+abbrev pub link_range : List NodeEntry → ℕ → Range
+link_range nodes p = record { start = (get_or nodes p no_entry).link_id; count = (get_or nodes p no_entry).link_count }
 
-abbrev pub value_range : List (List ℕ) → ℕ → Range
+abbrev pub value_range : List JunctionEntry → ℕ → Range
 value_range junctions p = record {
-  start = value_start (get_or junctions p []);
-  count = value_count (get_or junctions p []);
+  start = (get_or junctions p no_map).heightmap_ptr;
+  count = value_count (get_or junctions p no_map);
 }
 
 -- how many of a range are among the first l: a range that leaves the list is cut
@@ -57,46 +58,34 @@ range_entry over n len a l pool b p r k =
     ∷ when (ltb pool l) (TooShort b)
     ∷ [])) (Ok (r.start + k))
 
-unfoldable pub node_entry : Ynd → List (List ℕ) → ℕ → Result ℕ Refusal
+unfoldable pub node_entry : Ynd → List NodeEntry → ℕ → Result ℕ Refusal
 node_entry y nodes p = entry_at (over_limit y) y.node_count (length nodes) lent.Nodes p
 
-unfoldable pub link_entry : Ynd → List (List ℕ) → ℕ → ℕ → ℕ → Result ℕ Refusal
+unfoldable pub link_entry : Ynd → List NodeEntry → ℕ → ℕ → ℕ → Result ℕ Refusal
 link_entry y nodes links p k =
     range_entry (over_limit y) y.node_count (length nodes) lent.Nodes y.link_count links lent.Links p
     (link_range nodes p) k
 
-unfoldable pub ref_entry : Ynd → List (List ℕ) → ℕ → Result ℕ Refusal
+unfoldable pub ref_entry : Ynd → List NodeJunctionRef → ℕ → Result ℕ Refusal
 ref_entry y refs p = entry_at (over_limit y) y.ref_count (length refs) lent.Refs p
 
-unfoldable pub junction_entry : Ynd → List (List ℕ) → ℕ → Result ℕ Refusal
+unfoldable pub junction_entry : Ynd → List JunctionEntry → ℕ → Result ℕ Refusal
 junction_entry y junctions p = entry_at (over_limit y) y.junction_count (length junctions) lent.Junctions p
 
-unfoldable pub height_entry : Ynd → List (List ℕ) → ℕ → ℕ → ℕ → Result ℕ Refusal
+unfoldable pub height_entry : Ynd → List JunctionEntry → ℕ → ℕ → ℕ → Result ℕ Refusal
 height_entry y junctions heights p k =
     range_entry (over_limit y) y.junction_count (length junctions) lent.Junctions y.heightmap_count heights
     lent.Heightmap p (value_range junctions p) k
 
 -- ---- taken out
 
-abbrev pub got_node : Result ℕ Refusal → List (List ℕ) → Result PathNode Refusal
-got_node (Ok i) nodes = Ok (to_node (get_or nodes i []))
-got_node (Err cause) nodes = Err cause
+-- the entry of a list in the form that the call returns, d where the list ends before it
+abbrev pub got_as : {A B : Type 0} → (A → B) → A → Result ℕ Refusal → List A → Result B Refusal
+got_as f d (Ok i) l = Ok (f (get_or l i d))
+got_as f d (Err cause) l = Err cause
 
-abbrev pub got_link : Result ℕ Refusal → List (List ℕ) → Result PathLink Refusal
-got_link (Ok i) links = Ok (to_link (get_or links i []))
-got_link (Err cause) links = Err cause
-
-abbrev pub got_ref : Result ℕ Refusal → List (List ℕ) → Result NodeJunctionRef Refusal
-got_ref (Ok i) refs = Ok (to_ref (get_or refs i []))
-got_ref (Err cause) refs = Err cause
-
-abbrev pub got_junction : Result ℕ Refusal → List (List ℕ) → Result PathJunction Refusal
-got_junction (Ok i) junctions = Ok (to_junction (get_or junctions i []))
-got_junction (Err cause) junctions = Err cause
-
-abbrev pub got_height : Result ℕ Refusal → List ℕ → Result ℕ Refusal
-got_height (Ok i) heights = Ok (get_or heights i 0)
-got_height (Err cause) heights = Err cause
+abbrev pub got : {A : Type 0} → A → Result ℕ Refusal → List A → Result A Refusal
+got d r l = got_as (λ e. e) d r l
 
 -- ---- stored
 
@@ -109,20 +98,20 @@ abbrev pub stored : {A : Type 0} → Answer → List A → Stored A
 stored a l = record { answer = a; list = l }
 
 -- a call that lends one list: its answer, and the memory with the list after it
-abbrev pub nodes_left : Memory → Stored (List ℕ) → Left
-nodes_left m s = record { answer = s.answer; memory = memory m.ynd s.list m.links m.junctions m.heights m.refs }
+abbrev pub nodes_left : Memory → Stored NodeEntry → Left
+nodes_left m s = record { answer = s.answer; memory = record m { nodes = s.list } }
 
-abbrev pub links_left : Memory → Stored (List ℕ) → Left
-links_left m s = record { answer = s.answer; memory = memory m.ynd m.nodes s.list m.junctions m.heights m.refs }
+abbrev pub links_left : Memory → Stored PathLink → Left
+links_left m s = record { answer = s.answer; memory = record m { links = s.list } }
 
-abbrev pub junctions_left : Memory → Stored (List ℕ) → Left
-junctions_left m s = record { answer = s.answer; memory = memory m.ynd m.nodes m.links s.list m.heights m.refs }
+abbrev pub junctions_left : Memory → Stored JunctionEntry → Left
+junctions_left m s = record { answer = s.answer; memory = record m { junctions = s.list } }
 
 abbrev pub heights_left : Memory → Stored ℕ → Left
-heights_left m s = record { answer = s.answer; memory = memory m.ynd m.nodes m.links m.junctions s.list m.refs }
+heights_left m s = record { answer = s.answer; memory = record m { heights = s.list } }
 
-abbrev pub refs_left : Memory → Stored (List ℕ) → Left
-refs_left m s = record { answer = s.answer; memory = memory m.ynd m.nodes m.links m.junctions m.heights s.list }
+abbrev pub refs_left : Memory → Stored NodeJunctionRef → Left
+refs_left m s = record { answer = s.answer; memory = record m { refs = s.list } }
 
 -- an entry changed; a refusal leaves the list as it was
 abbrev pub change_at : {A : Type 0} → Result ℕ Refusal → (A → A) → A → List A → Stored A
@@ -130,33 +119,26 @@ change_at (Ok i) f d l = stored (Ok tt) (set l i (f (get_or l i d)))
 change_at (Err cause) f d l = stored (Err cause) l
 
 -- a node with the range of links that its entry has
-unfoldable pub range_kept : PathNode → List ℕ → PathNode
-range_kept n w = with_range n (link_start w) (link_count w)
+unfoldable pub range_kept : NodeEntry → NodeEntry → NodeEntry
+range_kept n old = with_range n old.link_id old.link_count
 
-unfoldable pub put_node : Ynd → List (List ℕ) → ℕ → PathNode → Stored (List ℕ)
-put_node y nodes p n = change_at (node_entry y nodes p) (λ w. node_words (range_kept n w)) [] nodes
+unfoldable pub put_node : Ynd → List NodeEntry → ℕ → PathNode → Stored NodeEntry
+put_node y nodes p n = change_at (node_entry y nodes p) (range_kept (node_as_entry n)) no_entry nodes
 
 -- as `PathNode::set_position`: section 3's stored position
-unfoldable pub set_position : Ynd → List (List ℕ) → ℕ → Vec3 → Stored (List ℕ)
+unfoldable pub set_position : Ynd → List NodeEntry → ℕ → Vec3 → Stored NodeEntry
 set_position y nodes p at = change_at (node_entry y nodes p)
-    (λ w. node_words (with_position (to_node w) (dequantised (quantised at)))) [] nodes
+    (moved_to (dequantised (quantised at))) no_entry nodes
 
-unfoldable pub put_link : Ynd → List (List ℕ) → List (List ℕ) → ℕ → ℕ → PathLink → Stored (List ℕ)
-put_link y nodes links p k l = change_at (link_entry y nodes (length links) p k) (λ w. link_words l) [] links
+unfoldable pub put_link : Ynd → List NodeEntry → List PathLink → ℕ → ℕ → PathLink → Stored PathLink
+put_link y nodes links p k l = change_at (link_entry y nodes (length links) p k) (λ old. l) no_link links
 
-unfoldable pub put_ref : Ynd → List (List ℕ) → ℕ → NodeJunctionRef → Stored (List ℕ)
-put_ref y refs p r = change_at (ref_entry y refs p) (λ w. ref_words r) [] refs
+unfoldable pub put_ref : Ynd → List NodeJunctionRef → ℕ → NodeJunctionRef → Stored NodeJunctionRef
+put_ref y refs p r = change_at (ref_entry y refs p) (λ old. r) no_ref refs
 
 -- a junction whose heightmap starts at a place
-unfoldable pub start_at : PathJunction → ℕ → PathJunction
-start_at j start = record {
-  position = j.position;
-  min_z = j.min_z;
-  max_z = j.max_z;
-  width = j.width;
-  height = j.height;
-  heightmap_ptr = start;
-}
+abbrev pub start_at : JunctionEntry → ℕ → JunctionEntry
+start_at j start = record j { heightmap_ptr = start }
 
 -- 12: the values stay as many
 unfoldable pub sized_entry : Bool → ℕ → ℕ → ℕ → ℕ → ℕ → Result ℕ Refusal
@@ -169,11 +151,11 @@ sized_entry over n len p values held =
     ∷ when (ltb len n) (TooShort lent.Junctions)
     ∷ [])) (Ok p)
 
-unfoldable pub put_junction : Ynd → List (List ℕ) → ℕ → PathJunction → Stored (List ℕ)
+unfoldable pub put_junction : Ynd → List JunctionEntry → ℕ → PathJunction → Stored JunctionEntry
 put_junction y junctions p j =
     change_at (sized_entry (over_limit y) y.junction_count (length junctions) p (j.width * j.height)
     (value_range junctions p).count)
-    (λ w. junction_words (start_at j (value_start w))) [] junctions
+    (λ old. start_at (junction_as_entry j) old.heightmap_ptr) no_map junctions
 
-unfoldable pub put_height : Ynd → List (List ℕ) → List ℕ → ℕ → ℕ → ℕ → Stored ℕ
+unfoldable pub put_height : Ynd → List JunctionEntry → List ℕ → ℕ → ℕ → ℕ → Stored ℕ
 put_height y junctions heights p k v = change_at (height_entry y junctions (length heights) p k) (λ x. v) 0 heights

@@ -8,29 +8,18 @@ use Rattle.records.specs.Sections.{array_at}
 use Rattle.records.specs.Records.{node_at, link_at, junction_at, ref_at}
 use Rattle.cells.specs.Lists.{up_to}
 use Rattle.cells.specs.Checks.{root_read}
-use Rattle.cells.specs.Words.{path_node}
-use Rattle.cells.specs.CellOf.{body_from}
-use Rattle.cells.specs.Cell.{Link, Node, NodeBody, Junction, Ref, Cell}
+use Rattle.cells.specs.Paths.{path_node, path_link}
+use Rattle.cells.specs.declared.node_entry.NodeEntry.{NodeEntry}
+use Rattle.cells.specs.Cell.{Node, Junction, Cell, body_of}
 use Rattle.records.specs.declared.root.Root.{Root}
 use Rattle.records.specs.declared.node.Node as raw-node
-use Rattle.records.specs.declared.link.NodeLink.{NodeLink}
 use Rattle.records.specs.declared.junction.NodeJunction.{NodeJunction}
 use Rattle.records.specs.declared.junction_ref.NodeJunctionRef.{NodeJunctionRef}
 
 -- ---- records. T-10: a node's unused fields are kept. Section 3: coordinates are read from their steps.
 
-abbrev pub file_link_of : NodeLink → Link
-file_link_of l = record {
-  area = l.area_id;
-  number = l.node_id;
-  body = record { flags0 = l.flags0; flags1 = l.flags1; flags2 = l.flags2; len = l.link_length };
-}
-
-abbrev pub file_ref_of : NodeJunctionRef → Ref
-file_ref_of r = record { area = r.area_id; number = r.node_id; junction = r.junction_id; unk0 = r.unk0 }
-
-abbrev pub file_body : raw-node.Node → NodeBody
-file_body n = body_from (path_node n 0)
+abbrev pub file_body : raw-node.Node → NodeEntry
+file_body n = body_of (path_node n 0)
 
 -- Section 4: its links are those of the array l from `link_id` on, as many as the top five bits of `link_count_flags`
 -- say. Each node gets its copy.
@@ -38,7 +27,7 @@ abbrev pub file_node_of : List ℕ → raw-node.Node → Node
 file_node_of l n = record {
   area = n.area_id;
   number = n.node_id;
-  links = up_to (λ k. file_link_of (link_at l ((n.link_id + k) * 8))) (n.link_count_flags / 8);
+  links = up_to (λ k. path_link (link_at l ((n.link_id + k) * 8))) (n.link_count_flags / 8);
   body = file_body n;
 }
 
@@ -62,8 +51,8 @@ file_nodes n l = up_to (λ i. file_node_of l (node_at n (i * 40))) (length n / 4
 unfoldable pub file_junctions : List ℕ → List ℕ → List Junction
 file_junctions j h = up_to (λ i. file_junction_of h (junction_at j (i * 12))) (length j / 12)
 
-unfoldable pub file_refs : List ℕ → List Ref
-file_refs r = up_to (λ i. file_ref_of (ref_at r (i * 8))) (length r / 8)
+unfoldable pub file_refs : List ℕ → List NodeJunctionRef
+file_refs r = up_to (λ i. ref_at r (i * 8)) (length r / 8)
 
 -- Section 4: a cell holds nodes, each with its links, junctions with heightmaps, refs, the root's own words.
 unfoldable pub cell_from : Root → List ℕ → List ℕ → List ℕ → List ℕ → List ℕ → Cell

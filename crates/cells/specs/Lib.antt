@@ -1,9 +1,10 @@
 pub mod Area
 pub mod Lists
-pub mod Words
+pub mod Paths
 pub mod Access
 pub mod LinkAccess
 pub mod Special
+pub mod EntryForms
 pub mod NodeAccess
 pub mod NewNumbers
 pub mod NewYnd
@@ -13,7 +14,7 @@ pub mod Read
 pub mod FileCauses
 pub mod RangedParts
 pub mod Order
-pub mod NodeWords
+pub mod Nodes
 pub mod Moves
 pub mod Renumber
 pub mod RenumberParts
@@ -38,8 +39,8 @@ pub mod WriteChecks
 pub mod Blocks
 pub mod WriteCounts
 pub mod Held
-pub mod Write
 pub mod WriteCauses
+pub mod Write
 pub mod WriteRead
 pub mod BackCheck
 pub mod BackAnswer

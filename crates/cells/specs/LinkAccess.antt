@@ -8,14 +8,7 @@ unfoldable pub link_to : ℕ → ℕ → PathLink
 link_to area node = record { area_id = area; node_id = node; flags0 = 0; flags1 = 0; flags2 = 0; length = 0 }
 
 unfoldable pub with_flags2 : PathLink → ℕ → PathLink
-with_flags2 l f = record {
-  area_id = l.area_id;
-  node_id = l.node_id;
-  flags0 = l.flags0;
-  flags1 = l.flags1;
-  flags2 = f;
-  length = l.length;
-}
+with_flags2 l f = record l { flags2 = f }
 
 -- lanes in both directions, by the byte that counts them
 unfoldable pub two_way : ℕ → Bool

@@ -8,16 +8,20 @@ use Rattle.numbers.specs.declared.refusal.Lent.TheVariants as lent
 use Rattle.numbers.specs.declared.refusal.Refusal.TheVariants.{AtLimit, TooShort}
 use Rattle.numbers.specs.Refusals.{Answer}
 use Rattle.numbers.specs.declared.refusal.Refusal.{Refusal}
+use Rattle.cells.specs.declared.node_entry.NodeEntry.{NodeEntry}
+use Rattle.cells.specs.declared.link.PathLink.{PathLink}
+use Rattle.cells.specs.declared.junction_entry.JunctionEntry.{JunctionEntry}
+use Rattle.records.specs.declared.junction_ref.NodeJunctionRef.{NodeJunctionRef}
 
 pub record Memory : Type 0 where
   pub ynd : Ynd
-  pub nodes : List (List ℕ)
-  pub links : List (List ℕ)
-  pub junctions : List (List ℕ)
+  pub nodes : List NodeEntry
+  pub links : List PathLink
+  pub junctions : List JunctionEntry
   pub heights : List ℕ
-  pub refs : List (List ℕ)
+  pub refs : List NodeJunctionRef
 
-abbrev pub memory : Ynd → List (List ℕ) → List (List ℕ) → List (List ℕ) → List ℕ → List (List ℕ) → Memory
+abbrev pub memory : Ynd → List NodeEntry → List PathLink → List JunctionEntry → List ℕ → List NodeJunctionRef → Memory
 memory y nodes links junctions heights refs =
     record { ynd = y; nodes = nodes; links = links; junctions = junctions; heights = heights; refs = refs }
 
@@ -41,8 +45,8 @@ abbrev pub ynd_after : Ynd → Result Ynd Refusal → Ynd
 ynd_after y (Ok next) = next
 ynd_after y (Err r) = y
 
-abbrev pub left : Ynd → Result Ynd Refusal → List (List ℕ) → List (List ℕ) → List (List ℕ) → List ℕ
-    → List (List ℕ) → Left
+abbrev pub left : Ynd → Result Ynd Refusal → List NodeEntry → List PathLink → List JunctionEntry → List ℕ
+    → List NodeJunctionRef → Left
 left y r nodes links junctions heights refs =
     record { answer = answered r; memory = memory (ynd_after y r) nodes links junctions heights refs }
 

@@ -3,11 +3,12 @@
 use Rattle.std.specs.Prelude.{ℕ, List, [], ◌∷◌, ◌++◌, map, ltb, length, take, drop}
 use Rattle.numbers.specs.Refusals.{Cause, when, decided}
 use Rattle.cells.specs.Order.{Old, new_number, new_places, listed}
-use Rattle.cells.specs.NodeWords.{is_ped, old_of}
+use Rattle.cells.specs.Nodes.{is_ped, old_of}
 use Rattle.std.specs.Prelude.{Ok, Err}
 use Rattle.numbers.specs.Refusals.{Answer}
 use Rattle.numbers.specs.declared.refusal.Refusal.TheVariants.{TooShort, AtLimit}
 use Rattle.numbers.specs.declared.refusal.Lent.TheVariants as lent
+use Rattle.cells.specs.declared.node_entry.NodeEntry.{NodeEntry}
 
 -- Entry k is the new number of the last node that had the number k; k if none had. There are 65,536 numbers.
 unfoldable pub new_numbers : Old → List ℕ
@@ -36,7 +37,7 @@ numbers_if (Ok _) table places next = next
 numbers_if (Err cause) table places next = numbers_left (Err cause) table places
 
 -- A refusal changes nothing; else the table and the places are filled from the front, and what is behind stays.
-unfoldable pub numbers_call : ℕ → List (List ℕ) → List ℕ → List ℕ → NumbersLeft
+unfoldable pub numbers_call : ℕ → List NodeEntry → List ℕ → List ℕ → NumbersLeft
 numbers_call n nodes table places =
     numbers_if (decided (numbers_causes n (length nodes) (length table) (length places)))
     table places

@@ -26,52 +26,27 @@ new_node area node p = record {
   unused4 = 0;
 }
 
--- A node with another position, other flags and another range of links. T-10: its unused fields stay.
-unfoldable pub changed : PathNode → Vec3 → ℕ → ℕ → ℕ → ℕ → ℕ → ℕ → ℕ → ℕ → PathNode
-changed n p f0 f1 f2 f3 f4 f5 start count = record {
-  area_id = n.area_id;
-  node_id = n.node_id;
-  street_name = n.street_name;
-  position = p;
-  flags0 = f0;
-  flags1 = f1;
-  flags2 = f2;
-  flags3 = f3;
-  flags4 = f4;
-  flags5 = f5;
-  link_id = start;
-  link_count = count;
-  unused0 = n.unused0;
-  unused1 = n.unused1;
-  unused2 = n.unused2;
-  unused3 = n.unused3;
-  unused4 = n.unused4;
-}
-
+-- T-10: its unused fields stay
 abbrev pub with_position : PathNode → Vec3 → PathNode
-with_position n p = changed n p n.flags0 n.flags1 n.flags2 n.flags3 n.flags4 n.flags5 n.link_id n.link_count
+with_position n p = record n { position = p }
 
 abbrev pub with_flags0 : PathNode → ℕ → PathNode
-with_flags0 n f = changed n n.position f n.flags1 n.flags2 n.flags3 n.flags4 n.flags5 n.link_id n.link_count
+with_flags0 n f = record n { flags0 = f }
 
 abbrev pub with_flags1 : PathNode → ℕ → PathNode
-with_flags1 n f = changed n n.position n.flags0 f n.flags2 n.flags3 n.flags4 n.flags5 n.link_id n.link_count
+with_flags1 n f = record n { flags1 = f }
 
 abbrev pub with_flags2 : PathNode → ℕ → PathNode
-with_flags2 n f = changed n n.position n.flags0 n.flags1 f n.flags3 n.flags4 n.flags5 n.link_id n.link_count
+with_flags2 n f = record n { flags2 = f }
 
 abbrev pub with_flags3 : PathNode → ℕ → PathNode
-with_flags3 n f = changed n n.position n.flags0 n.flags1 n.flags2 f n.flags4 n.flags5 n.link_id n.link_count
+with_flags3 n f = record n { flags3 = f }
 
 abbrev pub with_flags4 : PathNode → ℕ → PathNode
-with_flags4 n f = changed n n.position n.flags0 n.flags1 n.flags2 n.flags3 f n.flags5 n.link_id n.link_count
+with_flags4 n f = record n { flags4 = f }
 
 abbrev pub with_flags5 : PathNode → ℕ → PathNode
-with_flags5 n f = changed n n.position n.flags0 n.flags1 n.flags2 n.flags3 n.flags4 f n.link_id n.link_count
-
--- a node with so many links from there on
-abbrev pub with_range : PathNode → ℕ → ℕ → PathNode
-with_range n start count = changed n n.position n.flags0 n.flags1 n.flags2 n.flags3 n.flags4 n.flags5 start count
+with_flags5 n f = record n { flags5 = f }
 
 -- either of the two disabled bits of flags2
 unfoldable pub disabled : ℕ → Bool

@@ -4,17 +4,8 @@ use Rattle.cells.specs.declared.ynd.Ynd.{Ynd}
 
 -- the struct with other words of its own, and the same counts of entries
 unfoldable pub with_own : Ynd → ℕ → ℕ → ℕ → List ℕ → Ynd
-with_own y vft vehicles peds unknowns = record {
-  vft = vft;
-  vehicle_node_count = vehicles;
-  ped_node_count = peds;
-  unknowns = unknowns;
-  node_count = y.node_count;
-  link_count = y.link_count;
-  junction_count = y.junction_count;
-  heightmap_count = y.heightmap_count;
-  ref_count = y.ref_count;
-}
+with_own y vft vehicles peds unknowns =
+    record y { vft = vft; vehicle_node_count = vehicles; ped_node_count = peds; unknowns = unknowns }
 
 abbrev pub with_vft : Ynd → ℕ → Ynd
 with_vft y vft = with_own y vft y.vehicle_node_count y.ped_node_count y.unknowns

@@ -1,10 +1,9 @@
 -- Section 4, each public field's store: a junction's heightmap, of any size, as the Rust's `heightmap` is assigned.
 -- Causes of refusal, in their order: 13, 14 over a limit or at one, 12 values not width × height, 7.
-use Rattle.std.specs.Prelude.{◌≡◌, ℕ, ◌+◌, ◌*◌, ◌<◌, ◌≤◌, Bool, not, List, [], ◌∷◌, eqb, ltb}
-use Rattle.std.specs.Prelude.{leb, length, get_or, set, drop}
+use Rattle.std.specs.Prelude.{◌≡◌, ℕ, ◌*◌, ◌<◌, ◌≤◌, Bool, not, List, [], ◌∷◌, eqb, ltb}
+use Rattle.std.specs.Prelude.{leb, length, get_or, set}
 use Rattle.numbers.specs.Refusals.{Cause, when, decided}
 use Rattle.records.specs.Put.{put}
-use Rattle.cells.specs.NodeWords.{value_start}
 use Rattle.cells.specs.Memory.{Memory, memory, Left, unless, over_limit}
 use Rattle.cells.specs.Edit.{value_range, held_in}
 use Rattle.cells.specs.Add.{with_counts, done}
@@ -13,6 +12,8 @@ use Rattle.cells.specs.declared.ynd.Ynd.{Ynd}
 use Rattle.numbers.specs.Refusals.{Answer}
 use Rattle.numbers.specs.declared.refusal.Refusal.TheVariants.{TooShort, WrongSize, NoSuchPlace, AtLimit}
 use Rattle.numbers.specs.declared.refusal.Lent.TheVariants as lent
+use Rattle.cells.specs.declared.junction_entry.JunctionEntry.{JunctionEntry}
+use Rattle.cells.specs.Nodes.{no_map}
 
 -- for n junctions, a place p, c values of a map of this size, `after` values in all, which is a number of 32 bits
 abbrev pub map_causes : Bool → ℕ → ℕ → ℕ → ℕ → ℕ → ℕ → ℕ → List Cause
@@ -34,7 +35,7 @@ values_held m p = held_in (value_range m.junctions p) m.ynd.heightmap_count
 
 -- where c new values of the junction at p start, and how many values there are afterwards
 abbrev pub map_start : Memory → ℕ → ℕ → ℕ
-map_start m p c = place_for (value_start (get_or m.junctions p [])) (values_held m p) c m.ynd.heightmap_count
+map_start m p c = place_for (get_or m.junctions p no_map).heightmap_ptr (values_held m p) c m.ynd.heightmap_count
 
 abbrev pub values_after : Memory → ℕ → ℕ → ℕ
 values_after m p c = pool_after (values_held m p) c m.ynd.heightmap_count
@@ -43,9 +44,8 @@ abbrev pub with_value_count : Ynd → ℕ → Ynd
 with_value_count y h = with_counts y y.node_count y.link_count y.junction_count h y.ref_count
 
 -- the junction, with a map of this size from s on
-unfoldable pub mapped : ℕ → ℕ → ℕ → List ℕ → List ℕ
-mapped width height s w =
-    get_or w 0 0 ∷ get_or w 1 0 ∷ get_or w 2 0 ∷ get_or w 3 0 ∷ (width + height * 256) ∷ s ∷ drop 6 w
+abbrev pub mapped : ℕ → ℕ → ℕ → JunctionEntry → JunctionEntry
+mapped width height s j = record j { width = width; height = height; heightmap_ptr = s }
 
 abbrev pub map_call : Memory → ℕ → ℕ → ℕ → Answer
 map_call m p c size =
@@ -56,7 +56,7 @@ map_call m p c size =
 abbrev pub map_stored : Memory → ℕ → ℕ → ℕ → List ℕ → Memory
 map_stored m p width height values =
     memory (with_value_count m.ynd (values_after m p (length values))) m.nodes m.links
-    (set m.junctions p (mapped width height (map_start m p (length values)) (get_or m.junctions p [])))
+    (set m.junctions p (mapped width height (map_start m p (length values)) (get_or m.junctions p no_map)))
     (put m.heights (map_start m p (length values)) values)
     m.refs
 

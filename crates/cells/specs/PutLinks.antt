@@ -3,15 +3,17 @@
 use Rattle.std.specs.Prelude.{ℕ, ◌<◌, ◌≤◌, Bool, List, [], ◌∷◌, ltb, leb, length, get_or, set}
 use Rattle.numbers.specs.Refusals.{Cause, when, decided}
 use Rattle.records.specs.Put.{put}
-use Rattle.cells.specs.NodeWords.{link_start}
+use Rattle.cells.specs.EntryForms.{with_range}
 use Rattle.cells.specs.Memory.{Memory, memory, Left, unless, over_limit}
 use Rattle.cells.specs.Add.{with_counts, done}
-use Rattle.cells.specs.AddLink.{held_at, ranged}
+use Rattle.cells.specs.AddLink.{held_at}
 use Rattle.cells.specs.Replace.{place_for, pool_after}
 use Rattle.cells.specs.declared.ynd.Ynd.{Ynd}
 use Rattle.numbers.specs.Refusals.{Answer}
 use Rattle.numbers.specs.declared.refusal.Refusal.TheVariants.{TooShort, NoSuchPlace, AtLimit}
 use Rattle.numbers.specs.declared.refusal.Lent.TheVariants as lent
+use Rattle.cells.specs.declared.link.PathLink.{PathLink}
+use Rattle.cells.specs.Nodes.{no_entry}
 
 -- for n nodes, a place p, c new links, `after` links in all; a node's count is a byte, the count of all a number of
 -- 32 bits
@@ -30,7 +32,7 @@ room_for_links over n p c after nodes links = decided (links_causes over n p c a
 
 -- where c new links of the node at p start, and how many links there are afterwards
 abbrev pub links_start : Memory → ℕ → ℕ → ℕ
-links_start m p c = place_for (link_start (get_or m.nodes p [])) (held_at m.nodes p m.ynd.link_count) c
+links_start m p c = place_for (get_or m.nodes p no_entry).link_id (held_at m.nodes p m.ynd.link_count) c
     m.ynd.link_count
 
 abbrev pub links_after : Memory → ℕ → ℕ → ℕ
@@ -45,14 +47,14 @@ links_call m p c =
     (length m.links)
 
 -- the memory with `new` as the links of the node at p
-abbrev pub links_stored : Memory → ℕ → List (List ℕ) → Memory
+abbrev pub links_stored : Memory → ℕ → List PathLink → Memory
 links_stored m p new =
     memory (with_link_count m.ynd (links_after m p (length new)))
-    (set m.nodes p (ranged (links_start m p (length new)) (length new) (get_or m.nodes p [])))
+    (set m.nodes p (with_range (get_or m.nodes p no_entry) (links_start m p (length new)) (length new)))
     (put m.links (links_start m p (length new)) new)
     m.junctions m.heights m.refs
 
-unfoldable pub put_links : Memory → ℕ → List (List ℕ) → Left
+unfoldable pub put_links : Memory → ℕ → List PathLink → Left
 put_links m p new = unless (links_call m p (length new)) m (done (links_stored m p new))
 
 -- the room that an accepted call has; no public function's contract cites this

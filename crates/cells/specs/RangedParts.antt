@@ -7,7 +7,7 @@ use Rattle.records.specs.Records.{node_at, link_at, junction_at}
 use Rattle.cells.specs.Lists.{up_to}
 use Rattle.cells.specs.Checks.{links_at, values_at}
 use Rattle.cells.specs.Read.{links_from, links_in, values_from, values_in}
-use Rattle.cells.specs.Words.{link_words, path_link}
+use Rattle.cells.specs.Paths.{path_link}
 
 -- the range of record i, by its start and its count, is not within `len` entries
 abbrev pub outside : (ℕ → ℕ) → (ℕ → ℕ) → ℕ → ℕ → Bool
@@ -22,7 +22,7 @@ length_up_to f (suc n) = omega (arith, length-append (up_to f n) (f n ∷ []), l
 pub length_links : (n l : List ℕ) (i : ℕ) → length (links_in n l i) ≡ links_at n i
 unfolding links_in links_from
 length_links n l i =
-    length_up_to (λ k. link_words (path_link (link_at l (((node_at n (i * 40)).link_id + k) * 8)))) (links_at n i)
+    length_up_to (λ k. path_link (link_at l (((node_at n (i * 40)).link_id + k) * 8))) (links_at n i)
 
 pub length_values : (j h : List ℕ) (i : ℕ) → length (values_in j h i) ≡ values_at j i
 unfolding values_in values_from

@@ -7,7 +7,7 @@ use Rattle.records.specs.Records.{node_at, link_at, junction_at, ref_at}
 use Rattle.records.specs.declared.root.Root.{Root}
 use Rattle.records.specs.declared.section.Part.{Part}
 use Rattle.cells.specs.Lists.{up_to, join_to, sum_to}
-use Rattle.cells.specs.Words.{path_node, path_link, path_junction, node_words, link_words, junction_words, ref_words}
+use Rattle.cells.specs.Paths.{path_node, path_link, path_junction}
 use Rattle.cells.specs.Checks.{root_read, sizes_check, arrays_found, arrays_check, links_at, values_at}
 use Rattle.cells.specs.Memory.{Memory, memory, Left, refuse, unless, room_causes}
 use Rattle.cells.specs.declared.ynd.Ynd.{Ynd}
@@ -16,30 +16,34 @@ use Rattle.std.specs.Prelude.{Result, Ok, Err}
 use Rattle.numbers.specs.Refusals.{Answer}
 use Rattle.numbers.specs.declared.refusal.Refusal.{Refusal}
 use Rattle.cells.specs.declared.arrays.Arrays.{Arrays}
+use Rattle.cells.specs.declared.node_entry.NodeEntry.{NodeEntry}
+use Rattle.cells.specs.declared.link.PathLink.{PathLink}
+use Rattle.cells.specs.declared.junction_entry.JunctionEntry.{JunctionEntry}
+use Rattle.records.specs.declared.junction_ref.NodeJunctionRef.{NodeJunctionRef}
 
 -- `count` links of the array l, from link `from` on; `count` values of the bytes h, from `from` on
-unfoldable pub links_from : List ℕ → ℕ → ℕ → List (List ℕ)
-links_from l from count = up_to (λ k. link_words (path_link (link_at l ((from + k) * 8)))) count
+unfoldable pub links_from : List ℕ → ℕ → ℕ → List PathLink
+links_from l from count = up_to (λ k. path_link (link_at l ((from + k) * 8))) count
 
 unfoldable pub values_from : List ℕ → ℕ → ℕ → List ℕ
 values_from h from count = up_to (λ k. byte_at h (from + k)) count
 
 -- node i of the array n in memory, its links after those of the nodes before it; its own copy of its links
-unfoldable pub node_in : List ℕ → ℕ → List ℕ
-node_in n i = node_words (path_node (node_at n (i * 40)) (sum_to (links_at n) i))
+unfoldable pub node_in : List ℕ → ℕ → NodeEntry
+node_in n i = path_node (node_at n (i * 40)) (sum_to (links_at n) i)
 
-unfoldable pub links_in : List ℕ → List ℕ → ℕ → List (List ℕ)
+unfoldable pub links_in : List ℕ → List ℕ → ℕ → List PathLink
 links_in n l i = links_from l (node_at n (i * 40)).link_id (links_at n i)
 
 -- junction i of the array j, and its values, likewise
-unfoldable pub junction_in : List ℕ → ℕ → List ℕ
-junction_in j i = junction_words (path_junction (junction_at j (i * 12)) (sum_to (values_at j) i))
+unfoldable pub junction_in : List ℕ → ℕ → JunctionEntry
+junction_in j i = path_junction (junction_at j (i * 12)) (sum_to (values_at j) i)
 
 unfoldable pub values_in : List ℕ → List ℕ → ℕ → List ℕ
 values_in j h i = values_from h (junction_at j (i * 12)).heightmap_ptr (values_at j i)
 
-unfoldable pub ref_in : List ℕ → ℕ → List ℕ
-ref_in r i = ref_words (ref_at r (i * 8))
+unfoldable pub ref_in : List ℕ → ℕ → NodeJunctionRef
+ref_in r i = ref_at r (i * 8)
 
 -- 7: the memory lent holds what is read
 unfoldable pub room_check : Counts → ℕ → ℕ → ℕ → ℕ → ℕ → Answer

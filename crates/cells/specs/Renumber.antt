@@ -3,7 +3,7 @@
 use Rattle.std.specs.Prelude.{ℕ, ◌≡◌, Bool, List, [], ◌∷◌, ◌++◌, map, ltb, length, take, drop}
 use Rattle.numbers.specs.Refusals.{when, decided, refuse_if, unless, answered}
 use Rattle.cells.specs.Order.{keep, new_places}
-use Rattle.cells.specs.NodeWords.{is_ped, is_vehicle, reordered, old_of, relinked}
+use Rattle.cells.specs.Nodes.{is_ped, is_vehicle, reordered, old_of, relinked, rereffed}
 use Rattle.cells.specs.Memory.{Memory, memory, ynd_after, over_limit, short}
 use Rattle.cells.specs.declared.ynd.Ynd.{Ynd}
 use Rattle.std.specs.Prelude.{Result, Ok, Err}
@@ -11,6 +11,10 @@ use Rattle.numbers.specs.Refusals.{Answer}
 use Rattle.numbers.specs.declared.refusal.Refusal.{Refusal}
 use Rattle.numbers.specs.declared.refusal.Refusal.TheVariants.{TooShort, AtLimit}
 use Rattle.numbers.specs.declared.refusal.Lent.TheVariants as lent
+use Rattle.cells.specs.declared.node_entry.NodeEntry.{NodeEntry}
+use Rattle.cells.specs.declared.link.PathLink.{PathLink}
+use Rattle.cells.specs.declared.junction_entry.JunctionEntry.{JunctionEntry}
+use Rattle.records.specs.declared.junction_ref.NodeJunctionRef.{NodeJunctionRef}
 
 -- a call's answer, and the memory and the list of new places after it
 pub record Renumbered : Type 0 where
@@ -18,19 +22,19 @@ pub record Renumbered : Type 0 where
   pub memory : Memory
   pub places : List ℕ
 
-abbrev pub renumbered_by : Ynd → Result Ynd Refusal → List (List ℕ) → List (List ℕ) → List (List ℕ) → List ℕ
-    → List (List ℕ) → List ℕ → Renumbered
+abbrev pub renumbered_by : Ynd → Result Ynd Refusal → List NodeEntry → List PathLink → List JunctionEntry → List ℕ
+    → List NodeJunctionRef → List ℕ → Renumbered
 renumbered_by y r nodes links junctions heights refs places =
     record { answer = answered r; memory = memory (ynd_after y r) nodes links junctions heights refs; places = places }
 
 -- the lists that renumbering changes
 pub record Lists : Type 0 where
-  pub nodes : List (List ℕ)
-  pub links : List (List ℕ)
-  pub refs : List (List ℕ)
+  pub nodes : List NodeEntry
+  pub links : List PathLink
+  pub refs : List NodeJunctionRef
   pub places : List ℕ
 
-abbrev pub lists : List (List ℕ) → List (List ℕ) → List (List ℕ) → List ℕ → Lists
+abbrev pub lists : List NodeEntry → List PathLink → List NodeJunctionRef → List ℕ → Lists
 lists nodes links refs places = record { nodes = nodes; links = links; refs = refs; places = places }
 
 -- the first n entries, each changed; the later ones stay
@@ -38,10 +42,10 @@ abbrev pub over : {A : Type 0} → (List A → List A) → ℕ → List A → Li
 over f n l = f (take n l) ++ drop n l
 
 -- how many of the first n nodes are no ped nodes, and how many are
-unfoldable pub vehicles : ℕ → List (List ℕ) → ℕ
+unfoldable pub vehicles : ℕ → List NodeEntry → ℕ
 vehicles n nodes = length (keep is_vehicle (take n nodes))
 
-unfoldable pub peds : ℕ → List (List ℕ) → ℕ
+unfoldable pub peds : ℕ → List NodeEntry → ℕ
 peds n nodes = length (keep is_ped (take n nodes))
 
 -- n nodes, l links and r refs renumbered
@@ -49,22 +53,12 @@ unfoldable pub renumber_lists : ℕ → ℕ → ℕ → Lists → Lists
 renumber_lists n l r m = record {
   nodes = over reordered n m.nodes;
   links = over (map (relinked (old_of n m.nodes))) l m.links;
-  refs = over (map (relinked (old_of n m.nodes))) r m.refs;
+  refs = over (map (rereffed (old_of n m.nodes))) r m.refs;
   places = over (λ _. new_places (map is_ped (take n m.nodes))) n m.places;
 }
 
 unfoldable pub recounted : Ynd → ℕ → ℕ → Ynd
-recounted y v p = record {
-  vft = y.vft;
-  vehicle_node_count = v;
-  ped_node_count = p;
-  unknowns = y.unknowns;
-  node_count = y.node_count;
-  link_count = y.link_count;
-  junction_count = y.junction_count;
-  heightmap_count = y.heightmap_count;
-  ref_count = y.ref_count;
-}
+recounted y v p = record y { vehicle_node_count = v; ped_node_count = p }
 
 -- over a limit (14); a list shorter than its count (7, its place); scratch and new places too short (7, places 6 and
 -- 7)

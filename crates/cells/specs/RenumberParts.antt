@@ -3,10 +3,13 @@
 use Rattle.std.specs.Prelude.{ℕ, ◌≤◌, ◌≡◌, List, map, length, get_or}
 use Rattle.std.proofs.Math.Option.{some}
 use Rattle.cells.specs.Order.{new_places, last_with}
-use Rattle.cells.specs.NodeWords.{is_ped}
+use Rattle.cells.specs.Nodes.{is_ped}
 use Rattle.cells.specs.Memory.{Memory, per_list}
 use Rattle.cells.specs.declared.counts.Counts.{Counts}
-use Rattle.cells.specs.declared.ynd.Ynd.{Ynd}
+use Rattle.cells.specs.declared.node_entry.NodeEntry.{NodeEntry}
+use Rattle.cells.specs.declared.link.PathLink.{PathLink}
+use Rattle.cells.specs.declared.junction_entry.JunctionEntry.{JunctionEntry}
+use Rattle.records.specs.declared.junction_ref.NodeJunctionRef.{NodeJunctionRef}
 
 -- the scratch leads from each number that a node has to the last node that has it
 pub record Indexed (numbers : List ℕ) (scratch : List ℕ) : Type 0 where
@@ -18,12 +21,12 @@ pub record Leads (numbers : List ℕ) (scratch : List ℕ) : Type 0 where
   pub indexed : Indexed numbers scratch
 
 -- each node's new place
-pub record Placed (nodes : List (List ℕ)) (places : List ℕ) : Type 0 where
+pub record Placed (nodes : List NodeEntry) (places : List ℕ) : Type 0 where
   pub few : length nodes ≤ 65536
   pub are : places ≡ new_places (map is_ped nodes)
 
 -- how long the lent lists are
-abbrev pub lengths_of : List (List ℕ) → List (List ℕ) → List (List ℕ) → List ℕ → List (List ℕ) → Counts
+abbrev pub lengths_of : List NodeEntry → List PathLink → List JunctionEntry → List ℕ → List NodeJunctionRef → Counts
 lengths_of nodes links junctions heights refs =
     per_list (length nodes) (length links) (length junctions) (length heights) (length refs)
 

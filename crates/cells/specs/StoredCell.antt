@@ -1,21 +1,15 @@
 -- What storing the cell's own words, shorter lists, all links of a node or a heightmap means for the cell that
 -- memory holds.
 use Rattle.std.specs.Prelude.{ℕ, List, [], get_or, set}
-use Rattle.cells.specs.Cell.{Link, Junction, Cell, node_at}
+use Rattle.cells.specs.Cell.{Junction, Cell, node_at}
 use Rattle.cells.specs.EditedCell.{with_nodes, with_junctions, node_linked, junction_mapped}
+use Rattle.cells.specs.declared.link.PathLink.{PathLink}
 
 -- ---- the cell's own words: one is another, all else is as it was
 
 abbrev pub with_words : ℕ → ℕ → ℕ → List ℕ → Cell → Cell
-with_words vehicles peds vft words c = record {
-  nodes = c.nodes;
-  junctions = c.junctions;
-  refs = c.refs;
-  vehicles = vehicles;
-  peds = peds;
-  vft = vft;
-  words = words;
-}
+with_words vehicles peds vft words c =
+    record c { vehicles = vehicles; peds = peds; vft = vft; words = words }
 
 abbrev pub vft_put : ℕ → Cell → Cell
 vft_put v c = with_words c.vehicles c.peds v c.words c
@@ -31,7 +25,7 @@ unknowns_put v c = with_words c.vehicles c.peds c.vft v c
 
 -- ---- all links of a node: the node's links are these, all else is as it was
 
-abbrev pub links_put : ℕ → List Link → Cell → Cell
+abbrev pub links_put : ℕ → List PathLink → Cell → Cell
 links_put p ls c = with_nodes (set c.nodes p (node_linked ls (node_at c.nodes p))) c
 
 -- ---- a heightmap: the junction's map is this one, all else is as it was

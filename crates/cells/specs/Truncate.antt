@@ -15,16 +15,16 @@ fewer over n k = decided (when (ltb n k) NoSuchPlace ∷ when over AtLimit ∷ [
 
 -- the same lists beside another struct
 abbrev pub counted : Ynd → Memory → Memory
-counted y m = memory y m.nodes m.links m.junctions m.heights m.refs
+counted y m = record m { ynd = y }
 
 abbrev pub fewer_nodes : Ynd → ℕ → Ynd
-fewer_nodes y k = with_counts y k y.link_count y.junction_count y.heightmap_count y.ref_count
+fewer_nodes y k = record y { node_count = k }
 
 abbrev pub fewer_junctions : Ynd → ℕ → Ynd
-fewer_junctions y k = with_counts y y.node_count y.link_count k y.heightmap_count y.ref_count
+fewer_junctions y k = record y { junction_count = k }
 
 abbrev pub fewer_refs : Ynd → ℕ → Ynd
-fewer_refs y k = with_counts y y.node_count y.link_count y.junction_count y.heightmap_count k
+fewer_refs y k = record y { ref_count = k }
 
 unfoldable pub truncate_nodes : Memory → ℕ → Left
 truncate_nodes m k = unless (fewer (over_limit m.ynd) m.ynd.node_count k) m

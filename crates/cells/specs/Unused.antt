@@ -10,8 +10,7 @@ use Rattle.cells.specs.Cell.{Node}
 
 abbrev pub unused_of : Node → List ℕ
 unused_of n =
-    n.body.marks.unused0 ∷ n.body.marks.unused1 ∷ n.body.marks.unused2 ∷ n.body.marks.unused3
-    ∷ n.body.marks.unused4 ∷ []
+    n.body.unused0 ∷ n.body.unused1 ∷ n.body.unused2 ∷ n.body.unused3 ∷ n.body.unused4 ∷ []
 
 abbrev pub file_unused : raw-node.Node → List ℕ
 file_unused n = n.unused0 ∷ n.unused1 ∷ n.unused2 ∷ n.unused3 ∷ n.unused4 ∷ []

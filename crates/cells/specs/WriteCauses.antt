@@ -12,7 +12,7 @@ use Rattle.cells.specs.Blocks.{written}
 use Rattle.cells.specs.Write.{held}
 
 -- 8 and 9, node by node, 8 first: how many links a node has, its place, and how many links stand before its own
-unfoldable pub node_causes : (List ℕ → ℕ) → ℕ → ℕ → List (List ℕ) → List Cause
+unfoldable pub node_causes : {A : Type 0} → (A → ℕ) → ℕ → ℕ → List A → List Cause
 node_causes count place before [] = []
 node_causes count place before (n ∷ ns) =
     when (ltb 31 (count n)) (TooManyLinks place)
@@ -20,7 +20,7 @@ node_causes count place before (n ∷ ns) =
     ∷ node_causes count (place + 1) (before + count n) ns
 
 -- 10: heightmap bytes before a junction over 65,535
-unfoldable pub junction_causes : (List ℕ → ℕ) → ℕ → ℕ → List (List ℕ) → List Cause
+unfoldable pub junction_causes : {A : Type 0} → (A → ℕ) → ℕ → ℕ → List A → List Cause
 junction_causes count place before [] = []
 junction_causes count place before (j ∷ js) =
     when (ltb 65535 before) (ValuesStartTooHigh place) ∷ junction_causes count (place + 1) (before + count j) js

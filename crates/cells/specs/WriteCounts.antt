@@ -1,6 +1,8 @@
 -- What checks 14, 12 and 8 to 11 give together: a refusal, or how much there is to write. No public function's
 -- contract cites this.
-use Rattle.std.specs.Prelude.{◌≡◌, ◌≤◌, true, false, ltb, length}
+use Rattle.std.specs.Prelude.{◌≡◌, ◌<◌, ◌≤◌, true, false, ltb, length}
+use Rattle.std.specs.List.{All}
+use Rattle.cells.specs.declared.junction_entry.JunctionEntry.{JunctionEntry}
 use Rattle.records.specs.Put.{joined}
 use Rattle.numbers.specs.Refusals.{refuse_if, and_then}
 use Rattle.cells.specs.Memory.{Memory, over_limit}
@@ -34,6 +36,11 @@ pub record Cut (h : Memory) : Type 0 where
   pub junctions_cut : length h.junctions ≤ h.ynd.junction_count
   pub refs_cut : length h.refs ≤ h.ynd.ref_count
 
+-- a junction's own counts, as numbers of 8 bits
+pub record Sized (j : JunctionEntry) : Type 0 where
+  pub width : j.width < 256
+  pub height : j.height < 256
+
 -- what the counts k say of it, once nothing is refused
 pub record Counted (h : Memory) (k : Counts) : Type 0 where
   pub nodes_told : accepted (check_nodes (links_within (length h.links)) 0 0 h.nodes) ≡ true
@@ -45,7 +52,12 @@ pub record Counted (h : Memory) (k : Counts) : Type 0 where
   pub junctions_are : k.junctions ≡ length h.junctions
   pub junctions_few : k.junctions ≤ 4096
   pub heights_are : k.heights ≡ length (heights_block h.heights h.junctions)
-  pub heights_few : k.heights ≤ 130560
+  pub heights_few : k.heights ≤ 131070
   pub refs_are : k.refs ≡ length h.refs
   pub refs_few : k.refs ≤ 65535
+  pub sized : All Sized h.junctions
   pub maps_told : maps_cut h.ynd.heightmap_count h.junctions ≡ false
+
+-- where nothing is refused, all junctions are
+abbrev pub SizedIfCounted : Memory → Type 0
+SizedIfCounted h = (k : Counts) → write_counts h ≡ Ok k → All Sized h.junctions

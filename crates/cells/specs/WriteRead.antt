@@ -9,6 +9,10 @@ use Rattle.cells.specs.declared.write_read.WroteRead.{WroteRead}
 use Rattle.std.specs.Prelude.{Result, Ok, Err}
 use Rattle.numbers.specs.Refusals.{Answer}
 use Rattle.numbers.specs.declared.refusal.Refusal.{Refusal}
+use Rattle.cells.specs.declared.node_entry.NodeEntry.{NodeEntry}
+use Rattle.cells.specs.declared.link.PathLink.{PathLink}
+use Rattle.cells.specs.declared.junction_entry.JunctionEntry.{JunctionEntry}
+use Rattle.records.specs.declared.junction_ref.NodeJunctionRef.{NodeJunctionRef}
 
 -- what the call answers, and the memory and the section after it
 pub record Both : Type 0 where
@@ -25,8 +29,8 @@ ynd_after y (Ok w) = w.ynd
 ynd_after y (Err r) = y
 
 -- what the call answers and leaves
-abbrev pub both : Ynd → Result WroteRead Refusal → List (List ℕ) → List (List ℕ) → List (List ℕ) → List ℕ
-    → List (List ℕ) → List ℕ → Both
+abbrev pub both : Ynd → Result WroteRead Refusal → List NodeEntry → List PathLink → List JunctionEntry → List ℕ
+    → List NodeJunctionRef → List ℕ → Both
 both y r nodes links junctions heights refs section = record {
   answer = written_of r;
   memory = memory (ynd_after y r) nodes links junctions heights refs;

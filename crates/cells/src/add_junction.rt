@@ -2,8 +2,12 @@
 ghost use Rattle.std.specs.Prelude.{◌≡◌, List, ℕ, ◌+◌, ◌<◌, length, OnOk};
 ghost use Rattle.cells.specs.Memory.{memory, left, over_limit};
 ghost use Rattle.cells.specs.Add.{room_for_junction, JunctionRoom, add_junction};
+ghost use Rattle.cells.specs.declared.node_entry.NodeEntry.{NodeEntry};
+ghost use Rattle.cells.specs.declared.link.PathLink.{PathLink};
+ghost use Rattle.records.specs.declared.junction_ref.NodeJunctionRef.{NodeJunctionRef};
 
-use crate::junction::{JunctionWords, PathJunction};
+use crate::junction::PathJunction;
+use crate::junction_entry::JunctionEntry;
 use crate::range::{map_size, start_at};
 use crate::replace::put_at;
 use crate::room::over_limit;
@@ -13,7 +17,7 @@ use numbers::refusal::{Lent, Refusal};
 #[tactic(auto, using(numbers::proofs::Refusing::tested), unfolding(crate::specs::Add::room_for_junction))]
 fn room_for_junction(
     ynd: Ynd,
-    junctions: &[JunctionWords],
+    junctions: &[JunctionEntry],
     heights: &[u8],
     size: usize,
     v: usize,
@@ -51,12 +55,12 @@ fn room_for_junction(
 #[tactic(auto, using(records::proofs::Puts::put_fits), unfolding(crate::specs::Add::add_junction, crate::specs::Add::with_counts))]
 pub fn add_junction(
     ynd: Ynd,
-    junctions: &mut [JunctionWords],
+    junctions: &mut [JunctionEntry],
     heights: &mut [u8],
     j: PathJunction,
     values: &[u8],
 ) -> Result<Ynd, Refusal>
-    ensures { (nodes links refs : List (List ℕ)) →
+    ensures { (nodes : List NodeEntry) (links : List PathLink) (refs : List NodeJunctionRef) →
         left ynd result nodes links junctions.new heights.new refs
         ≡ add_junction (memory ynd nodes links junctions.old heights.old refs) j values.now }
 {
@@ -64,7 +68,7 @@ pub fn add_junction(
     let h = ynd.heightmap_count as usize;
     let size = map_size(j.width, j.height);
     room_for_junction(ynd, junctions, heights, size, values.len())?;
-    junctions[n] = JunctionWords::from(start_at(j, h as u32));
+    junctions[n] = start_at(j.into(), h as u32);
     put_at(heights, h, values);
     Ok(Ynd {
         junction_count: (n + 1) as u32,

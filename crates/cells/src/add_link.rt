@@ -3,12 +3,14 @@ ghost use Rattle.std.specs.Prelude.{◌≡◌, List, ℕ, ◌+◌, ◌<◌, ◌�
 ghost use Rattle.cells.specs.Memory.{memory, left, over_limit};
 ghost use Rattle.cells.specs.AddLink.{held_at, behind, at_in, inserted, nodes_after, room_for_link, add_link};
 ghost use Rattle.cells.specs.AddLink.{LinkRoom};
+ghost use Rattle.cells.specs.declared.junction_entry.JunctionEntry.{JunctionEntry};
+ghost use Rattle.records.specs.declared.junction_ref.NodeJunctionRef.{NodeJunctionRef};
 
-use crate::link::{LinkWords, PathLink};
-use crate::node::NodeWords;
-use crate::range::{held_in, link_range, link_start};
+use crate::link::PathLink;
+use crate::node_entry::NodeEntry;
+use crate::range::{held_in, link_range};
 use crate::room::over_limit;
-use crate::shift::{shift_all, with_range};
+use crate::shift::shift_all;
 use crate::ynd::Ynd;
 use numbers::refusal::{Lent, Refusal};
 
@@ -26,7 +28,7 @@ fn behind_of(s: usize, e: usize, l: usize) -> usize
 
 // The entries from `at` to l move up by one.
 #[tactic(auto, using(crate::proofs::Editing::Inserted::insert_moved))]
-fn insert(links: &mut [LinkWords], at: usize, l: usize, link: LinkWords)
+fn insert(links: &mut [PathLink], at: usize, l: usize, link: PathLink)
     requires { (at ≤ l) × (l < length links.old) }
     ensures { links.new ≡ inserted at l link links.old }
 {
@@ -38,11 +40,11 @@ fn insert(links: &mut [LinkWords], at: usize, l: usize, link: LinkWords)
 #[tactic(auto, using(crate::proofs::Rules::behind_laws), unfolding(crate::specs::AddLink::nodes_after))]
 fn place_link(
     ynd: Ynd,
-    nodes: &mut [NodeWords],
-    links: &mut [LinkWords],
+    nodes: &mut [NodeEntry],
+    links: &mut [PathLink],
     p: usize,
     e: usize,
-    link: LinkWords,
+    link: PathLink,
 )
     requires { LinkRoom ynd.node_count ynd.link_count p e (length nodes.old) (length links.old)
         × (e ≡ held_at nodes.old p ynd.link_count) }
@@ -50,19 +52,22 @@ fn place_link(
         × (links.new ≡ inserted (at_in nodes.old p ynd.link_count) ynd.link_count link links.old) }
 {
     let l = ynd.link_count as usize;
-    let w = nodes[p];
-    let s = link_start(w) as usize;
-    let at = behind_of(s, e, l);
+    let old = nodes[p];
+    let at = behind_of(old.link_id as usize, e, l);
     shift_all(&mut nodes[..ynd.node_count as usize], at, l);
-    nodes[p] = with_range(w, (at - e) as u32, (e + 1) as u8);
+    nodes[p] = NodeEntry {
+        link_id: (at - e) as u32,
+        link_count: (e + 1) as u8,
+        ..old
+    };
     insert(links, at, l, link);
 }
 
 #[tactic(auto, using(numbers::proofs::Refusing::tested), unfolding(crate::specs::AddLink::room_for_link))]
 fn room_for_link(
     ynd: Ynd,
-    nodes: &[NodeWords],
-    links: &[LinkWords],
+    nodes: &[NodeEntry],
+    links: &[PathLink],
     p: usize,
     e: usize,
 ) -> Result<(), Refusal>
@@ -97,18 +102,18 @@ fn room_for_link(
 #[tactic(auto, unfolding(crate::specs::AddLink::add_link, crate::specs::Add::with_counts))]
 pub fn add_link(
     ynd: Ynd,
-    nodes: &mut [NodeWords],
-    links: &mut [LinkWords],
+    nodes: &mut [NodeEntry],
+    links: &mut [PathLink],
     place: usize,
     link: PathLink,
 ) -> Result<Ynd, Refusal>
-    ensures { (junctions refs : List (List ℕ)) (heights : List ℕ) →
+    ensures { (junctions : List JunctionEntry) (refs : List NodeJunctionRef) (heights : List ℕ) →
         left ynd result nodes.new links.new junctions heights refs
         ≡ add_link (memory ynd nodes.old links.old junctions heights refs) place link }
 {
     let e = held_in(link_range(nodes, place), ynd.link_count as usize);
     room_for_link(ynd, nodes, links, place, e)?;
-    place_link(ynd, nodes, links, place, e, LinkWords::from(link));
+    place_link(ynd, nodes, links, place, e, link);
     Ok(Ynd {
         link_count: ynd.link_count + 1,
         ..ynd

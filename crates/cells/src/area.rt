@@ -1,10 +1,9 @@
 // Areas: the cell's own, and which links and refs belong to it. No other file compares the area of a link or a ref.
 ghost use Rattle.std.specs.Prelude.{◌≡◌, take};
 ghost use Rattle.cells.specs.Area.{belongs, ref_for};
-ghost use Rattle.cells.specs.NodeWords.{first_area};
+ghost use Rattle.cells.specs.Nodes.{first_area};
 
-use crate::node::NodeWords;
-use crate::node_words::area_of;
+use crate::node_entry::NodeEntry;
 
 // Whether a link or a ref of this area belongs to a cell of the area `own`: in full or, on an island, without its bit.
 #[tactic(auto, using(numbers::proofs::Refusing::tested), unfolding(crate::specs::Area::belongs))]
@@ -29,11 +28,11 @@ pub fn ref_for(own: u16, area: u16, area_id: u16) -> bool
 
 // The area of the first of n nodes, 0 if there is none.
 #[tactic(auto, using(crate::proofs::Lookups::AreaLaws::own_areas))]
-pub fn own_area(nodes: &[NodeWords], n: usize) -> u16
+pub fn own_area(nodes: &[NodeEntry], n: usize) -> u16
     ensures { result ≡ first_area (take n nodes.now) }
 {
     if n == 0 || nodes.is_empty() {
         return 0;
     }
-    area_of(nodes[0])
+    nodes[0].area_id
 }

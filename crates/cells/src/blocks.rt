@@ -5,10 +5,10 @@ ghost use Rattle.records.specs.Layout.{gap_for};
 ghost use Rattle.cells.specs.WriteChecks.{links_within, values_within, accepted, check_nodes, check_junctions};
 ghost use Rattle.cells.specs.Blocks.{heights_block, junctions_block, links_block, nodes_block};
 
-use crate::junction::JunctionWords;
-use crate::link::LinkWords;
-use crate::node::NodeWords;
-use crate::range::{link_count, link_start, part, stored_start, value_count, value_start};
+use crate::junction_entry::JunctionEntry;
+use crate::link::PathLink;
+use crate::node_entry::NodeEntry;
+use crate::range::{part, stored_start, value_count};
 use crate::to_file::{junction_record, link_record, node_record};
 use crate::write_checks::{links_within, values_within};
 use records::layout::gap_for;
@@ -27,16 +27,16 @@ pub(crate) fn pad(section: &mut [u8], at: usize, size: usize) -> usize
 
 // Refs, or links: a record of eight bytes for each.
 #[tactic(auto, using(crate::proofs::Rules::joined_laws))]
-pub(crate) fn put_records<F: Fn([u16; 4]) -> [u8; 8]>(
+pub(crate) fn put_records<T: Copy, F: Fn(T) -> [u8; 8]>(
     section: &mut [u8],
     at: usize,
-    entries: &[[u16; 4]],
+    entries: &[T],
     bytes_of: F,
 ) -> usize
     requires callable { F.IsAlwaysCallable bytes_of }
     requires room { at + 8 * length entries.now ≤ length section.old }
     ensures end { result ≡ at + 8 * length entries.now }
-    ensures bytes { (f : List ℕ → List ℕ) → ((x r : List ℕ) → F.post bytes_of x r → r ≡ f x)
+    ensures bytes { (f : T → List ℕ) → ((x : T) (r : List ℕ) → F.post bytes_of x r → r ≡ f x)
         → section.new ≡ put section.old at (joined f entries.now) }
 {
     let mut p = at;
@@ -51,26 +51,26 @@ pub(crate) fn put_records<F: Fn([u16; 4]) -> [u8; 8]>(
 pub(crate) fn put_links(
     section: &mut [u8],
     at: usize,
-    nodes: &[NodeWords],
-    links: &[LinkWords],
+    nodes: &[NodeEntry],
+    links: &[PathLink],
 ) -> usize
     requires { at + length (links_block links.now nodes.now) ≤ length section.old }
     ensures { (result ≡ at + length (links_block links.now nodes.now))
         × (section.new ≡ put section.old at (links_block links.now nodes.now)) }
 {
     let mut p = at;
-    for w in nodes {
-        let own = part(links, link_start(*w) as usize, link_count(*w) as usize);
+    for n in nodes {
+        let own = part(links, n.link_id as usize, n.link_count as usize);
         p = put_records(section, p, own, link_record);
     }
     p
 }
 
-#[tactic(auto, using(crate::proofs::Rules::joined_laws), unfolding(crate::specs::Entries::values_in, records::specs::Put::joined))]
+#[tactic(auto, using(crate::proofs::Rules::heights_laws), unfolding(crate::specs::Entries::values_in, records::specs::Put::joined))]
 pub(crate) fn put_heights(
     section: &mut [u8],
     at: usize,
-    junctions: &[JunctionWords],
+    junctions: &[JunctionEntry],
     heights: &[u8],
 ) -> usize
     requires { at + length (heights_block heights.now junctions.now) ≤ length section.old }
@@ -78,8 +78,8 @@ pub(crate) fn put_heights(
         × (section.new ≡ put section.old at (heights_block heights.now junctions.now)) }
 {
     let mut p = at;
-    for w in junctions {
-        let own = part(heights, value_start(*w) as usize, value_count(*w));
+    for j in junctions {
+        let own = part(heights, j.heightmap_ptr as usize, value_count(j));
         section[p..p + own.len()].copy_from_slice(own);
         p += own.len();
     }
@@ -90,7 +90,7 @@ pub(crate) fn put_heights(
 pub(crate) fn put_junctions(
     section: &mut [u8],
     at: usize,
-    junctions: &[JunctionWords],
+    junctions: &[JunctionEntry],
     heights: &[u8],
 ) -> usize
     requires { (at + length (junctions_block heights.now junctions.now) ≤ length section.old)
@@ -100,9 +100,9 @@ pub(crate) fn put_junctions(
 {
     let mut before: usize = 0;
     let mut p = at;
-    for w in junctions {
-        section[p..p + 12].copy_from_slice(&junction_record(*w, before as u16));
-        before += values_within(*w, heights.len());
+    for j in junctions {
+        section[p..p + 12].copy_from_slice(&junction_record(j, before as u16));
+        before += values_within(j, heights.len());
         p += 12;
     }
     p
@@ -112,8 +112,8 @@ pub(crate) fn put_junctions(
 pub(crate) fn put_nodes(
     section: &mut [u8],
     at: usize,
-    nodes: &[NodeWords],
-    links: &[LinkWords],
+    nodes: &[NodeEntry],
+    links: &[PathLink],
 ) -> usize
     requires { (at + length (nodes_block links.now nodes.now) ≤ length section.old)
         × (accepted (check_nodes (links_within (length links.now)) 0 0 nodes.now) ≡ true) }
@@ -122,10 +122,10 @@ pub(crate) fn put_nodes(
 {
     let mut before: usize = 0;
     let mut p = at;
-    for w in nodes {
-        let count = links_within(*w, links.len());
+    for n in nodes {
+        let count = links_within(n, links.len());
         let start = stored_start(before, count);
-        section[p..p + 40].copy_from_slice(&node_record(*w, start as u16, count as u8));
+        section[p..p + 40].copy_from_slice(&node_record(n, start as u16, count as u8));
         before += count;
         p += 40;
     }

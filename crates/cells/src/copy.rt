@@ -2,7 +2,8 @@
 ghost use Rattle.std.specs.Prelude.{◌≡◌, ◌+◌, ◌*◌, ◌/◌, ◌≤◌, length, take, drop};
 ghost use Rattle.cells.specs.Read.{links_from, values_from};
 
-use crate::link::{LinkWords, PathLink};
+use crate::link::PathLink;
+use records::layout::LINK_SIZE;
 use records::link::link_at;
 
 // Record i of an array of records of `size` bytes.
@@ -15,14 +16,13 @@ pub(crate) fn record(array: &[u8], i: usize, size: usize) -> &[u8]
 }
 
 // The links of the file's list from `from` on.
-#[tactic(auto, using(crate::proofs::Reading::ReadLaws::fill_turn, crate::proofs::Reading::Whole::link_whole), unfolding(crate::specs::Read::links_from, crate::specs::Lists::up_to))]
-pub(crate) fn copy_links(l: &[u8], from: usize, links: &mut [LinkWords])
+#[tactic(auto, using(crate::proofs::Reading::ReadLaws::fill_turn, records::proofs::Whole::link_whole), unfolding(crate::specs::Read::links_from, crate::specs::Lists::up_to))]
+pub(crate) fn copy_links(l: &[u8], from: usize, links: &mut [PathLink])
     requires { from + length links.old ≤ length l.now / 8 }
     ensures { links.new ≡ links_from l.now from (length links.old) }
 {
     for (k, w) in links.iter_mut().enumerate() {
-        let link = PathLink::from(link_at(record(l, from + k, 8), 0));
-        *w = LinkWords::from(link);
+        *w = PathLink::from(link_at(record(l, from + k, LINK_SIZE), 0));
     }
 }
 

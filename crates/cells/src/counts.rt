@@ -3,11 +3,11 @@ ghost use Rattle.std.specs.Prelude.{◌≡◌, OnOk, ◌≤◌};
 ghost use Rattle.cells.specs.Read.{room_check};
 ghost use Rattle.cells.specs.RenumberParts.{lengths_of};
 
-use crate::junction::JunctionWords;
-use crate::junction_ref::RefWords;
-use crate::link::LinkWords;
-use crate::node::NodeWords;
+use crate::junction_entry::JunctionEntry;
+use crate::link::PathLink;
+use crate::node_entry::NodeEntry;
 use numbers::refusal::{Lent, Refusal};
+use records::junction_ref::NodeJunctionRef;
 
 #[derive(Clone, Copy, PartialEq, Eq, Debug, Default)]
 pub struct Counts {
@@ -20,11 +20,11 @@ pub struct Counts {
 
 // How long the lent lists are.
 pub fn lengths(
-    nodes: &[NodeWords],
-    links: &[LinkWords],
-    junctions: &[JunctionWords],
+    nodes: &[NodeEntry],
+    links: &[PathLink],
+    junctions: &[JunctionEntry],
     heights: &[u8],
-    refs: &[RefWords],
+    refs: &[NodeJunctionRef],
 ) -> Counts
     ensures { result ≡ lengths_of nodes.now links.now junctions.now heights.now refs.now }
 {

@@ -4,13 +4,13 @@ ghost use Rattle.cells.specs.Memory.{over_limit};
 ghost use Rattle.cells.specs.Edit.{entry_at, node_entry, junction_entry, ref_entry, range_entry, link_entry};
 ghost use Rattle.cells.specs.Edit.{sized_entry, height_entry, value_range};
 
-use crate::junction::JunctionWords;
-use crate::junction_ref::RefWords;
-use crate::node::NodeWords;
+use crate::junction_entry::JunctionEntry;
+use crate::node_entry::NodeEntry;
 use crate::range::{Range, held_in, link_range, value_range};
 use crate::room::over_limit;
 use crate::ynd::Ynd;
 use numbers::refusal::{Lent, Refusal};
+use records::junction_ref::NodeJunctionRef;
 
 // A lent list: how many entries it has by the cell's count, how many are lent, and its name.
 #[derive(Clone, Copy)]
@@ -40,7 +40,7 @@ fn entry_at(ynd: Ynd, held: LentList, place: usize) -> Result<usize, Refusal>
 
 // The node, the junction and the ref at a place.
 #[tactic(auto, unfolding(crate::specs::Edit::node_entry))]
-pub(crate) fn node_entry(ynd: Ynd, nodes: &[NodeWords], place: usize) -> Result<usize, Refusal>
+pub(crate) fn node_entry(ynd: Ynd, nodes: &[NodeEntry], place: usize) -> Result<usize, Refusal>
     ensures value { result ≡ node_entry ynd nodes.now place }
     ensures inside { IfOk result (λ i. i < length nodes.now) }
 {
@@ -53,7 +53,7 @@ pub(crate) fn node_entry(ynd: Ynd, nodes: &[NodeWords], place: usize) -> Result<
 }
 
 #[tactic(auto, unfolding(crate::specs::Edit::junction_entry))]
-pub fn junction_entry(ynd: Ynd, junctions: &[JunctionWords], place: usize) -> Result<usize, Refusal>
+pub fn junction_entry(ynd: Ynd, junctions: &[JunctionEntry], place: usize) -> Result<usize, Refusal>
     ensures value { result ≡ junction_entry ynd junctions.now place }
     ensures inside { IfOk result (λ i. i < length junctions.now) }
 {
@@ -66,7 +66,7 @@ pub fn junction_entry(ynd: Ynd, junctions: &[JunctionWords], place: usize) -> Re
 }
 
 #[tactic(auto, unfolding(crate::specs::Edit::ref_entry))]
-pub(crate) fn ref_entry(ynd: Ynd, refs: &[RefWords], place: usize) -> Result<usize, Refusal>
+pub(crate) fn ref_entry(ynd: Ynd, refs: &[NodeJunctionRef], place: usize) -> Result<usize, Refusal>
     ensures value { result ≡ ref_entry ynd refs.now place }
     ensures inside { IfOk result (λ i. i < length refs.now) }
 {
@@ -128,7 +128,7 @@ fn range_entry(
 #[tactic(auto, unfolding(crate::specs::Edit::link_entry))]
 pub(crate) fn link_entry(
     ynd: Ynd,
-    nodes: &[NodeWords],
+    nodes: &[NodeEntry],
     links: usize,
     place: usize,
     k: usize,
@@ -153,7 +153,7 @@ pub(crate) fn link_entry(
 #[tactic(auto, unfolding(crate::specs::Edit::height_entry))]
 pub(crate) fn height_entry(
     ynd: Ynd,
-    junctions: &[JunctionWords],
+    junctions: &[JunctionEntry],
     heights: usize,
     place: usize,
     k: usize,
@@ -178,7 +178,7 @@ pub(crate) fn height_entry(
 #[tactic(auto, using(numbers::proofs::Refusing::tested), unfolding(crate::specs::Edit::sized_entry))]
 pub(crate) fn sized_entry(
     ynd: Ynd,
-    junctions: &[JunctionWords],
+    junctions: &[JunctionEntry],
     place: usize,
     values: usize,
 ) -> Result<usize, Refusal>

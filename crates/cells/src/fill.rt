@@ -5,9 +5,9 @@ ghost use Rattle.cells.specs.Lists.{up_to, join_to, sum_to};
 ghost use Rattle.cells.specs.Read.{ref_in};
 
 use crate::copy::record;
-use crate::junction_ref::{RefWords, ref_words};
 use crate::ranged::Ranged;
-use records::junction_ref::ref_at;
+use records::junction_ref::{NodeJunctionRef, ref_at};
+use records::layout::REF_SIZE;
 
 // Each record, and its range of the second array after those of the records before it.
 #[tactic(auto, using(crate::proofs::Rules::fill_laws))]
@@ -26,12 +26,12 @@ pub(crate) fn fill_ranges<R: Ranged>(records: R, entries: &mut [R::Entry], parts
     }
 }
 
-#[tactic(auto, using(crate::proofs::Reading::ReadLaws::fill_turn, crate::proofs::Reading::Whole::ref_whole), unfolding(crate::specs::Read::ref_in, crate::specs::Lists::up_to))]
-pub(crate) fn fill_refs(r: &[u8], refs: &mut [RefWords])
+#[tactic(auto, using(crate::proofs::Reading::ReadLaws::fill_turn, records::proofs::Whole::ref_whole), unfolding(crate::specs::Read::ref_in, crate::specs::Lists::up_to))]
+pub(crate) fn fill_refs(r: &[u8], refs: &mut [NodeJunctionRef])
     requires { length refs.old ≤ length r.now / 8 }
     ensures { refs.new ≡ up_to (ref_in r.now) (length refs.old) }
 {
     for (i, w) in refs.iter_mut().enumerate() {
-        *w = ref_words(ref_at(record(r, i, 8), 0));
+        *w = ref_at(record(r, i, REF_SIZE), 0);
     }
 }

@@ -4,20 +4,20 @@ ghost use Rattle.cells.specs.Memory.{memory};
 ghost use Rattle.cells.specs.Write.{held};
 ghost use Rattle.cells.specs.WriteCounts.{Cut};
 
-use crate::junction::JunctionWords;
-use crate::junction_ref::RefWords;
-use crate::link::LinkWords;
-use crate::node::NodeWords;
+use crate::junction_entry::JunctionEntry;
+use crate::link::PathLink;
+use crate::node_entry::NodeEntry;
 use crate::ynd::Ynd;
+use records::junction_ref::NodeJunctionRef;
 
 #[derive(Clone, Copy)]
 pub(crate) struct Held<'a> {
     pub ynd: Ynd,
-    pub nodes: &'a [NodeWords],
-    pub links: &'a [LinkWords],
-    pub junctions: &'a [JunctionWords],
+    pub nodes: &'a [NodeEntry],
+    pub links: &'a [PathLink],
+    pub junctions: &'a [JunctionEntry],
     pub heights: &'a [u8],
-    pub refs: &'a [RefWords],
+    pub refs: &'a [NodeJunctionRef],
     ghost cut: { Cut (memory ynd nodes.now links.now junctions.now heights.now refs.now) },
 }
 
@@ -25,11 +25,11 @@ impl<'a> Held<'a> {
     #[tactic(auto, using(crate::proofs::Writing::Ranges::front), unfolding(crate::specs::Write::held))]
     pub(crate) fn new(
         ynd: Ynd,
-        nodes: &'a [NodeWords],
-        links: &'a [LinkWords],
-        junctions: &'a [JunctionWords],
+        nodes: &'a [NodeEntry],
+        links: &'a [PathLink],
+        junctions: &'a [JunctionEntry],
         heights: &'a [u8],
-        refs: &'a [RefWords],
+        refs: &'a [NodeJunctionRef],
     ) -> Held<'a>
         ensures { memory result.ynd result.nodes.now result.links.now result.junctions.now result.heights.now
             result.refs.now ≡ held (memory ynd nodes.now links.now junctions.now heights.now refs.now) }

@@ -1,11 +1,10 @@
 // Which number each number becomes, before the nodes move: for links that lead here from other cells.
 ghost use Rattle.std.specs.Prelude.{◌≡◌, map, ℕ, ◌<◌, length, get_or};
 ghost use Rattle.cells.specs.Order.{new_number, new_places};
-ghost use Rattle.cells.specs.NodeWords.{is_ped, old_of};
+ghost use Rattle.cells.specs.Nodes.{is_ped, old_of};
 ghost use Rattle.cells.specs.NewNumbers.{numbers_left, numbers_call};
 
-use crate::node::NodeWords;
-use crate::node_words::number_of;
+use crate::node_entry::NodeEntry;
 use crate::order::{count_vehicles, fill_places};
 use numbers::refusal::{Lent, Refusal};
 
@@ -21,14 +20,14 @@ fn keep_numbers(table: &mut [u32])
 
 // The numbers that nodes have; the last node with a number counts.
 #[tactic(auto, using(crate::proofs::Rules::table_laws), unfolding(crate::specs::Order::last_with))]
-fn put_numbers(nodes: &[NodeWords], table: &mut [u32], places: &[u32])
+fn put_numbers(nodes: &[NodeEntry], table: &mut [u32], places: &[u32])
     requires { (length table.old ≡ 65536) × (places.now ≡ new_places (map is_ped nodes.now))
         × ((k : ℕ) → k < 65536 → get_or table.old k 0 ≡ k) }
     ensures { (k : ℕ) → k < 65536
         → get_or table.new k 0 ≡ new_number (old_of (length nodes.now) nodes.now) k }
 {
-    for (w, place) in nodes.iter().zip(places) {
-        table[number_of(*w) as usize] = *place;
+    for (n, place) in nodes.iter().zip(places) {
+        table[n.node_id as usize] = *place;
     }
 }
 
@@ -36,7 +35,7 @@ fn put_numbers(nodes: &[NodeWords], table: &mut [u32], places: &[u32])
 // nothing.
 #[tactic(auto, using(numbers::proofs::Refusing::tested), unfolding(crate::specs::NewNumbers::numbers_call, crate::specs::NewNumbers::numbers_causes))]
 pub fn new_numbers(
-    nodes: &[NodeWords],
+    nodes: &[NodeEntry],
     n: usize,
     table: &mut [u32],
     places: &mut [u32],

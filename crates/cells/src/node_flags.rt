@@ -1,16 +1,16 @@
 // The fields of a node's flags.
-#![tactic(auto, unfolding(crate::specs::NodeAccess::changed, crate::specs::NodeAccess::disabled))]
+#![tactic(auto, unfolding(crate::specs::NodeAccess::disabled))]
 
 ghost use Rattle.std.specs.Prelude.{◌≡◌, ◌*◌, ◌/◌};
 ghost use Rattle.cells.specs.Access.{field_of, with_field, has_bit, with_bit};
-ghost use Rattle.cells.specs.NodeWords.{ped_kind};
+ghost use Rattle.cells.specs.Nodes.{ped_kind};
 ghost use Rattle.cells.specs.Special.{special_of, special_value, speed_of, speed_value};
 ghost use Rattle.cells.specs.NodeAccess.{with_flags0, with_flags1, with_flags2, with_flags3, with_flags4};
 ghost use Rattle.cells.specs.NodeAccess.{with_flags5, disabled};
 
 use crate::field::{field_of, has_bit, with_bit, with_field};
 use crate::node::PathNode;
-use crate::node_words::ped_kind;
+use crate::node_entry::ped_kind;
 use crate::special::{NodeSpecial, NodeSpeed};
 
 impl PathNode {

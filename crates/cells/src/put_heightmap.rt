@@ -2,9 +2,12 @@
 ghost use Rattle.std.specs.Prelude.{◌≡◌, List, [], ℕ, ◌+◌, ◌<◌, ◌≤◌, length, get_or, set, OnOk};
 ghost use Rattle.records.specs.Put.{put};
 ghost use Rattle.cells.specs.Memory.{memory, left, over_limit};
-ghost use Rattle.cells.specs.PutHeightmap.{room_for_map, MapRoom, mapped, put_heightmap};
+ghost use Rattle.cells.specs.PutHeightmap.{room_for_map, MapRoom, put_heightmap};
+ghost use Rattle.cells.specs.declared.node_entry.NodeEntry.{NodeEntry};
+ghost use Rattle.cells.specs.declared.link.PathLink.{PathLink};
+ghost use Rattle.records.specs.declared.junction_ref.NodeJunctionRef.{NodeJunctionRef};
 
-use crate::junction::JunctionWords;
+use crate::junction_entry::JunctionEntry;
 use crate::range::{map_size, value_range};
 use crate::replace::{Placed, placing, put_at};
 use crate::room::over_limit;
@@ -14,7 +17,7 @@ use numbers::refusal::{Lent, Refusal};
 #[tactic(auto, using(numbers::proofs::Refusing::tested), unfolding(crate::specs::PutHeightmap::room_for_map))]
 fn room_for_map(
     ynd: Ynd,
-    junctions: &[JunctionWords],
+    junctions: &[JunctionEntry],
     heights: &[u8],
     p: usize,
     to: Placed,
@@ -47,29 +50,18 @@ fn room_for_map(
     Ok(())
 }
 
-// The junction with a map of this size from s on.
-#[tactic(auto, using(crate::proofs::Editing::EditLaws::map_stored), unfolding(crate::specs::PutHeightmap::mapped))]
-fn with_map(w: JunctionWords, width: u8, height: u8, s: u32) -> JunctionWords
-    ensures { result ≡ mapped width height s w }
-{
-    let mut v = w;
-    v[4] = u32::from_le_bytes([width, height, 0, 0]);
-    v[5] = s;
-    v
-}
-
 // The heightmap of the junction at a place is the new one.
 #[tactic(auto, using(records::proofs::Puts::put_fits), unfolding(crate::specs::PutHeightmap::put_heightmap, crate::specs::Add::with_counts))]
 pub fn put_heightmap(
     ynd: Ynd,
-    junctions: &mut [JunctionWords],
+    junctions: &mut [JunctionEntry],
     heights: &mut [u8],
     place: usize,
     width: u8,
     height: u8,
     values: &[u8],
 ) -> Result<Ynd, Refusal>
-    ensures { (nodes links refs : List (List ℕ)) →
+    ensures { (nodes : List NodeEntry) (links : List PathLink) (refs : List NodeJunctionRef) →
         left ynd result nodes links junctions.new heights.new refs
         ≡ put_heightmap (memory ynd nodes links junctions.old heights.old refs) place
         width height values.now }
@@ -77,7 +69,12 @@ pub fn put_heightmap(
     let r = value_range(junctions, place);
     let to = placing(r, values.len(), ynd.heightmap_count as usize);
     room_for_map(ynd, junctions, heights, place, to, map_size(width, height))?;
-    junctions[place] = with_map(junctions[place], width, height, to.start as u32);
+    junctions[place] = JunctionEntry {
+        width,
+        height,
+        heightmap_ptr: to.start as u32,
+        ..junctions[place]
+    };
     put_at(heights, to.start, values);
     Ok(Ynd {
         heightmap_count: to.after as u32,

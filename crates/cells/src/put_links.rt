@@ -2,23 +2,25 @@
 ghost use Rattle.std.specs.Prelude.{◌≡◌, List, [], ℕ, ◌+◌, ◌<◌, ◌≤◌, length, get_or, set, OnOk};
 ghost use Rattle.records.specs.Put.{put};
 ghost use Rattle.cells.specs.Memory.{memory, left, over_limit};
-ghost use Rattle.cells.specs.AddLink.{ranged};
+ghost use Rattle.cells.specs.Nodes.{no_entry};
+ghost use Rattle.cells.specs.EntryForms.{with_range};
 ghost use Rattle.cells.specs.PutLinks.{room_for_links, LinksRoom, put_links};
+ghost use Rattle.cells.specs.declared.junction_entry.JunctionEntry.{JunctionEntry};
+ghost use Rattle.records.specs.declared.junction_ref.NodeJunctionRef.{NodeJunctionRef};
 
-use crate::link::LinkWords;
-use crate::node::NodeWords;
+use crate::link::PathLink;
+use crate::node_entry::NodeEntry;
 use crate::range::link_range;
 use crate::replace::{Placed, placing, put_at};
 use crate::room::over_limit;
-use crate::shift::with_range;
 use crate::ynd::Ynd;
 use numbers::refusal::{Lent, Refusal};
 
 #[tactic(auto, using(numbers::proofs::Refusing::tested), unfolding(crate::specs::PutLinks::room_for_links))]
 fn room_for_links(
     ynd: Ynd,
-    nodes: &[NodeWords],
-    links: &[LinkWords],
+    nodes: &[NodeEntry],
+    links: &[PathLink],
     p: usize,
     to: Placed,
 ) -> Result<(), Refusal>
@@ -51,20 +53,21 @@ fn room_for_links(
 // The links of the node at p from `at` on are the new ones.
 #[tactic(auto, using(records::proofs::Puts::put_fits))]
 fn place_links(
-    nodes: &mut [NodeWords],
-    links: &mut [LinkWords],
+    nodes: &mut [NodeEntry],
+    links: &mut [PathLink],
     p: usize,
     at: usize,
-    new: &[LinkWords],
+    new: &[PathLink],
 )
     requires { (p < length nodes.old) × (at < 4294967296) × (length new.now ≤ 255)
         × (at + length new.now ≤ length links.old) }
     ensures { (nodes.new
-        ≡ set nodes.old p (ranged at (length new.now) (get_or nodes.old p [])))
+        ≡ set nodes.old p (with_range (get_or nodes.old p no_entry) at (length new.now)))
         × (links.new ≡ put links.old at new.now) }
 {
-    let w = nodes[p];
-    nodes[p] = with_range(w, at as u32, new.len() as u8);
+    let node = &mut nodes[p];
+    node.link_id = at as u32;
+    node.link_count = new.len() as u8;
     put_at(links, at, new);
 }
 
@@ -72,12 +75,12 @@ fn place_links(
 #[tactic(auto, unfolding(crate::specs::PutLinks::put_links, crate::specs::Add::with_counts))]
 pub fn put_links(
     ynd: Ynd,
-    nodes: &mut [NodeWords],
-    links: &mut [LinkWords],
+    nodes: &mut [NodeEntry],
+    links: &mut [PathLink],
     place: usize,
-    new: &[LinkWords],
+    new: &[PathLink],
 ) -> Result<Ynd, Refusal>
-    ensures { (junctions refs : List (List ℕ)) (heights : List ℕ) →
+    ensures { (junctions : List JunctionEntry) (refs : List NodeJunctionRef) (heights : List ℕ) →
         left ynd result nodes.new links.new junctions heights refs
         ≡ put_links (memory ynd nodes.old links.old junctions heights refs) place
         new.now }

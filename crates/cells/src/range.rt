@@ -1,11 +1,11 @@
 // The range of links that a node has, and of heightmap values that a junction has.
 ghost use Rattle.std.specs.Prelude.{◌≡◌, ◌-◌, ◌*◌, ◌<◌, min, take, drop};
-ghost use Rattle.cells.specs.NodeWords.{link_start, link_count, value_start, value_count};
+ghost use Rattle.cells.specs.Nodes.{value_count};
 ghost use Rattle.cells.specs.Edit.{start_at, link_range, value_range, held_in};
 ghost use Rattle.cells.specs.Entries.{stored_start};
 
-use crate::junction::{JunctionWords, PathJunction};
-use crate::node::NodeWords;
+use crate::junction_entry::JunctionEntry;
+use crate::node_entry::NodeEntry;
 
 #[derive(Clone, Copy, PartialEq, Eq, Debug)]
 pub struct Range {
@@ -13,72 +13,49 @@ pub struct Range {
     pub count: usize,
 }
 
-// Where a node's links start, and how many its words name.
-pub fn link_start(w: NodeWords) -> u32
-    ensures { result ≡ link_start w }
-{
-    w[7]
-}
-
-pub fn link_count(w: NodeWords) -> u8
-    ensures { result ≡ link_count w }
-{
-    let [_, _, count, _] = w[6].to_le_bytes();
-    count
-}
-
-// The same of a junction's heightmap values.
-pub fn value_start(w: JunctionWords) -> u32
-    ensures { result ≡ value_start w }
-{
-    w[5]
-}
-
 pub(crate) fn map_size(width: u8, height: u8) -> usize
-    ensures { (result ≡ width * height) × (result < 65536) }
+    ensures { (result ≡ width * height) × (result < 65536) × (width < 256) × (height < 256) }
 {
     width as usize * height as usize
 }
 
-pub fn value_count(w: JunctionWords) -> usize
-    ensures { (result ≡ value_count w) × (result < 65536) }
+pub fn value_count(j: &JunctionEntry) -> usize
+    ensures { (result ≡ value_count j.now) × (result < 65536) × (j.now.width < 256) × (j.now.height < 256) }
 {
-    let [width, height, _, _] = w[4].to_le_bytes();
-    map_size(width, height)
+    map_size(j.width, j.height)
 }
 
 // A junction whose heightmap starts at a place.
-#[tactic(auto, unfolding(crate::specs::Edit::start_at))]
-pub(crate) fn start_at(j: PathJunction, start: u32) -> PathJunction
+pub(crate) fn start_at(j: JunctionEntry, start: u32) -> JunctionEntry
     ensures { result ≡ start_at j start }
 {
-    PathJunction {
+    JunctionEntry {
         heightmap_ptr: start,
         ..j
     }
 }
 
 // The links of the node at a place, none where the list ends before it.
-pub(crate) fn link_range(nodes: &[NodeWords], place: usize) -> Range
+pub(crate) fn link_range(nodes: &[NodeEntry], place: usize) -> Range
     ensures { result ≡ link_range nodes.now place }
 {
     match nodes.get(place) {
-        Some(w) => Range {
-            start: link_start(*w) as usize,
-            count: link_count(*w) as usize,
+        Some(n) => Range {
+            start: n.link_id as usize,
+            count: n.link_count as usize,
         },
         None => Range { start: 0, count: 0 },
     }
 }
 
 // The values of the junction at a place, likewise.
-pub(crate) fn value_range(junctions: &[JunctionWords], place: usize) -> Range
+pub(crate) fn value_range(junctions: &[JunctionEntry], place: usize) -> Range
     ensures { result ≡ value_range junctions.now place }
 {
     match junctions.get(place) {
-        Some(w) => Range {
-            start: value_start(*w) as usize,
-            count: value_count(*w),
+        Some(j) => Range {
+            start: j.heightmap_ptr as usize,
+            count: value_count(j),
         },
         None => Range { start: 0, count: 0 },
     }

@@ -5,20 +5,20 @@ ghost use Rattle.records.specs.Records.{node_at, junction_at};
 ghost use Rattle.cells.specs.Checks.{links_at, values_at};
 ghost use Rattle.cells.specs.Read.{links_in, values_in};
 ghost use Rattle.cells.specs.RangedParts.{length_links, length_values};
-ghost use Rattle.cells.specs.Words.{path_node, path_junction, node_words, junction_words};
+ghost use Rattle.cells.specs.Paths.{path_node, path_junction};
 ghost use Rattle.numbers.specs.declared.refusal.Refusal.{Refusal};
 ghost use Rattle.numbers.specs.declared.refusal.Refusal.TheVariants.{LinksOutside, ValuesOutside};
 
 use crate::copy::{copy_links, copy_values, record};
 use crate::from_file::{path_junction, path_node};
-use crate::junction::JunctionWords;
-use crate::link::LinkWords;
-use crate::node::NodeWords;
+use crate::junction_entry::JunctionEntry;
+use crate::link::PathLink;
+use crate::node_entry::NodeEntry;
 use crate::range::{Range, map_size};
 use numbers::refusal::Refusal;
-use records::bytes::{byte_at, u16_at};
-use records::junction::junction_at;
-use records::node::node_at;
+use records::junction::{junction_at, value_range_at};
+use records::layout::{JUNCTION_SIZE, NODE_SIZE};
+use records::node::{link_range_at, node_at};
 
 pub(crate) trait Ranged: Copy {
     type Entry: Copy;
@@ -72,9 +72,9 @@ pub(crate) struct FileNodes<'a> {
 }
 
 impl Ranged for FileNodes<'_> {
-    type Entry = NodeWords;
+    type Entry = NodeEntry;
 
-    type Part = LinkWords;
+    type Part = PathLink;
 
     ghost start = { λ f i. (node_at f.n.now (i * 40)).link_id };
 
@@ -82,7 +82,7 @@ impl Ranged for FileNodes<'_> {
 
     ghost cause = { LinksOutside };
 
-    ghost entry_at = { λ f i first. node_words (path_node (node_at f.n.now (i * 40)) first) };
+    ghost entry_at = { λ f i first. path_node (node_at f.n.now (i * 40)) first };
 
     ghost part = { λ f. links_in f.n.now f.l.now };
 
@@ -92,12 +92,12 @@ impl Ranged for FileNodes<'_> {
 
     ghost long = { λ f. length_links f.n.now f.l.now };
 
-    #[tactic(auto, using(crate::proofs::Rules::stored_ranges), unfolding(records::specs::Records::node_at))]
+    #[tactic(auto, using(records::proofs::Whole::node_whole))]
     fn range(self, i: usize) -> Range {
-        let node = record(self.n, i, 40);
+        let links = link_range_at(record(self.n, i, NODE_SIZE), 0);
         Range {
-            start: u16_at(node, 26) as usize,
-            count: (byte_at(node, 37) / 8) as usize,
+            start: links.start as usize,
+            count: links.count as usize,
         }
     }
 
@@ -105,13 +105,13 @@ impl Ranged for FileNodes<'_> {
         Refusal::LinksOutside(i)
     }
 
-    #[tactic(auto, using(crate::proofs::Reading::Whole::node_whole))]
-    fn entry(self, i: usize, first: u32) -> NodeWords {
-        NodeWords::from(path_node(node_at(record(self.n, i, 40), 0), first))
+    #[tactic(auto, using(records::proofs::Whole::node_whole))]
+    fn entry(self, i: usize, first: u32) -> NodeEntry {
+        path_node(node_at(record(self.n, i, NODE_SIZE), 0), first)
     }
 
     #[tactic(auto, using(crate::proofs::Reading::ReadLaws::part_stored), unfolding(crate::specs::Read::links_in))]
-    fn fill_part(self, i: usize, held: usize, parts: &mut [LinkWords]) {
+    fn fill_part(self, i: usize, held: usize, parts: &mut [PathLink]) {
         let range = self.range(i);
         copy_links(self.l, range.start, &mut parts[held..held + range.count]);
     }
@@ -125,7 +125,7 @@ pub(crate) struct FileJunctions<'a> {
 }
 
 impl Ranged for FileJunctions<'_> {
-    type Entry = JunctionWords;
+    type Entry = JunctionEntry;
 
     type Part = u8;
 
@@ -135,7 +135,7 @@ impl Ranged for FileJunctions<'_> {
 
     ghost cause = { ValuesOutside };
 
-    ghost entry_at = { λ f i first. junction_words (path_junction (junction_at f.j.now (i * 12)) first) };
+    ghost entry_at = { λ f i first. path_junction (junction_at f.j.now (i * 12)) first };
 
     ghost part = { λ f. values_in f.j.now f.h.now };
 
@@ -145,12 +145,12 @@ impl Ranged for FileJunctions<'_> {
 
     ghost long = { λ f. length_values f.j.now f.h.now };
 
-    #[tactic(auto, using(crate::proofs::Rules::stored_ranges), unfolding(records::specs::Records::junction_at))]
+    #[tactic(auto, using(records::proofs::Whole::junction_whole))]
     fn range(self, i: usize) -> Range {
-        let junction = record(self.j, i, 12);
+        let values = value_range_at(record(self.j, i, JUNCTION_SIZE), 0);
         Range {
-            start: u16_at(junction, 8) as usize,
-            count: map_size(byte_at(junction, 10), byte_at(junction, 11)),
+            start: values.start as usize,
+            count: map_size(values.width, values.height),
         }
     }
 
@@ -158,9 +158,9 @@ impl Ranged for FileJunctions<'_> {
         Refusal::ValuesOutside(i)
     }
 
-    #[tactic(auto, using(crate::proofs::Reading::Whole::junction_whole))]
-    fn entry(self, i: usize, first: u32) -> JunctionWords {
-        JunctionWords::from(path_junction(junction_at(record(self.j, i, 12), 0), first))
+    #[tactic(auto, using(records::proofs::Whole::junction_whole))]
+    fn entry(self, i: usize, first: u32) -> JunctionEntry {
+        path_junction(junction_at(record(self.j, i, JUNCTION_SIZE), 0), first)
     }
 
     #[tactic(auto, using(crate::proofs::Reading::ReadLaws::part_stored), unfolding(crate::specs::Read::values_in))]

@@ -8,13 +8,13 @@ use crate::arrays::{FileBytes, find_arrays};
 use crate::checks::{check_arrays, check_sizes};
 use crate::counts::{Counts, lengths};
 use crate::fill::{fill_ranges, fill_refs};
-use crate::junction::JunctionWords;
-use crate::junction_ref::RefWords;
-use crate::link::LinkWords;
-use crate::node::NodeWords;
+use crate::junction_entry::JunctionEntry;
+use crate::link::PathLink;
+use crate::node_entry::NodeEntry;
 use crate::root::read_root;
 use crate::ynd::Ynd;
 use numbers::refusal::Refusal;
+use records::junction_ref::NodeJunctionRef;
 use records::root::Root;
 
 #[tactic(auto, unfolding(crate::specs::Read::cell_read))]
@@ -43,11 +43,11 @@ pub(crate) fn fill_lists(
     root: Root,
     f: FileBytes,
     k: Counts,
-    nodes: &mut [NodeWords],
-    links: &mut [LinkWords],
-    junctions: &mut [JunctionWords],
+    nodes: &mut [NodeEntry],
+    links: &mut [PathLink],
+    junctions: &mut [JunctionEntry],
     heights: &mut [u8],
-    refs: &mut [RefWords],
+    refs: &mut [NodeJunctionRef],
 ) -> Ynd
     requires counted { arrays_check f.nodes.n.now f.nodes.l.now f.junctions.j.now f.junctions.h.now f.refs.now
         ≡ Ok k }
@@ -75,11 +75,11 @@ fn read_arrays(
     ynd: Ynd,
     root: Root,
     f: FileBytes,
-    nodes: &mut [NodeWords],
-    links: &mut [LinkWords],
-    junctions: &mut [JunctionWords],
+    nodes: &mut [NodeEntry],
+    links: &mut [PathLink],
+    junctions: &mut [JunctionEntry],
     heights: &mut [u8],
-    refs: &mut [RefWords],
+    refs: &mut [NodeJunctionRef],
 ) -> Result<Ynd, Refusal>
     requires { length f.refs.now ≤ 16777216 }
     ensures { left ynd result nodes.new links.new junctions.new heights.new refs.new
@@ -99,11 +99,11 @@ pub fn read<'a>(
     ynd: Ynd,
     system: &'a [u8],
     graphics: &'a [u8],
-    nodes: &mut [NodeWords],
-    links: &mut [LinkWords],
-    junctions: &mut [JunctionWords],
+    nodes: &mut [NodeEntry],
+    links: &mut [PathLink],
+    junctions: &mut [JunctionEntry],
     heights: &mut [u8],
-    refs: &mut [RefWords],
+    refs: &mut [NodeJunctionRef],
 ) -> Result<Ynd, Refusal>
     ensures { left ynd result nodes.new links.new junctions.new heights.new refs.new
         ≡ read_of system.now graphics.now

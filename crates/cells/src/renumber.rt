@@ -1,26 +1,27 @@
 // Renumbering: nodes, links and refs, with the cell's two node counts.
 ghost use Rattle.std.specs.Prelude.{◌≡◌, map, OnOk, ◌≤◌, length};
 ghost use Rattle.cells.specs.Memory.{memory, over_limit, short_of};
-ghost use Rattle.cells.specs.NodeWords.{is_ped, is_vehicle, old_of, relinked, reordered};
+ghost use Rattle.cells.specs.Nodes.{is_ped, is_vehicle, old_of, relinked, rereffed, reordered};
 ghost use Rattle.cells.specs.Order.{keep, new_places};
 ghost use Rattle.cells.specs.Renumber.{renumbered_by, recounted, answer_of, renumber, scratch_left};
 
 use crate::counts::{Counts, lengths};
-use crate::junction::JunctionWords;
-use crate::link::LinkWords;
-use crate::node::NodeWords;
+use crate::junction_entry::JunctionEntry;
+use crate::link::PathLink;
+use crate::node_entry::NodeEntry;
 use crate::order::{count_vehicles, fill_places};
 use crate::permute::move_nodes;
 use crate::relink::relink_lists;
 use crate::room::{check_lent, over_limit};
 use crate::ynd::Ynd;
 use numbers::refusal::{Lent, Refusal};
+use records::junction_ref::NodeJunctionRef;
 
 // All lists; answers how many nodes are no ped nodes.
 fn renumber_lists(
-    nodes: &mut [NodeWords],
-    links: &mut [LinkWords],
-    refs: &mut [LinkWords],
+    nodes: &mut [NodeEntry],
+    links: &mut [PathLink],
+    refs: &mut [NodeJunctionRef],
     scratch: &mut [u32],
     places: &mut [u32],
 ) -> usize
@@ -29,7 +30,7 @@ fn renumber_lists(
     ensures count { (result ≡ length (keep is_vehicle nodes.old)) × (result ≤ length nodes.old) }
     ensures lists { (nodes.new ≡ reordered nodes.old)
         × (links.new ≡ map (relinked (old_of (length nodes.old) nodes.old)) links.old)
-        × (refs.new ≡ map (relinked (old_of (length nodes.old) nodes.old)) refs.old)
+        × (refs.new ≡ map (rereffed (old_of (length nodes.old) nodes.old)) refs.old)
         × (places.new ≡ new_places (map is_ped nodes.old)) }
 {
     let v = count_vehicles(nodes);
@@ -78,11 +79,11 @@ fn recount(ynd: Ynd, v: u32, p: u32) -> Ynd
 #[tactic(auto, using(crate::proofs::Rules::renumber_laws), unfolding(crate::specs::Renumber::renumber, crate::specs::Renumber::renumber_memory, crate::specs::Renumber::new_lists, crate::specs::Renumber::renumber_lists, crate::specs::Renumber::vehicles))]
 pub fn recalculate_node_indices(
     ynd: Ynd,
-    nodes: &mut [NodeWords],
-    links: &mut [LinkWords],
-    junctions: &[JunctionWords],
+    nodes: &mut [NodeEntry],
+    links: &mut [PathLink],
+    junctions: &[JunctionEntry],
     heights: &[u8],
-    refs: &mut [LinkWords],
+    refs: &mut [NodeJunctionRef],
     scratch: &mut [u32],
     places: &mut [u32],
 ) -> Result<Ynd, Refusal>

@@ -5,7 +5,7 @@ ghost use Rattle.cells.specs.Memory.{over_limit, nodes_causes, short_of};
 ghost use Rattle.cells.specs.Add.{room_for};
 
 use crate::counts::Counts;
-use crate::node::NodeWords;
+use crate::node_entry::NodeEntry;
 use crate::ynd::Ynd;
 use numbers::refusal::{Lent, Refusal};
 
@@ -19,7 +19,7 @@ pub fn over_limit(ynd: Ynd) -> bool
 
 // The nodes that the cell has, of those lent: 14, then 7.
 #[tactic(auto, using(numbers::proofs::Refusing::tests, crate::proofs::Forms::Limits::within), unfolding(crate::specs::Memory::nodes_causes))]
-pub fn own_nodes<'a>(ynd: Ynd, nodes: &'a [NodeWords]) -> Result<&'a [NodeWords], Refusal>
+pub fn own_nodes<'a>(ynd: Ynd, nodes: &'a [NodeEntry]) -> Result<&'a [NodeEntry], Refusal>
     ensures value { answered result ≡ decided (nodes_causes ynd (length nodes.now)) }
     ensures own { IfOk result (λ own. own.now ≡ take ynd.node_count nodes.now) }
     ensures passed { OnOk result ((over_limit ynd ≡ false) × (ynd.node_count ≤ 65536)

@@ -1,30 +1,28 @@
 // Entries as the file's records: coordinates stored as steps, and of flags5 the low three bits.
 ghost use Rattle.std.specs.Prelude.{◌≡◌, ◌≤◌};
 ghost use Rattle.cells.specs.Entries.{file_node, file_link, file_junction};
-ghost use Rattle.cells.specs.Blocks.{link_record, junction_record, ref_record};
-ghost use Rattle.cells.specs.Words.{to_node};
+ghost use Rattle.cells.specs.Blocks.{link_record, junction_record};
 ghost use Rattle.records.specs.Records.{node_bytes};
 
-use crate::junction::{JunctionWords, PathJunction};
-use crate::junction_ref::{RefWords, ref_of};
-use crate::link::{LinkWords, PathLink};
-use crate::node::{NodeWords, PathNode};
-use numbers::position::quantise_bits;
+use crate::junction::PathJunction;
+use crate::junction_entry::JunctionEntry;
+use crate::link::PathLink;
+use crate::node::PathNode;
+use crate::node_entry::NodeEntry;
+use numbers::position::quantise;
 use numbers::steps::{steps_xy, steps_z};
 use records::junction::{NodeJunction, junction_bytes};
-use records::junction_ref::ref_bytes;
 use records::link::{NodeLink, link_bytes};
 use records::node::{Node, node_bytes};
 
-// Its links, `count` in number, are stored from `start` on. Its steps come from the words: a coordinate need not be
-// made an f32 first.
-#[tactic(auto, using(crate::proofs::Rules::file_laws), unfolding(crate::specs::Entries::file_node, crate::specs::Words::to_node))]
-fn file_node(w: NodeWords, start: u16, count: u8) -> Node
+// Its links, `count` in number, are stored from `start` on.
+#[tactic(auto, using(crate::proofs::Rules::file_laws), unfolding(crate::specs::Entries::file_node))]
+fn file_node(n: &NodeEntry, start: u16, count: u8) -> Node
     requires { count ≤ 31 }
-    ensures { result ≡ file_node start count (to_node w) }
+    ensures { result ≡ file_node start count n.now }
 {
-    let n = PathNode::from(w);
-    let q = quantise_bits(w[2], w[3], w[4]);
+    let n = PathNode::from(*n);
+    let q = quantise(n.position);
     Node {
         unused0: n.unused0,
         unused1: n.unused1,
@@ -65,19 +63,15 @@ impl From<PathLink> for NodeLink {
 
 // `start` heightmap bytes stand before its own.
 #[tactic(auto, using(crate::proofs::Rules::file_laws), unfolding(crate::specs::Entries::file_junction))]
-fn file_junction(j: PathJunction, start: u16) -> NodeJunction
+fn file_junction(j: JunctionEntry, start: u16) -> NodeJunction
     ensures { result ≡ file_junction start j }
 {
-    let p = j.position;
-    let max_z = steps_z(j.max_z);
-    let position_x = steps_xy(p.x);
-    let position_y = steps_xy(p.y);
-    let min_z = steps_z(j.min_z);
+    let j = PathJunction::from(j);
     NodeJunction {
-        max_z,
-        position_x,
-        position_y,
-        min_z,
+        max_z: steps_z(j.max_z),
+        position_x: steps_xy(j.position.x),
+        position_y: steps_xy(j.position.y),
+        min_z: steps_z(j.min_z),
         heightmap_ptr: start,
         heightmap_dim_x: j.width,
         heightmap_dim_y: j.height,
@@ -86,27 +80,21 @@ fn file_junction(j: PathJunction, start: u16) -> NodeJunction
 
 // ---- the bytes of an entry's record
 
-pub(crate) fn node_record(w: NodeWords, start: u16, count: u8) -> [u8; 40]
+pub(crate) fn node_record(n: &NodeEntry, start: u16, count: u8) -> [u8; 40]
     requires { count ≤ 31 }
-    ensures { result ≡ node_bytes (file_node start count (to_node w)) }
+    ensures { result ≡ node_bytes (file_node start count n.now) }
 {
-    node_bytes(file_node(w, start, count))
+    node_bytes(file_node(n, start, count))
 }
 
-pub(crate) fn link_record(w: LinkWords) -> [u8; 8]
-    ensures { result ≡ link_record w }
+pub(crate) fn link_record(l: PathLink) -> [u8; 8]
+    ensures { result ≡ link_record l }
 {
-    link_bytes(PathLink::from(w).into())
+    link_bytes(l.into())
 }
 
-pub(crate) fn junction_record(w: JunctionWords, start: u16) -> [u8; 12]
-    ensures { result ≡ junction_record start w }
+pub(crate) fn junction_record(j: &JunctionEntry, start: u16) -> [u8; 12]
+    ensures { result ≡ junction_record start j.now }
 {
-    junction_bytes(file_junction(PathJunction::from(w), start))
-}
-
-pub(crate) fn ref_record(w: RefWords) -> [u8; 8]
-    ensures { result ≡ ref_record w }
-{
-    ref_bytes(ref_of(w))
+    junction_bytes(file_junction(*j, start))
 }

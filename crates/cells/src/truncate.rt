@@ -3,6 +3,10 @@ ghost use Rattle.std.specs.Prelude.{◌≡◌, List, ℕ, IfOk};
 ghost use Rattle.cells.specs.Memory.{memory, left, over_limit};
 ghost use Rattle.numbers.specs.Refusals.{answered};
 ghost use Rattle.cells.specs.Truncate.{fewer, truncate_nodes, truncate_junctions, truncate_refs};
+ghost use Rattle.cells.specs.declared.node_entry.NodeEntry.{NodeEntry};
+ghost use Rattle.cells.specs.declared.link.PathLink.{PathLink};
+ghost use Rattle.cells.specs.declared.junction_entry.JunctionEntry.{JunctionEntry};
+ghost use Rattle.records.specs.declared.junction_ref.NodeJunctionRef.{NodeJunctionRef};
 
 use crate::room::over_limit;
 use crate::ynd::Ynd;
@@ -26,7 +30,8 @@ fn fewer_of(ynd: Ynd, n: u32, k: usize) -> Result<u32, Refusal>
 // The first k nodes stay. Both counts of kinds stay too: renumbering sets them.
 #[tactic(auto, unfolding(crate::specs::Truncate::truncate_nodes, crate::specs::Add::with_counts))]
 pub fn truncate_nodes(ynd: Ynd, k: usize) -> Result<Ynd, Refusal>
-    ensures { (nodes links junctions refs : List (List ℕ)) (heights : List ℕ) →
+    ensures { (nodes : List NodeEntry) (links : List PathLink) (junctions : List JunctionEntry)
+        (refs : List NodeJunctionRef) (heights : List ℕ) →
         left ynd result nodes links junctions heights refs
         ≡ truncate_nodes (memory ynd nodes links junctions heights refs) k }
 {
@@ -37,7 +42,8 @@ pub fn truncate_nodes(ynd: Ynd, k: usize) -> Result<Ynd, Refusal>
 // The first k junctions stay.
 #[tactic(auto, unfolding(crate::specs::Truncate::truncate_junctions, crate::specs::Add::with_counts))]
 pub fn truncate_junctions(ynd: Ynd, k: usize) -> Result<Ynd, Refusal>
-    ensures { (nodes links junctions refs : List (List ℕ)) (heights : List ℕ) →
+    ensures { (nodes : List NodeEntry) (links : List PathLink) (junctions : List JunctionEntry)
+        (refs : List NodeJunctionRef) (heights : List ℕ) →
         left ynd result nodes links junctions heights refs
         ≡ truncate_junctions (memory ynd nodes links junctions heights refs) k }
 {
@@ -51,7 +57,8 @@ pub fn truncate_junctions(ynd: Ynd, k: usize) -> Result<Ynd, Refusal>
 // The first k refs stay.
 #[tactic(auto, unfolding(crate::specs::Truncate::truncate_refs, crate::specs::Add::with_counts))]
 pub fn truncate_refs(ynd: Ynd, k: usize) -> Result<Ynd, Refusal>
-    ensures { (nodes links junctions refs : List (List ℕ)) (heights : List ℕ) →
+    ensures { (nodes : List NodeEntry) (links : List PathLink) (junctions : List JunctionEntry)
+        (refs : List NodeJunctionRef) (heights : List ℕ) →
         left ynd result nodes links junctions heights refs
         ≡ truncate_refs (memory ynd nodes links junctions heights refs) k }
 {

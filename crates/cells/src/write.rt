@@ -11,15 +11,14 @@ ghost use Rattle.cells.specs.WriteCounts.{Counted};
 use crate::blocks::{pad, put_heights, put_junctions, put_links, put_nodes, put_records};
 use crate::counts::{Counts, lengths};
 use crate::held::Held;
-use crate::junction::JunctionWords;
-use crate::junction_ref::RefWords;
-use crate::link::LinkWords;
-use crate::node::NodeWords;
+use crate::junction_entry::JunctionEntry;
+use crate::link::PathLink;
+use crate::node_entry::NodeEntry;
 use crate::room::check_lent;
-use crate::to_file::ref_record;
 use crate::write_checks::write_counts;
 use crate::ynd::Ynd;
 use numbers::refusal::{Lent, Refusal};
+use records::junction_ref::{NodeJunctionRef, ref_bytes};
 use records::layout::{
     Blocks, HEADER_SIZE, JUNCTION_SIZE, LINK_SIZE, NODE_SIZE, Places, REF_SIZE, lay_out, put_header,
 };
@@ -87,7 +86,7 @@ fn put_arrays(section: &mut [u8], h: Held, k: Counts)
     ensures { section.new ≡ put section.old header_size (lay header_size (blocks (memory_of h.entry))) }
 {
     let a = pad(section, HEADER_SIZE, REF_SIZE * k.refs);
-    let a = put_records(section, a, h.refs, ref_record);
+    let a = put_records(section, a, h.refs, ref_bytes);
     let b = pad(section, a, k.heights);
     let b = put_heights(section, b, h.junctions, h.heights);
     let c = pad(section, b, JUNCTION_SIZE * k.junctions);
@@ -117,11 +116,11 @@ pub(crate) fn store(h: Held, k: Counts, section: &mut [u8]) -> Result<usize, Ref
 #[tactic(auto, using(crate::proofs::Rules::write_laws), unfolding(crate::specs::Write::write_call))]
 pub fn write(
     ynd: Ynd,
-    nodes: &[NodeWords],
-    links: &[LinkWords],
-    junctions: &[JunctionWords],
+    nodes: &[NodeEntry],
+    links: &[PathLink],
+    junctions: &[JunctionEntry],
     heights: &[u8],
-    refs: &[RefWords],
+    refs: &[NodeJunctionRef],
     section: &mut [u8],
 ) -> Result<usize, Refusal>
     ensures { left result section.new

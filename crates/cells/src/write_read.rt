@@ -2,17 +2,16 @@
 ghost use Rattle.std.specs.Prelude.{◌≡◌, ◌≤◌, IfOk};
 ghost use Rattle.cells.specs.Memory.{memory};
 ghost use Rattle.cells.specs.Held.{memory_of};
-ghost use Rattle.cells.specs.WriteCounts.{Counted};
+ghost use Rattle.cells.specs.WriteCounts.{Counted, SizedIfCounted};
 ghost use Rattle.cells.specs.BackAnswer.{back_answer};
 ghost use Rattle.cells.specs.WriteRead.{both, write_read_of};
 
 use crate::arrays::find_arrays;
 use crate::counts::{Counts, lengths};
 use crate::held::Held;
-use crate::junction::JunctionWords;
-use crate::junction_ref::RefWords;
-use crate::link::LinkWords;
-use crate::node::NodeWords;
+use crate::junction_entry::JunctionEntry;
+use crate::link::PathLink;
+use crate::node_entry::NodeEntry;
 use crate::read::fill_lists;
 use crate::room::check_lent;
 use crate::root::read_root;
@@ -20,6 +19,7 @@ use crate::write::{places_for, store};
 use crate::write_checks::write_counts;
 use crate::ynd::Ynd;
 use numbers::refusal::{Lent, Refusal};
+use records::junction_ref::NodeJunctionRef;
 
 // How many bytes were written, and the cell as read back.
 #[derive(Clone, Copy)]
@@ -33,6 +33,7 @@ pub struct WroteRead {
 fn check_back(h: Held, lent: Counts, section: usize) -> Result<Counts, Refusal>
     ensures value { result ≡ back_answer (memory_of h.entry) lent section }
     ensures ready { IfOk result (λ k. Counted (memory_of h.entry) k) }
+    ensures sized { SizedIfCounted (memory_of h.entry) }
     ensures room { IfOk result (λ k. (k.nodes ≤ lent.nodes) × (k.links ≤ lent.links)
         × (k.junctions ≤ lent.junctions) × (k.heights ≤ lent.heights) × (k.refs ≤ lent.refs)) }
 {
@@ -50,11 +51,11 @@ fn check_back(h: Held, lent: Counts, section: usize) -> Result<Counts, Refusal>
 #[tactic(auto, using(crate::proofs::WritingBack::BackAnswer::refused_back))]
 pub fn write_then_read(
     ynd: Ynd,
-    nodes: &mut [NodeWords],
-    links: &mut [LinkWords],
-    junctions: &mut [JunctionWords],
+    nodes: &mut [NodeEntry],
+    links: &mut [PathLink],
+    junctions: &mut [JunctionEntry],
     heights: &mut [u8],
-    refs: &mut [RefWords],
+    refs: &mut [NodeJunctionRef],
     section: &mut [u8],
 ) -> Result<WroteRead, Refusal>
     ensures { both ynd result nodes.new links.new junctions.new heights.new refs.new section.new

@@ -8,6 +8,7 @@ use crate::counts::Counts;
 
 pub const NODE_DICTIONARY_VFT: u32 = 0x4061_E3B0;
 
+#[repr(C)]
 #[derive(Clone, Copy)]
 pub struct Ynd {
     pub vft: u32,

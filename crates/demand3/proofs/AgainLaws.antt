@@ -23,11 +23,11 @@ use Rattle.walks.specs.SoundCall.{sound_call}
 use Rattle.walks.specs.WalkCall.{Route, route, walk_call}
 use Rattle.walks.specs.Calls.{after, run, renumbers, moved}
 use Rattle.demand3.specs.Again.{AgainLeft, renew, place_after, both_walks, stopped, if_sound, sound_walks, if_read}
-use Rattle.demand3.specs.Again.{walk_again, calls, SamePlaces, SameWalks}
+use Rattle.demand3.specs.Again.{walk_again, calls, SamePlaces, SameWalks, SameShown}
 use Rattle.demand3.specs.declared.again.Walks.TheVariants as walks
 use Rattle.walks.proofs.Routes.{move_route}
 use Rattle.walks.proofs.WalksAlike.{nodes_long, route_left, walk_left_law, read_lies}
-use Rattle.walks.proofs.Demand.{walks_unnoticed}
+use Rattle.walks.proofs.Demand.{demand_3, walks_unnoticed}
 use Rattle.walks.proofs.SoundCases.{says_yes}
 use Rattle.std.specs.Prelude.{Result, Ok, Err}
 use Rattle.numbers.specs.Refusals.{Answer}
@@ -131,3 +131,48 @@ module _ (system graphics : List ℕ) (lent : Memory) (scratch places section ch
   pub told : (x : AgainLeft) → x ≡ walk_again system graphics lent scratch places section choices start visited
       later → length later ≡ length visited → Same x
   told x e h = subst Same (sym e) (again_same h)
+
+  -- ---- what the second walk shows
+
+  abbrev Shows : AgainLeft → Type 0
+  Shows l = SameShown f (file_cell system graphics) (cell_of l.memory) choices start l.walks
+
+  both_shown : (read_of system graphics lent).answer ≡ Ok tt → sound (cell_of m) ≡ true → start < m.ynd.node_count
+      → Shows (both_walks m (length scratch) places section choices start visited later)
+  unfolding both_walks renew run after
+  both_shown done s lt =
+      let same : cell_of m ≡ file_cell system graphics = read_cell system graphics lent done in
+      let inside : start < length (cell_of m).nodes = omega (arith, nodes_long m (read_lies system graphics lent done))
+      in
+      (demand_3 system graphics lent done (ap sound (sym same) ∙ s) (calls scratch places section)).same_walks choices
+      start (let q : start < length (file_cell system graphics).nodes = rw (← same) inside in q)
+
+  pub again_shown : Shows (walk_again system graphics lent scratch places section choices start visited later)
+  unfolding walk_again sound_walks
+  again_shown = reading (read_of system graphics lent).answer refl
+    where
+      starting : (read_of system graphics lent).answer ≡ Ok tt → (sound_call m scratch).answer ≡ Ok true
+          → Shows (cond (leb m.ynd.node_count start) (stopped m places section visited later walks.NoStart)
+          (both_walks m (length scratch) places section choices start visited later))
+      starting done s = by_test (leb m.ynd.node_count start) (λ t. rw t tt)
+          (λ g. rw g (both_shown done (says_yes m scratch s) (leb-false _ _ g)))
+
+      checking : (read_of system graphics lent).answer ≡ Ok tt → (s : Result Bool Refusal)
+          → (sound_call m scratch).answer ≡ s
+          → Shows (if_sound s (stopped m places section visited later)
+          (cond (leb m.ynd.node_count start) (stopped m places section visited later walks.NoStart)
+          (both_walks m (length scratch) places section choices start visited later)))
+      checking done (Ok true) h = starting done h
+      checking done (Ok false) h = tt
+      checking done (Err cause) h = tt
+
+      reading : (a : Answer) → (read_of system graphics lent).answer ≡ a
+          → Shows (if_read a (stopped m places section visited later)
+          (sound_walks m scratch places section choices start visited later))
+      reading (Ok tt) h = checking h (sound_call m scratch).answer refl
+      reading (Err cause) h = tt
+
+  -- of what the call leaves
+  pub told_shown : (x : AgainLeft) → x ≡ walk_again system graphics lent scratch places section choices start
+      visited later → Shows x
+  told_shown x e = subst Shows (sym e) again_shown

@@ -4,6 +4,7 @@ use Rattle.std.specs.Prelude.{ℕ, ◌≡◌, Bool, true, false, cond, List, [],
 use Rattle.std.specs.Prelude.{Result, Ok, Err}
 use Rattle.numbers.specs.Refusals.{Answer}
 use Rattle.numbers.specs.declared.refusal.Refusal.{Refusal}
+use Rattle.cells.specs.Cell.{Cell}
 use Rattle.cells.specs.Memory.{Memory, memory}
 use Rattle.cells.specs.Read.{read_of}
 use Rattle.cells.specs.Renumber.{renumber, scratch_left}
@@ -11,10 +12,16 @@ use Rattle.cells.specs.WriteRead.{write_read_of}
 use Rattle.walks.specs.SoundCall.{sound_call}
 use Rattle.walks.specs.WalkCall.{walk_call}
 use Rattle.walks.specs.Calls.{Call, renumbering, write_read}
+use Rattle.walks.specs.Claim.{SameWalk}
+use Rattle.walks.specs.Walk.{walk}
 use Rattle.walks.specs.declared.walk.Walked.{Walked}
 use Rattle.demand3.specs.declared.again.Walks.{Walks}
 use Rattle.demand3.specs.declared.again.Walks.TheVariants.{Both, NoStart, Unsound, NotChecked, Refused}
 use Rattle.demand3.specs.declared.again.Again.{Again}
+use Rattle.cells.specs.declared.node_entry.NodeEntry.{NodeEntry}
+use Rattle.cells.specs.declared.link.PathLink.{PathLink}
+use Rattle.cells.specs.declared.junction_entry.JunctionEntry.{JunctionEntry}
+use Rattle.records.specs.declared.junction_ref.NodeJunctionRef.{NodeJunctionRef}
 
 -- what the call answers, and what it leaves of the cell's memory and of the lists lent; for the scratch see
 -- `scratch_after`
@@ -26,8 +33,8 @@ pub record AgainLeft : Type 0 where
   pub visited : List ℕ
   pub later : List ℕ
 
-abbrev pub again_left : Again → List (List ℕ) → List (List ℕ) → List (List ℕ) → List ℕ
-    → List (List ℕ) → List ℕ → List ℕ → List ℕ → List ℕ → AgainLeft
+abbrev pub again_left : Again → List NodeEntry → List PathLink → List JunctionEntry → List ℕ
+    → List NodeJunctionRef → List ℕ → List ℕ → List ℕ → List ℕ → AgainLeft
 again_left r nodes links junctions heights refs places section visited later = record {
   walks = r.walks;
   memory = memory r.ynd nodes links junctions heights refs;
@@ -133,3 +140,13 @@ SameWalks f NoStart visited later = Unit {0}
 SameWalks f Unsound visited later = Unit {0}
 SameWalks f (NotChecked cause) visited later = Unit {0}
 SameWalks f (Refused cause) visited later = Unit {0}
+
+-- The second walk, in the cell that is there now, shows what the first showed in the cell as read: every part of
+-- `SameWalk`.
+abbrev pub SameShown : (ℕ → ℕ) → Cell → Cell → List ℕ → ℕ → Walks → Type 0
+SameShown f first now choices start (Both before after) =
+    SameWalk f (walk first choices start) (walk now choices (f start))
+SameShown f first now choices start NoStart = Unit {0}
+SameShown f first now choices start Unsound = Unit {0}
+SameShown f first now choices start (NotChecked cause) = Unit {0}
+SameShown f first now choices start (Refused cause) = Unit {0}

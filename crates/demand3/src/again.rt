@@ -5,16 +5,19 @@ ghost use Rattle.cells.specs.Memory.{memory};
 ghost use Rattle.cells.specs.Read.{read_of};
 ghost use Rattle.walks.specs.Calls.{moved};
 ghost use Rattle.demand3.specs.Again.{again_left, place_after};
-ghost use Rattle.demand3.specs.Again.{walk_again, scratch_after, calls, SameWalks};
+ghost use Rattle.demand3.specs.Again.{walk_again, scratch_after, calls, SameWalks, SameShown};
+ghost use Rattle.cells.specs.CellOf.{cell_of};
+ghost use Rattle.cells.specs.FileCell.{file_cell};
 
-use cells::junction::JunctionWords;
-use cells::link::LinkWords;
-use cells::node::NodeWords;
+use cells::junction_entry::JunctionEntry;
+use cells::link::PathLink;
+use cells::node_entry::NodeEntry;
 use cells::read::read;
 use cells::renumber::recalculate_node_indices;
 use cells::write_read::write_then_read;
 use cells::ynd::Ynd;
 use numbers::refusal::Refusal;
+use records::junction_ref::NodeJunctionRef;
 use walks::sound::sound;
 use walks::walk::{Walked, walk};
 
@@ -47,18 +50,20 @@ fn place_after(renumbered: Result<Ynd, Refusal>, places: &[u32], p: usize) -> us
 }
 
 // Reads a cell; if it is sound, walks, renumbers it, writes and reads it again, and walks again from where the start
-// then stands. Lent visited lists of equal length, both walks answer the same, and the places of the second are those
-// of the first, each moved on. Only `Refused` leaves everything as it was: behind it nothing has been stored.
+// then stands. The second walk shows what the first did. Lent visited lists of equal length, both walks answer the
+// same,
+// and the places of the second are those of the first, each moved on. Only `Refused` leaves everything as it was:
+// behind it nothing has been stored.
 #[tactic(auto, using(numbers::proofs::Refusing::tested), unfolding(crate::specs::Again::walk_again, crate::specs::Again::sound_walks))]
 pub fn walk_again<'a>(
     ynd: Ynd,
     system: &'a [u8],
     graphics: &'a [u8],
-    nodes: &mut [NodeWords],
-    links: &mut [LinkWords],
-    junctions: &mut [JunctionWords],
+    nodes: &mut [NodeEntry],
+    links: &mut [PathLink],
+    junctions: &mut [JunctionEntry],
     heights: &mut [u8],
-    refs: &mut [LinkWords],
+    refs: &mut [NodeJunctionRef],
     scratch: &mut [u32],
     places: &mut [u32],
     section: &mut [u8],
@@ -81,6 +86,15 @@ pub fn walk_again<'a>(
         refs.old)).memory
         (calls scratch.old places.old section.old))
         result.walks visited.new later.new }
+    ensures same_shown { SameShown
+        (moved (read_of system.now graphics.now
+        (memory ynd nodes.old links.old junctions.old heights.old
+        refs.old)).memory
+        (calls scratch.old places.old section.old))
+        (file_cell system.now graphics.now)
+        (cell_of (memory result.ynd nodes.new links.new junctions.new
+        heights.new refs.new))
+        choices.now start result.walks }
     ensures scratch_after { scratch_after result.walks (read_of system.now graphics.now
         (memory ynd nodes.old links.old junctions.old heights.old
         refs.old)).memory

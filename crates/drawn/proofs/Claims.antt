@@ -17,6 +17,7 @@ use Rattle.drawn.proofs.CallsMean as means
 use Rattle.drawn.proofs.DrawnDemand as demand
 use Rattle.drawn.proofs.StoredDrawing as drawing
 use Rattle.drawn.proofs.RawDemand as raw
+use Rattle.drawn.proofs.TidyAsRead.{made_sized}
 use Rattle.drawn.proofs.WriteSettles as settles
 
 pub drawn_made : DrawnMade
@@ -62,7 +63,7 @@ section_means = settles.section_means
 pub section_reads : SectionReads
 section_reads m h section n e lent room =
     let s = take n (write_call m section).section in
-    let a : (read_of s [] lent).answer ≡ (Ok tt) = read_after_write m lent section n e ∙ room in
+    let a : (read_of s [] lent).answer ≡ (Ok tt) = read_after_write m lent (made_sized m h) section n e ∙ room in
     (a, read_cell s [] lent a ∙ settles.section_means m h section n e)
 
 pub write_read_stable : WriteReadStable

@@ -6,7 +6,7 @@ use mathlib.Core.Bool.{true}
 use mathlib.Core.List.{List}
 use Rattle.cells.specs.Memory.{Memory}
 use Rattle.cells.specs.CellOf.{cell_of}
-use Rattle.cells.proofs.WritingBack.KeptCells.{kept}
+use Rattle.cells.proofs.WritingBack.KeptCells.{Kept}
 use Rattle.cells.proofs.Forms.Limits.{not_over}
 use Rattle.walks.specs.Sound.{sound}
 use Rattle.walks.specs.Walk.{walk}
@@ -20,11 +20,11 @@ use Rattle.walks.proofs.WalksAlike.{Lies, run_lies, answers_alike}
 use Rattle.drawn.specs.Tidy.{Tidy}
 use Rattle.drawn.specs.Changes.{Change, new, after, run}
 use Rattle.drawn.specs.Fits.{AllFit}
-use Rattle.drawn.proofs.TidyAsRead.{tidy_as_read, tidy_writes_alike}
+use Rattle.drawn.proofs.TidyAsRead.{maps_whole, made_alike}
 use Rattle.drawn.proofs.FittedCells.{all_kept}
 use Rattle.drawn.specs.Made.{Made}
 use Rattle.drawn.proofs.Made.{drawn_new}
-use Rattle.drawn.specs.Made.{stored}
+use Rattle.drawn.specs.Made.{Stored}
 
 -- as in walks Demand
 unnoticed : (m : Memory) → Fit (cell_of m) → Lies m → (ks : List Call) → Unnoticed (cell_of m) m ks
@@ -49,21 +49,21 @@ made_lies m h = record {
       h.links_lie;
 }
 
-pub made_kept : (m : Memory) → Made m → stored (cell_of m) ≡ true → kept (cell_of m) ≡ true
-made_kept m h s = all_kept (cell_of m) h.fits s (tidy_as_read m h.tidy).maps_whole
+pub made_kept : (m : Memory) → Made m → Stored (cell_of m) → Kept (cell_of m)
+made_kept m h s = all_kept (cell_of m) h.fits s (maps_whole m h.tidy)
 
-pub made_demand_3 : (m : Memory) → Made m → sound (cell_of m) ≡ true → stored (cell_of m) ≡ true → (ks : List Call)
+pub made_demand_3 : (m : Memory) → Made m → sound (cell_of m) ≡ true → Stored (cell_of m) → (ks : List Call)
     → Unnoticed (cell_of m) m ks
 made_demand_3 m h is-sound is-stored ks = unnoticed m
     (record { is_sound = is-sound; is_kept = made_kept m h is-stored }) (made_lies m h.tidy) ks
 
 pub made_writes_alike : (m : Memory) → Made m → (section : List ℕ) → AsWriting m section
-made_writes_alike m h section = let same = tidy_writes_alike m h.tidy section in
+made_writes_alike m h section = let same = made_alike m h section in
     record { same_answer = same.0; same_section = same.1 }
 
 -- of a yard drawn from a new cell, in whatever lists are lent
 pub drawn_demand_3 : (lent : Memory) (drawing : List Change) → AllFit drawing → sound
-    (cell_of (run (after lent new) drawing)) ≡ true → stored (cell_of (run (after lent new) drawing)) ≡ true
+    (cell_of (run (after lent new) drawing)) ≡ true → Stored (cell_of (run (after lent new) drawing))
     → (ks : List Call) → Unnoticed (cell_of (run (after lent new) drawing)) (run (after lent new) drawing) ks
 drawn_demand_3 lent drawing a is-sound is-stored ks = made_demand_3 (run (after lent new) drawing)
     (drawn_new lent drawing a) is-sound is-stored ks

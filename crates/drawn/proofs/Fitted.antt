@@ -1,270 +1,299 @@
 -- Edits and renumbering keep a cell's numbers within their fields.
 -- Assumes nothing but that the arguments fit their types.
-use Rattle.std.proofs.lemmas.Bool.{and_from}
-use Rattle.cells.proofs.Sequences.Tests.{every_all}
-use Prim.Native.Nat.{ℕ, zero, suc, ◌+◌, ◌≤◌, ◌<◌}
+use Prim.Native.Nat.{ℕ, ◌+◌, ◌≤◌, ◌<◌}
 use native.Mathlib.Omega.{arith}
-use mathlib.Core.Path.{◌≡◌, refl, ap, ◌∙◌}
-use mathlib.Core.Bool.{Bool, true, ◌&&◌}
-use mathlib.Core.List.{List, [], ◌∷◌, ◌++◌, map}
-use lib.Dec.{eqb}
-use lib.ListN.{length, get_or, set, take, length-map, get_or-map}
-use borrow.Author.Tests.{lt-ltb, eq-eqb}
+use mathlib.Core.Path.{◌≡◌, refl}
+use mathlib.Core.List.{List, []}
+use lib.Dec.{ltb}
+use lib.ListN.{length, get_or}
+use Rattle.std.proofs.lemmas.List.{get_or_past}
+use borrow.Author.Tests.{ltb-true, ltb-false}
+use Rattle.std.specs.Prelude.{Ok}
+use Rattle.std.specs.List.{All}
+use Rattle.std.proofs.lemmas.List.Elements.{All-nil, All-get_or, All-from_get_or}
+use Rattle.std.proofs.lemmas.List.Elements.{All-set, All-push, All-append, All-take}
 use Rattle.numbers.specs.Positions.{quantised, dequantised}
+use Rattle.numbers.specs.declared.math.Vec3.{Vec3}
 use Rattle.records.specs.declared.junction_ref.NodeJunctionRef.{NodeJunctionRef}
-use Rattle.cells.specs.declared.link.PathLink.{PathLink}
-use Rattle.cells.specs.Lists.{every}
-use Rattle.cells.specs.Order.{keep, parted, Old}
-use Rattle.cells.specs.NodeAccess.{new_node}
-use Rattle.cells.specs.Cell.{Link, Node, Cell, no_node, node_at, is_ped_node, is_vehicle_node}
-use Rattle.cells.specs.Cell.{old_nodes, ordered, relink, reref, renode, renumber_cell}
-use Rattle.cells.specs.EditedCell.{node_from, node_moved, ref_from, junction_from, with_link, link_changed}
-use Rattle.cells.specs.EditedCell.{height_changed}
-use Rattle.cells.proofs.Forms.EntryFits.{LinkFits}
 use Rattle.records.proofs.RecordBack.{RefFits}
-use Rattle.cells.proofs.WritingBack.Kept.{link_again, ref_again}
-use Rattle.cells.proofs.WritingBack.KeptCells.{kept_link, is_byte, is_word, kept_ref, kept_root}
-use Rattle.cells.proofs.Sequences.Tests.{and_left, and_right, every_keep, every_append, every_map, keep_lengths}
-use Rattle.cells.proofs.Renumbering.NewCell.{every_number}
-use Rattle.cells.specs.StoredCell.{junction_at}
-use Rattle.cells.specs.EditedCell.{node_linked, junction_mapped}
-use Rattle.cells.specs.CellOf.{link_of}
-use Rattle.drawn.specs.Changes.{Edit}
+use Rattle.cells.specs.declared.node.PathNode.{PathNode}
+use Rattle.cells.specs.declared.node_entry.NodeEntry.{NodeEntry}
+use Rattle.cells.specs.declared.node_entry.PositionBits.{PositionBits}
+use Rattle.cells.specs.declared.link.PathLink.{PathLink}
+use Rattle.cells.specs.declared.junction.PathJunction.{PathJunction}
+use Rattle.cells.specs.Memory.{Memory}
+use Rattle.cells.specs.Order.{keep, parted, Old}
+use Rattle.cells.specs.Nodes.{relinked, rereffed}
+use Rattle.cells.specs.NodeAccess.{new_node}
+use Rattle.cells.specs.EntryForms.{bits_in, node_as_entry, junction_as_entry}
+use Rattle.cells.specs.Cell.{Node, Junction, Cell, no_node, node_at, is_ped_node, is_vehicle_node, no_body}
+use Rattle.cells.specs.Cell.{old_nodes, ordered, renode, number_nodes, renumber_cell}
+use Rattle.cells.specs.CellOf.{cell_of}
+use Rattle.cells.specs.EditedCell.{node_from, node_moved, node_linked, junction_from, junction_mapped}
+use Rattle.cells.specs.EditedCell.{with_nodes, with_junctions, with_refs}
+use Rattle.cells.specs.StoredCell.{with_words, no_junction, junction_at}
+use Rattle.cells.proofs.Forms.EntryFits.{LinkFits}
+use Rattle.cells.proofs.Sequences.Tests.{by_test, keep_lengths}
+use Rattle.cells.proofs.Renumbering.NewCell.{number_length, number_at, ordered_length}
+use Rattle.cells.proofs.WritingBack.Kept.{all_kept, all_again, link_again, ref_again}
+use Rattle.cells.proofs.WritingBack.KeptCells.{BodyFits, IsByte, IsWord}
+use Rattle.drawn.specs.Tidy.{Tidy}
+use Rattle.drawn.specs.Changes.{Edit, edited}
 use Rattle.drawn.specs.Meaning.{edit_cell}
 use Rattle.drawn.specs.Changes.{add_node, add_link, add_ref, add_junction}
 use Rattle.drawn.specs.Changes.{put_node, set_position, put_link, put_ref, put_junction, put_height}
 use Rattle.drawn.specs.Changes.{put_links, put_heightmap, truncate_nodes, truncate_junctions, truncate_refs}
 use Rattle.drawn.specs.Changes.{set_vft, set_vehicle_node_count, set_ped_node_count, set_unknowns}
-use Rattle.drawn.specs.Meaning.{link_from}
-use Rattle.cells.specs.StoredCell.{no_junction}
-use Rattle.drawn.specs.Fits.{EditFits, LinkWordsFit}
-use Rattle.drawn.specs.Made.{fitted_node, fitted_junction, fitted}
-use Rattle.drawn.proofs.FittedCells.{Fitted, fitted_parts, fitted_all}
+use Rattle.drawn.specs.Fits.{NodeFits, JunctionFits, Bytes, EditFits}
+use Rattle.drawn.specs.Made.{FittedNode, FittedJunction, Fitted}
+use Rattle.drawn.proofs.EditsMean.{nodes_many, node_room_told}
 
--- ---- lists with an entry stored or added
+-- what holds of each entry, and of what stands past the end
+pub all_any : {A : Type 0} (P : A → Type 0) (l : List A) (p : ℕ) (d : A) → All P l → P d → P (get_or l p d)
+all_any P l p d h k = by_test (ltb p (length l))
+    (λ t. All-get_or P l p d (ltb-true _ _ t) h)
+    (λ f. rw (get_or_past l p d (ltb-false _ _ f)) k)
 
-pub every_set : {A : Type 0} (f : A → Bool) (l : List A) (p : ℕ) (x : A) → every f l ≡ true → f x ≡ true → every f
-    (set l p x) ≡ true
-unfolding every
-every_set f [] p x h k = refl
-every_set f (y ∷ ys) zero x h k = and_from (f x) (every f ys) k (and_right (f y) _ h)
-every_set f (y ∷ ys) (suc p) x h k = and_from (f y) (every f (set ys p x)) (and_left _ _ h)
-    (every_set f ys p x (and_right (f y) _ h) k)
+-- ---- an entry past the end
 
-pub every_one : {A : Type 0} (f : A → Bool) (l : List A) (x : A) → every f l ≡ true → f x ≡ true → every f
-    (l ++ (x ∷ [])) ≡ true
-unfolding every
-every_one f l x h k = every_append f l (x ∷ []) h (and_from (f x) true k refl)
+none_fitted : FittedNode no_node
+unfolding no_node no_body
+none_fitted = record {
+  area = omega arith;
+  number = omega arith;
+  body = record {
+    street_name = omega arith;
+    flags0 = omega arith;
+    flags1 = omega arith;
+    flags2 = omega arith;
+    flags3 = omega arith;
+    flags4 = omega arith;
+    flags5 = omega arith;
+    unused0 = omega arith;
+    unused1 = omega arith;
+    unused2 = omega arith;
+    unused3 = omega arith;
+    unused4 = omega arith;
+  };
+  links = All-nil LinkFits;
+}
 
-pub every_take : {A : Type 0} (f : A → Bool) (k : ℕ) (l : List A) → every f l ≡ true → every f (take k l) ≡ true
-unfolding every
-every_take f zero l h = refl
-every_take f (suc k) [] h = refl
-every_take f (suc k) (x ∷ xs) h = and_from (f x) (every f (take k xs)) (and_left _ _ h)
-    (every_take f k xs (and_right (f x) _ h))
+none_junction : FittedJunction no_junction
+unfolding no_junction
+none_junction = record { width = omega arith; height = omega arith; values = All-nil IsByte }
 
--- what is past the end passes too
-pub every_any : {A : Type 0} (f : A → Bool) (l : List A) (p : ℕ) (d : A) → every f l ≡ true → f d ≡ true → f
-    (get_or l p d) ≡ true
-unfolding every
-every_any f [] p d h k = k
-every_any f (x ∷ xs) zero d h k = and_left _ _ h
-every_any f (x ∷ xs) (suc p) d h k = every_any f xs p d (and_right (f x) _ h) k
+-- ---- what edits bring
 
-none_links : fitted_node no_node ≡ true
-unfolding no_node every
-none_links = refl
+new_fits : (area k : ℕ) (at : Vec3) → area < 65536 → k < 65536
+    → FittedNode (node_from [] (node_as_entry (new_node area k at)))
+unfolding new_node
+new_fits area k at a b = record {
+  area = a;
+  number = b;
+  body = record {
+    street_name = omega arith;
+    flags0 = omega arith;
+    flags1 = omega arith;
+    flags2 = omega arith;
+    flags3 = omega arith;
+    flags4 = omega arith;
+    flags5 = omega arith;
+    unused0 = omega arith;
+    unused1 = omega arith;
+    unused2 = omega arith;
+    unused3 = omega arith;
+    unused4 = omega arith;
+  };
+  links = All-nil LinkFits;
+}
 
-none_values : fitted_junction no_junction ≡ true
-unfolding no_junction every
-none_values = refl
+node_fits : (ls : List PathLink) (x : PathNode) → NodeFits x → All LinkFits ls
+    → FittedNode (node_from ls (node_as_entry x))
+node_fits ls x h k = record {
+  area = h.area_id;
+  number = h.node_id;
+  body = record {
+    street_name = h.street_name;
+    flags0 = h.flags0;
+    flags1 = h.flags1;
+    flags2 = h.flags2;
+    flags3 = h.flags3;
+    flags4 = h.flags4;
+    flags5 = h.flags5;
+    unused0 = h.unused0;
+    unused1 = h.unused1;
+    unused2 = h.unused2;
+    unused3 = h.unused3;
+    unused4 = h.unused4;
+  };
+  links = k;
+}
 
-link_fits : (x : PathLink) → LinkFits x → kept_link (link_from x) ≡ true
-link_fits x h = and_from _ _ (lt-ltb x.area_id 65536 h.area_id) (lt-ltb x.node_id 65536 h.node_id)
+linked_fits : (ls : List PathLink) (n : Node) → FittedNode n → All LinkFits ls → FittedNode (node_linked ls n)
+linked_fits ls n h k = record { area = h.area; number = h.number; body = h.body; links = k }
 
-ref_fits_law : (r : NodeJunctionRef) → RefFits r → kept_ref (ref_from r) ≡ true
-ref_fits_law r h = and_from _ _ (lt-ltb r.area_id 65536 h.area_id)
-    (and_from _ _ (lt-ltb r.node_id 65536 h.node_id)
-    (and_from _ _ (lt-ltb r.junction_id 65536 h.junction_id) (lt-ltb r.unk0 65536 h.unk0)))
+-- the coordinates are whatever they are
+moved_body : (to : PositionBits) (b : NodeEntry) → BodyFits b → BodyFits (record b { position = to })
+moved_body to b h = record {
+  street_name = h.street_name;
+  flags0 = h.flags0;
+  flags1 = h.flags1;
+  flags2 = h.flags2;
+  flags3 = h.flags3;
+  flags4 = h.flags4;
+  flags5 = h.flags5;
+  unused0 = h.unused0;
+  unused1 = h.unused1;
+  unused2 = h.unused2;
+  unused3 = h.unused3;
+  unused4 = h.unused4;
+}
 
-words_kept : (ls : List (List ℕ)) → LinkWordsFit ls → every kept_link (map link_of ls) ≡ true
-words_kept ls h = every_all kept_link no_link (map link_of ls) (λ j lt.
-    let inside : j < length ls = omega (arith, length-map ls link_of) in
-    ap kept_link (get_or-map link_of ls j [])
-    ∙ and_from _ _ (lt-ltb _ 65536 (h j 0 inside)) (lt-ltb _ 65536 (h j 1 inside)))
-  where
-    no_link : Link
-    no_link = link_of []
+moved_fits : (at : Vec3) (n : Node) → FittedNode n → FittedNode (node_moved (bits_in at) n)
+moved_fits at n h = record {
+  area = h.area;
+  number = h.number;
+  body = moved_body
+      (bits_in at) n.body h.body;
+  links = h.links;
+}
 
--- the cell's own words, one by one
-pub root_parts : (c : Cell) → kept_root c ≡ true
-    → (is_word c.vehicles ≡ true) × (is_word c.peds ≡ true) × (is_word c.vft ≡ true)
-    × (eqb (length c.words) 7 && every is_word c.words ≡ true)
-root_parts c t =
-    let t₁ = and_right (is_word c.vehicles) _ t in
-    let t₂ = and_right (is_word c.peds) _ t₁ in
-    (and_left _ _ t, and_left _ _ t₁, and_left _ _ t₂, and_right (is_word c.vft) _ t₂)
+bytes : (values : List ℕ) → Bytes values → All IsByte values
+bytes values h = All-from_get_or IsByte values 0 h
 
-root_all : {v p f w : Bool} → v ≡ true → p ≡ true → f ≡ true → w ≡ true → v && (p && (f && w)) ≡ true
-root_all a b c d = and_from _ _ a (and_from _ _ b (and_from _ _ c d))
+mapped_fits : (width height : ℕ) (values : List ℕ) (j : Junction) → width < 256 → height < 256 → All IsByte values
+    → FittedJunction (junction_mapped width height values j)
+mapped_fits width height values j w h k = record { width = w; height = h; values = k }
+
+junction_fits : (values : List ℕ) (j : PathJunction) → JunctionFits j → All IsByte values
+    → FittedJunction (junction_from values (junction_as_entry j))
+junction_fits values j h k = record { width = h.width; height = h.height; values = k }
+
+-- ---- a cell with other lists
 
 module _ (c : Cell) (h : Fitted c) where
-  links_at : (p : ℕ) → every kept_link (node_at c.nodes p).links ≡ true
-  links_at p = every_any fitted_node c.nodes p no_node h.nodes none_links
+  with_fitted_nodes : (ns : List Node) → All FittedNode ns → Fitted (with_nodes ns c)
+  with_fitted_nodes ns k = record {
+    nodes = k;
+    junctions = h.junctions;
+    refs = h.refs;
+    vehicles = h.vehicles;
+    peds = h.peds;
+    vft = h.vft;
+    seven = h.seven;
+    words = h.words;
+  }
 
-  values_at : (p : ℕ) → every is_byte (junction_at c.junctions p).values ≡ true
-  values_at p = every_any fitted_junction c.junctions p no_junction h.junctions none_values
+  with_fitted_junctions : (js : List Junction) → All FittedJunction js → Fitted (with_junctions js c)
+  with_fitted_junctions js k = record {
+    nodes = h.nodes;
+    junctions = k;
+    refs = h.refs;
+    vehicles = h.vehicles;
+    peds = h.peds;
+    vft = h.vft;
+    seven = h.seven;
+    words = h.words;
+  }
 
-  edit_parts : (e : Edit) → EditFits e → Fitted (edit_cell e c)
-  unfolding every
-  edit_parts (add_node area at) fits =
-      record {
-        nodes = every_one fitted_node c.nodes
-            (node_from [] (new_node area (length c.nodes)
-            (dequantised (quantised at)))) h.nodes refl;
-        junctions = h.junctions;
-        refs = h.refs;
-        root = h.root;
-      }
-  edit_parts (add_link p x) fits = record {
-    nodes = every_set fitted_node c.nodes p (with_link (link_from x) (node_at c.nodes p)) h.nodes
-        (every_one kept_link (node_at c.nodes p).links (link_from x) (links_at p) (link_fits x fits));
-    junctions = h.junctions;
-    refs = h.refs;
-    root = h.root;
-  }
-  edit_parts (add_ref r) fits = record {
+  with_fitted_refs : (rs : List NodeJunctionRef) → All RefFits rs → Fitted (with_refs rs c)
+  with_fitted_refs rs k = record {
     nodes = h.nodes;
     junctions = h.junctions;
-    refs = every_one kept_ref c.refs
-        (ref_from r) h.refs (ref_fits_law r fits);
-    root = h.root;
+    refs = k;
+    vehicles = h.vehicles;
+    peds = h.peds;
+    vft = h.vft;
+    seven = h.seven;
+    words = h.words;
   }
-  edit_parts (add_junction j values) fits = record {
-    nodes = h.nodes;
-    junctions = every_one fitted_junction c.junctions (junction_from values j) h.junctions
-        (every_all is_byte 0 values (λ i lt. lt-ltb (get_or values i 0) 256 (fits.1 i lt)));
-    refs = h.refs;
-    root = h.root;
-  }
-  edit_parts (put_node p x) fits =
-      record {
-        nodes = every_set fitted_node c.nodes p (node_from (node_at c.nodes p).links x) h.nodes
-            (links_at p);
-        junctions = h.junctions;
-        refs = h.refs;
-        root = h.root;
-      }
-  edit_parts (set_position p at) fits =
-      record {
-        nodes = every_set fitted_node c.nodes p
-            (node_moved (dequantised (quantised at)) (node_at c.nodes p)) h.nodes
-            (links_at p);
-        junctions = h.junctions;
-        refs = h.refs;
-        root = h.root;
-      }
-  edit_parts (put_link p k x) fits = record {
-    nodes = every_set fitted_node c.nodes p (link_changed k (link_from x) (node_at c.nodes p)) h.nodes
-        (every_set kept_link (node_at c.nodes p).links k (link_from x) (links_at p) (link_fits x fits));
-    junctions = h.junctions;
-    refs = h.refs;
-    root = h.root;
-  }
-  edit_parts (put_ref p r) fits =
-      record {
-        nodes = h.nodes;
-        junctions = h.junctions;
-        refs = every_set kept_ref c.refs p (ref_from r) h.refs
-            (ref_fits_law r fits);
-        root = h.root;
-      }
-  edit_parts (put_junction p j) fits =
-      record {
-        nodes = h.nodes;
-        junctions = every_set fitted_junction c.junctions p
-            (junction_from (junction_at c.junctions p).values j) h.junctions (values_at p);
-        refs = h.refs;
-        root = h.root;
-      }
-  edit_parts (put_height p k v) fits = record {
-    nodes = h.nodes;
-    junctions = every_set fitted_junction c.junctions p (height_changed k v (junction_at c.junctions p)) h.junctions
-        (every_set is_byte (junction_at c.junctions p).values k v (values_at p) (lt-ltb v 256 fits));
-    refs = h.refs;
-    root = h.root;
-  }
-  edit_parts (put_links p ls) fits = record {
-    nodes = every_set fitted_node c.nodes p (node_linked (map link_of ls) (node_at c.nodes p)) h.nodes
-        (words_kept ls fits);
-    junctions = h.junctions;
-    refs = h.refs;
-    root = h.root;
-  }
-  edit_parts (put_heightmap p width height values) fits = record {
-    nodes = h.nodes;
-    junctions = every_set fitted_junction c.junctions p
-        (junction_mapped width height values (junction_at c.junctions p)) h.junctions
-        (every_all is_byte 0 values (λ i lt. lt-ltb (get_or values i 0) 256 (fits.2 i lt)));
-    refs = h.refs;
-    root = h.root;
-  }
-  edit_parts (truncate_nodes k) fits =
-      record {
-        nodes = every_take fitted_node k c.nodes h.nodes;
-        junctions = h.junctions;
-        refs = h.refs;
-        root = h.root;
-      }
-  edit_parts (truncate_junctions k) fits =
-      record {
-        nodes = h.nodes;
-        junctions = every_take fitted_junction k c.junctions h.junctions;
-        refs = h.refs;
-        root
-            = h.root;
-      }
-  edit_parts (truncate_refs k) fits =
-      record { nodes = h.nodes; junctions = h.junctions; refs = every_take kept_ref k c.refs h.refs; root = h.root }
-  edit_parts (set_vft v) fits =
-      let r = root_parts c h.root in
-      record {
-        nodes = h.nodes;
-        junctions = h.junctions;
-        refs = h.refs;
-        root = root_all r.0 r.1
-            (lt-ltb v 4294967296 fits) r.3;
-      }
-  edit_parts (set_vehicle_node_count v) fits =
-      let r = root_parts c h.root in
-      record {
-        nodes = h.nodes;
-        junctions = h.junctions;
-        refs = h.refs;
-        root = root_all
-            (lt-ltb v 4294967296 fits) r.1 r.2 r.3;
-      }
-  edit_parts (set_ped_node_count v) fits =
-      let r = root_parts c h.root in
-      record {
-        nodes = h.nodes;
-        junctions = h.junctions;
-        refs = h.refs;
-        root = root_all r.0
-            (lt-ltb v 4294967296 fits) r.2 r.3;
-      }
-  edit_parts (set_unknowns words) fits =
-      let r = root_parts c h.root in
-      record {
-        nodes = h.nodes;
-        junctions = h.junctions;
-        refs = h.refs;
-        root = root_all r.0 r.1 r.2 (and_from _ _ (eq-eqb (length words) 7 fits.0)
-            (every_all is_word 0 words (λ i lt. lt-ltb (get_or words i 0) 4294967296 (fits.1 i lt))));
-      }
 
-pub edit_fitted : (c : Cell) → fitted c ≡ true → (e : Edit) → EditFits e → fitted (edit_cell e c) ≡ true
-edit_fitted c t e fits = fitted_all (edit_cell e c) (edit_parts c (fitted_parts c t) e fits)
+  with_fitted_words : (vehicles peds vft : ℕ) (words : List ℕ) → IsWord vehicles → IsWord peds → IsWord vft
+      → length words ≡ 7 → All IsWord words → Fitted (with_words vehicles peds vft words c)
+  with_fitted_words vehicles peds vft words a b d s k = record {
+    nodes = h.nodes;
+    junctions = h.junctions;
+    refs = h.refs;
+    vehicles = a;
+    peds = b;
+    vft = d;
+    seven = s;
+    words = k;
+  }
+
+  fitted_at : (p : ℕ) → FittedNode (node_at c.nodes p)
+  fitted_at p = all_any FittedNode c.nodes p no_node h.nodes none_fitted
+
+  fitted_junction_at : (p : ℕ) → FittedJunction (junction_at c.junctions p)
+  fitted_junction_at p = all_any FittedJunction c.junctions p no_junction h.junctions none_junction
+
+-- an accepted edit's cell
+pub edit_fitted : (m : Memory) → Tidy m → Fitted (cell_of m) → (e : Edit) → EditFits e → (edited m e).answer ≡ Ok tt
+    → Fitted (edit_cell e (cell_of m))
+unfolding edited
+edit_fitted m t h (add_node area at) fits e =
+    let c = cell_of m in
+    with_fitted_nodes c h _ (All-push FittedNode c.nodes _ h.nodes (new_fits area (length c.nodes) _ fits
+    (let k : length c.nodes < 65536 = omega (arith, nodes_many m t, node_room_told m area at e) in k)))
+edit_fitted m t h (add_link p x) fits e =
+    let c = cell_of m in
+    let n = fitted_at c h p in
+    with_fitted_nodes c h _ (All-set FittedNode c.nodes p _ (linked_fits _ (node_at c.nodes p) n
+    (All-push LinkFits (node_at c.nodes p).links x n.links fits)) h.nodes)
+edit_fitted m t h (add_ref r) fits e =
+    let c = cell_of m in
+    with_fitted_refs c h _ (All-push RefFits c.refs r h.refs fits)
+edit_fitted m t h (add_junction j values) fits e =
+    let c = cell_of m in
+    with_fitted_junctions c h _ (All-push FittedJunction c.junctions _ h.junctions
+    (junction_fits values j fits.0 (bytes values fits.1)))
+edit_fitted m t h (put_node p x) fits e =
+    let c = cell_of m in
+    with_fitted_nodes c h _ (All-set FittedNode c.nodes p _ (node_fits _ x fits (fitted_at c h p).links) h.nodes)
+edit_fitted m t h (set_position p at) fits e =
+    let c = cell_of m in
+    with_fitted_nodes c h _ (All-set FittedNode c.nodes p _
+    (moved_fits (dequantised (quantised at)) (node_at c.nodes p) (fitted_at c h p)) h.nodes)
+edit_fitted m t h (put_link p k x) fits e =
+    let c = cell_of m in
+    let n = fitted_at c h p in
+    with_fitted_nodes c h _ (All-set FittedNode c.nodes p _ (linked_fits _ (node_at c.nodes p) n
+    (All-set LinkFits (node_at c.nodes p).links k x fits n.links)) h.nodes)
+edit_fitted m t h (put_ref p r) fits e =
+    let c = cell_of m in
+    with_fitted_refs c h _ (All-set RefFits c.refs p r fits h.refs)
+edit_fitted m t h (put_junction p j) fits e =
+    let c = cell_of m in
+    with_fitted_junctions c h _ (All-set FittedJunction c.junctions p _
+    (junction_fits _ j fits (fitted_junction_at c h p).values) h.junctions)
+edit_fitted m t h (put_height p k v) fits e =
+    let c = cell_of m in
+    let j = fitted_junction_at c h p in
+    with_fitted_junctions c h _ (All-set FittedJunction c.junctions p _ (mapped_fits _ _ _ (junction_at c.junctions p)
+    j.width j.height (All-set IsByte (junction_at c.junctions p).values k v fits j.values)) h.junctions)
+edit_fitted m t h (put_links p ls) fits e =
+    let c = cell_of m in
+    with_fitted_nodes c h _ (All-set FittedNode c.nodes p _
+    (linked_fits ls (node_at c.nodes p) (fitted_at c h p) fits) h.nodes)
+edit_fitted m t h (put_heightmap p width height values) fits e =
+    let c = cell_of m in
+    with_fitted_junctions c h _ (All-set FittedJunction c.junctions p _
+    (mapped_fits width height values (junction_at c.junctions p) fits.0 fits.1 (bytes values fits.2)) h.junctions)
+edit_fitted m t h (truncate_nodes k) fits e =
+    let c = cell_of m in with_fitted_nodes c h _ (All-take FittedNode k c.nodes h.nodes)
+edit_fitted m t h (truncate_junctions k) fits e =
+    let c = cell_of m in with_fitted_junctions c h _ (All-take FittedJunction k c.junctions h.junctions)
+edit_fitted m t h (truncate_refs k) fits e =
+    let c = cell_of m in with_fitted_refs c h _ (All-take RefFits k c.refs h.refs)
+edit_fitted m t h (set_vft v) fits e =
+    with_fitted_words (cell_of m) h _ _ v _ h.vehicles h.peds fits h.seven h.words
+edit_fitted m t h (set_vehicle_node_count v) fits e =
+    with_fitted_words (cell_of m) h v _ _ _ fits h.peds h.vft h.seven h.words
+edit_fitted m t h (set_ped_node_count v) fits e =
+    with_fitted_words (cell_of m) h _ v _ _ h.vehicles fits h.vft h.seven h.words
+edit_fitted m t h (set_unknowns words) fits e =
+    with_fitted_words (cell_of m) h _ _ _ words h.vehicles h.peds h.vft fits.0
+    (All-from_get_or IsWord words 0 fits.1)
 
 -- ---- renumbering (as in cells Kept, for cells of any positions)
 
@@ -272,23 +301,34 @@ module _ (c : Cell) (few : length c.nodes ≤ 65536) where
   abbrev old : Old
   old = old_nodes c.nodes
 
-  node_again : (k : ℕ) (n : Node) → fitted_node n ≡ true → fitted_node (renode old k n) ≡ true
-  node_again k n t = every_map kept_link (relink old) kept_link (link_again c few) n.links t
+  node_again : (k : ℕ) (n : Node) → k < 65536 → FittedNode n → FittedNode (renode old k n)
+  node_again k n lt h = record {
+    area = h.area;
+    number = lt;
+    body = h.body;
+    links = all_again c few LinkFits (relinked old) (link_again c few) n.links h.links;
+  }
 
-  pub fitted_again : fitted c ≡ true → fitted (renumber_cell c) ≡ true
+  pub fitted_again : Fitted c → Fitted (renumber_cell c)
   unfolding renumber_cell parted
-  fitted_again t =
-      let f = fitted_parts c t in
+  fitted_again h =
       let all : length (keep is_vehicle_node c.nodes) + length (keep is_ped_node c.nodes)
       ≡ length c.nodes = keep_lengths is_ped_node is_vehicle_node (λ x. refl) c.nodes in
-      let t₁ = and_right (is_word c.peds) _ (and_right (is_word c.vehicles) _ f.root) in
-      fitted_all (renumber_cell c) (record {
-        nodes = every_number old fitted_node fitted_node node_again 0 (ordered c.nodes)
-            (every_append fitted_node (keep is_vehicle_node c.nodes) (keep is_ped_node c.nodes)
-            (every_keep fitted_node is_vehicle_node c.nodes f.nodes)
-            (every_keep fitted_node is_ped_node c.nodes f.nodes));
-        junctions = f.junctions;
-        refs = every_map kept_ref (reref old) kept_ref (ref_again c few) c.refs f.refs;
-        root = and_from _ _ (lt-ltb (length (keep is_vehicle_node c.nodes)) 4294967296 (omega (arith, all, few)))
-            (and_from _ _ (lt-ltb (length (keep is_ped_node c.nodes)) 4294967296 (omega (arith, all, few))) t₁);
-      })
+      let kept : All FittedNode (ordered c.nodes) = All-append FittedNode (keep is_vehicle_node c.nodes)
+      (keep is_ped_node c.nodes) (all_kept FittedNode is_vehicle_node c.nodes h.nodes)
+      (all_kept FittedNode is_ped_node c.nodes h.nodes) in
+      record {
+        nodes = All-from_get_or FittedNode (number_nodes old 0 (ordered c.nodes)) no_node (λ i lt.
+            let less : i < length (ordered c.nodes) = omega (arith, number_length old 0 (ordered c.nodes)) in
+            let small : 0 + i < 65536 = omega (arith, ordered_length c.nodes) in
+            rw (number_at old 0 (ordered c.nodes) i less)
+            (node_again (0 + i) (node_at (ordered c.nodes) i) small
+            (All-get_or FittedNode (ordered c.nodes) i no_node less kept)));
+        junctions = h.junctions;
+        refs = all_again c few RefFits (rereffed old) (ref_again c few) c.refs h.refs;
+        vehicles = omega (arith, all, few);
+        peds = omega (arith, all, few);
+        vft = h.vft;
+        seven = h.seven;
+        words = h.words;
+      }

@@ -1,95 +1,77 @@
 -- Cells whose numbers fit their fields, as every made cell's do, and cells whose coordinates and flags5 are stored
 -- ones.
-use Rattle.std.proofs.lemmas.Bool.{and_from}
-use Prim.Native.Nat.{◌*◌}
-use mathlib.Core.Path.{◌≡◌, refl}
-use mathlib.Core.Bool.{Bool, true, false, cond, ◌&&◌}
-use mathlib.Core.List.{List, [], ◌∷◌}
-use lib.Dec.{eqb}
-use lib.ListN.{length}
+use mathlib.Core.Path.{◌≡◌}
+use mathlib.Core.Bool.{Bool, true, false, cond}
+use borrow.Author.Tests.{eqb-true}
+use Rattle.std.proofs.lemmas.List.Elements.{All-get_or, All-from_get_or, All-weaker}
 use Rattle.cells.specs.Lists.{every}
-use Rattle.cells.specs.Cell.{Junction, Cell}
-use Rattle.cells.proofs.WritingBack.KeptCells.{kept_step, kept_link, kept_body, kept_node, kept_junction, kept_ref}
-use Rattle.cells.proofs.WritingBack.KeptCells.{kept_root, kept}
+use Rattle.cells.specs.Cell.{Cell, no_node}
+use Rattle.cells.specs.StoredCell.{no_junction}
+use Rattle.cells.proofs.WritingBack.KeptCells.{KeptNode, KeptJunction, Kept}
 use Rattle.cells.proofs.WritingBack.AsRead.{whole_map}
-use Rattle.cells.proofs.Sequences.Tests.{and_left, and_right, every_imp}
-use Rattle.drawn.specs.Made.{fitted, fitted_node, fitted_junction, stored, stored_node, stored_junction}
+use Rattle.cells.proofs.Sequences.Tests.{every_at}
+use Rattle.drawn.specs.Made.{FittedNode, FittedJunction, Fitted, StoredNode, StoredJunction, Stored}
 
--- a test that both cells pass
-pub cond_test : {A : Type 0} (f : A → Bool) (b : Bool) (c d : A) → f c ≡ true → f d ≡ true → f (cond b c d) ≡ true
-cond_test f true c d s t = s
-cond_test f false c d s t = t
-
-every_two : {A : Type 0} (f g k : A → Bool) → ((x : A) → f x ≡ true → g x ≡ true → k x ≡ true) → (l : List A)
-    → every f l ≡ true → every g l ≡ true → every k l ≡ true
-unfolding every
-every_two f g k e [] a b = refl
-every_two f g k e (x ∷ xs) a b = and_from (k x) (every k xs) (e x (and_left _ _ a) (and_left _ _ b))
-    (every_two f g k e xs (and_right (f x) _ a) (and_right (g x) _ b))
-
-pub record Fitted (c : Cell) : Type 0 where
-  pub nodes : every fitted_node c.nodes ≡ true
-  pub junctions : every fitted_junction c.junctions ≡ true
-  pub refs : every kept_ref c.refs ≡ true
-  pub root : kept_root c ≡ true
-
-pub fitted_parts : (c : Cell) → fitted c ≡ true → Fitted c
-unfolding fitted
-fitted_parts c t =
-    let t₁ = and_right (every fitted_node c.nodes) _ t in
-    let t₂ = and_right (every fitted_junction c.junctions) _ t₁ in
-    record {
-      nodes = and_left _ _ t;
-      junctions = and_left _ _ t₁;
-      refs = and_left _ _ t₂;
-      root = and_right
-          (every kept_ref c.refs) _ t₂;
-    }
-
-pub fitted_all : (c : Cell) → Fitted c → fitted c ≡ true
-unfolding fitted
-fitted_all c h = and_from _ _ h.nodes (and_from _ _ h.junctions (and_from _ _ h.refs h.root))
+-- what holds of both cells
+pub cond_test : {A : Type 0} (P : A → Type 0) (b : Bool) (c d : A) → P c → P d → P (cond b c d)
+cond_test P true c d s t = s
+cond_test P false c d s t = t
 
 -- what storing keeps, in three parts
-pub all_kept : (c : Cell) → fitted c ≡ true → stored c ≡ true → every whole_map c.junctions ≡ true → kept c ≡ true
-unfolding kept stored
-all_kept c t s w =
-    let f = fitted_parts c t in
-    let sn = and_left (every stored_node c.nodes) _ s in
-    let sj = and_right (every stored_node c.nodes) _ s in
-    and_from _ _ (every_two stored_node fitted_node kept_node
-    (λ n a b. and_from (kept_body n.body) (every kept_link n.links) a b) c.nodes sn f.nodes)
-    (and_from _ _ (every_two stored_junction (λ j. whole_map j && fitted_junction j) kept_junction junction
-    c.junctions sj (every_two whole_map fitted_junction (λ j. whole_map j && fitted_junction j)
-    (λ j a b. and_from (whole_map j) (fitted_junction j) a b) c.junctions w f.junctions))
-    (and_from _ _ f.refs f.root))
-  where
-    junction : (j : Junction) → stored_junction j ≡ true → whole_map j && fitted_junction j ≡ true → kept_junction j
-        ≡ true
-    junction j a b =
-        let a₁ = and_right (kept_step 2 j.x) _ a in
-        let a₂ = and_right (kept_step 2 j.y) _ a₁ in
-        and_from (kept_step 2 j.x) _ (and_left _ _ a)
-        (and_from (kept_step 2 j.y) _ (and_left _ _ a₁)
-        (and_from (kept_step 5 j.low) _ (and_left _ _ a₂)
-        (and_from (kept_step 5 j.high) _ (and_right (kept_step 5 j.low) _ a₂) b)))
+pub all_kept : (c : Cell) → Fitted c → Stored c → every whole_map c.junctions ≡ true → Kept c
+all_kept c f s w = record {
+  nodes = All-from_get_or KeptNode c.nodes no_node (λ i lt.
+      let a = All-get_or FittedNode c.nodes i no_node lt f.nodes in
+      let b = All-get_or StoredNode c.nodes i no_node lt s.nodes in
+      record {
+        area = a.area;
+        number = a.number;
+        x = b.x;
+        y = b.y;
+        z = b.z;
+        body = a.body;
+        flags5 = b.flags5;
+        links = a.links;
+      });
+  junctions = All-from_get_or KeptJunction c.junctions no_junction (λ i lt.
+      let a = All-get_or FittedJunction c.junctions i no_junction lt f.junctions in
+      let b = All-get_or StoredJunction c.junctions i no_junction lt s.junctions in
+      record {
+        x = b.x;
+        y = b.y;
+        low = b.low;
+        high = b.high;
+        width = a.width;
+        height = a.height;
+        full = eqb-true _ _ (every_at whole_map c.junctions i no_junction w lt);
+        values = a.values;
+      });
+  refs = f.refs;
+  vehicles = f.vehicles;
+  peds = f.peds;
+  vft = f.vft;
+  seven = f.seven;
+  words = f.words;
+}
 
-pub kept_fitted : (c : Cell) → kept c ≡ true → fitted c ≡ true
-unfolding kept
-kept_fitted c t =
-    let t₁ = and_right (every kept_node c.nodes) _ t in
-    let t₂ = and_right (every kept_junction c.junctions) _ t₁ in
-    fitted_all c (record {
-      nodes = every_imp kept_node fitted_node (λ n a. and_right (kept_body n.body) _ a) c.nodes (and_left _ _ t);
-      junctions = every_imp kept_junction fitted_junction bytes c.junctions (and_left _ _ t₁);
-      refs = and_left _ _ t₂;
-      root = and_right (every kept_ref c.refs) _ t₂;
-    })
-  where
-    bytes : (j : Junction) → kept_junction j ≡ true → fitted_junction j ≡ true
-    bytes j a =
-        let a₁ = and_right (kept_step 2 j.x) _ a in
-        let a₂ = and_right (kept_step 2 j.y) _ a₁ in
-        let a₃ = and_right (kept_step 5 j.low) _ a₂ in
-        let a₄ = and_right (kept_step 5 j.high) _ a₃ in
-        and_right (eqb (length j.values) (j.width * j.height)) _ a₄
+pub kept_fitted : (c : Cell) → Kept c → Fitted c
+kept_fitted c h = record {
+  nodes = All-weaker KeptNode FittedNode
+      (λ n k. record { area = k.area; number = k.number; body = k.body; links = k.links }) c.nodes h.nodes;
+  junctions = All-weaker KeptJunction FittedJunction
+      (λ j k. record { width = k.width; height = k.height; values = k.values }) c.junctions h.junctions;
+  refs = h.refs;
+  vehicles = h.vehicles;
+  peds = h.peds;
+  vft = h.vft;
+  seven = h.seven;
+  words = h.words;
+}
+
+pub kept_stored : (c : Cell) → Kept c → Stored c
+kept_stored c h = record {
+  nodes = All-weaker KeptNode StoredNode (λ n k. record { x = k.x; y = k.y; z = k.z; flags5 = k.flags5 }) c.nodes
+      h.nodes;
+  junctions = All-weaker KeptJunction StoredJunction
+      (λ j k. record { x = k.x; y = k.y; low = k.low; high = k.high }) c.junctions h.junctions;
+}

@@ -1,7 +1,6 @@
 pub mod SeparateLaws
 pub mod Origins
 pub mod TidyCalls
-pub mod EditFits
 pub mod Accepted
 pub mod TidyStored
 pub mod TidyAdded

@@ -1,54 +1,57 @@
 -- Every cell that calls can make: tidy in memory, with numbers that fit their fields.
 -- Assumes nothing but that the arguments fit their types.
 use Prim.Native.Nat.{ℕ}
-use mathlib.Core.Path.{◌≡◌, refl, ap, ◌∙◌}
-use mathlib.Core.Bool.{true}
+use mathlib.Core.Path.{◌≡◌, refl, sym, ◌∙◌, subst}
 use mathlib.Core.List.{List, [], ◌∷◌}
 use lib.ListN.{length, take}
 use Rattle.std.specs.Prelude.{Result, Ok, Err}
 use Rattle.numbers.specs.Refusals.{Answer}
 use Rattle.numbers.specs.declared.refusal.Refusal.{Refusal}
-use Rattle.cells.specs.Lists.{every}
-use Rattle.cells.specs.CellOf.{nodes_of, junctions_of, refs_of, cell_of}
+use Rattle.cells.specs.CellOf.{cell_of}
 use Rattle.cells.specs.Memory.{Memory, memory}
 use Rattle.cells.specs.NewYnd.{new_ynd}
 use Rattle.cells.specs.Read.{read_of}
 use Rattle.cells.specs.Renumber.{renumber}
 use Rattle.cells.specs.Write.{write_call}
 use Rattle.cells.specs.WriteRead.{if_read, if_written, write_read_of}
-use Rattle.cells.proofs.WritingBack.KeptCells.{kept}
+use Rattle.cells.proofs.WritingBack.KeptCells.{Kept}
 use Rattle.cells.proofs.WritingBack.Kept.{read_kept}
 use Rattle.cells.proofs.Reading.FileRead.{read_cell}
 use Rattle.cells.proofs.Renumbering.CellRenumbered.{done_call, refused_call, done_few}
-use Rattle.drawn.specs.Meaning.{edit_cell}
 use Rattle.drawn.specs.Changes.{edited, Change, new, reading, renumbering, write_read, edit, after, run}
 use Rattle.drawn.specs.Fits.{ChangeFits}
-use Rattle.std.specs.Result.{is_ok}
-use Rattle.drawn.proofs.EditsMean.{edit_cell_law}
+use Rattle.drawn.proofs.EditsMean.{edit_means, edit_refused}
 use Rattle.drawn.proofs.ReadRefused.{read_refused}
 use Rattle.drawn.proofs.TidyCalls.{new_tidy, read_tidy}
 use Rattle.drawn.specs.Fits.{AllFit}
 use Rattle.drawn.proofs.Run.{change_tidy}
-use Rattle.drawn.specs.Made.{fitted}
+use Rattle.drawn.specs.Made.{Fitted}
+use Rattle.cells.specs.FileCell.{file_cell}
+use Rattle.cells.proofs.Reading.UndrawnCell.{undrawn_cell}
+use Rattle.cells.proofs.Reading.NewYnd.{new_empty}
 use Rattle.drawn.proofs.FittedCells.{kept_fitted}
 use Rattle.drawn.proofs.Fitted.{edit_fitted, fitted_again}
 use Rattle.drawn.specs.Made.{Made}
-use Rattle.drawn.proofs.FittedCells.{cond_test}
+use Rattle.cells.specs.declared.node_entry.NodeEntry.{NodeEntry}
+use Rattle.cells.specs.declared.link.PathLink.{PathLink}
+use Rattle.cells.specs.declared.junction_entry.JunctionEntry.{JunctionEntry}
+use Rattle.records.specs.declared.junction_ref.NodeJunctionRef.{NodeJunctionRef}
 
-new_fitted : (nodes links junctions : List (List ℕ)) (heights : List ℕ) (refs : List (List ℕ)) → fitted
-    (cell_of (memory new_ynd nodes links junctions heights refs)) ≡ true
-unfolding fitted new_ynd cell_of nodes_of junctions_of refs_of every
-new_fitted nodes links junctions heights refs = refl
+new_fitted : (nodes : List NodeEntry) (links : List PathLink) (junctions : List JunctionEntry) (heights : List ℕ)
+    (refs : List NodeJunctionRef) → Fitted (cell_of (memory new_ynd nodes links junctions heights refs))
+new_fitted nodes links junctions heights refs = subst Fitted
+    (undrawn_cell [] ∙ sym (new_empty nodes links junctions heights refs))
+    (kept_fitted (file_cell [] []) (read_kept [] []))
 
-pub new_made : (nodes links junctions : List (List ℕ)) (heights : List ℕ) (refs : List (List ℕ)) → Made
+pub new_made : (nodes : List NodeEntry) (links : List PathLink) (junctions : List JunctionEntry) (heights : List ℕ)
+    (refs : List NodeJunctionRef) → Made
     (memory new_ynd nodes links junctions heights refs)
 new_made nodes links junctions heights refs =
     record { tidy = new_tidy nodes links junctions heights refs; fits = new_fitted nodes links junctions heights refs }
 
 -- what reading leaves is kept by storing
-pub kept_read : (s g : List ℕ) (m : Memory) → (read_of s g m).answer ≡ (Ok tt) → kept (cell_of (read_of s g m).memory)
-    ≡ true
-kept_read s g m e = ap kept (read_cell s g m e) ∙ read_kept s g
+pub kept_read : (s g : List ℕ) (m : Memory) → (read_of s g m).answer ≡ (Ok tt) → Kept (cell_of (read_of s g m).memory)
+kept_read s g m e = rw (read_cell s g m e) (read_kept s g)
 
 pub read_made : (s g : List ℕ) (m : Memory) → (read_of s g m).answer ≡ (Ok tt) → Made (read_of s g m).memory
 read_made s g m e = record {
@@ -57,38 +60,40 @@ read_made s g m e = record {
       (kept_read s g m e);
 }
 
-change_fitted : (m : Memory) → Made m → (k : Change) → ChangeFits k → fitted (cell_of (after m k)) ≡ true
+change_fitted : (m : Memory) → Made m → (k : Change) → ChangeFits k → Fitted (cell_of (after m k))
 unfolding after write_read_of
 change_fitted m h new a = new_fitted m.nodes m.links m.junctions m.heights m.refs
 change_fitted m h (reading s g) a = go (read_of s g m).answer refl
   where
-    go : (x : Answer) → (read_of s g m).answer ≡ x → fitted (cell_of (read_of s g m).memory) ≡ true
+    go : (x : Answer) → (read_of s g m).answer ≡ x → Fitted (cell_of (read_of s g m).memory)
     go (Ok tt) e = (read_made s g m e).fits
-    go (Err cause) e = ap (λ (t : Memory). fitted (cell_of t)) (read_refused s g m cause e) ∙ h.fits
+    go (Err cause) e = rw (read_refused s g m cause e) h.fits
 change_fitted m h (renumbering scratch places) a = go (renumber m (length scratch) places).answer refl
   where
-    go : (x : Answer) → (renumber m (length scratch) places).answer ≡ x → fitted
-        (cell_of (renumber m (length scratch) places).memory) ≡ true
-    go (Ok tt) e = ap fitted (done_call m places (length scratch) e) ∙ fitted_again (cell_of m)
-        (done_few m places (length scratch) e) h.fits
-    go (Err cause) e = ap (λ (t : Memory). fitted (cell_of t)) (refused_call m places (length scratch) cause e)
-        ∙ h.fits
+    go : (x : Answer) → (renumber m (length scratch) places).answer ≡ x → Fitted
+        (cell_of (renumber m (length scratch) places).memory)
+    go (Ok tt) e = rw (done_call m places (length scratch) e) (fitted_again (cell_of m)
+        (done_few m places (length scratch) e) h.fits)
+    go (Err cause) e = rw (refused_call m places (length scratch) cause e) h.fits
 change_fitted m h (write_read s) a = go (write_call m s).answer
   where
     t : List ℕ
     t = (write_call m s).section
 
-    back : (n : ℕ) (c : Answer) → (read_of (take n t) [] m).answer ≡ c → fitted
-        (cell_of (if_read n t c (read_of (take n t) [] m).memory m s).memory) ≡ true
+    back : (n : ℕ) (c : Answer) → (read_of (take n t) [] m).answer ≡ c → Fitted
+        (cell_of (if_read n t c (read_of (take n t) [] m).memory m s).memory)
     back n (Err cause) e = h.fits
     back n (Ok tt) e = (read_made (take n t) [] m e).fits
 
-    go : (x : Result ℕ Refusal) → fitted (cell_of (if_written x t m s).memory) ≡ true
+    go : (x : Result ℕ Refusal) → Fitted (cell_of (if_written x t m s).memory)
     go (Err cause) = h.fits
     go (Ok n) = back n (read_of (take n t) [] m).answer refl
 change_fitted m h (edit e) a =
-    ap fitted (edit_cell_law m h.tidy e a) ∙ cond_test fitted (is_ok (edited m e).answer) (edit_cell e (cell_of m))
-    (cell_of m) (edit_fitted (cell_of m) h.fits e a) h.fits
+    go (edited m e).answer refl
+  where
+    go : (x : Answer) → (edited m e).answer ≡ x → Fitted (cell_of (edited m e).memory)
+    go (Ok tt) d = rw (edit_means m h.tidy e a d) (edit_fitted m h.tidy h.fits e a d)
+    go (Err cause) d = rw (edit_refused m e cause d) h.fits
 
 -- every call, accepted or refused
 pub change_made : (m : Memory) → Made m → (k : Change) → ChangeFits k → Made (after m k)

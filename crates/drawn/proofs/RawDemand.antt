@@ -19,7 +19,6 @@ use Rattle.cells.specs.Read.{read_of}
 use Rattle.cells.specs.Renumber.{renumber}
 use Rattle.cells.specs.Write.{write_call}
 use Rattle.cells.specs.WriteRead.{if_read, if_written, write_read_of}
-use Rattle.cells.proofs.WritingBack.KeptCells.{kept}
 use Rattle.cells.proofs.Renumbering.CellRenumbered.{done_call, refused_call}
 use Rattle.walks.specs.Sound.{sound}
 use Rattle.walks.specs.Walk.{walk}
@@ -111,8 +110,7 @@ module _ (m : Memory) (ks : List Call) (h : Made m) (s : sound (cell_of m) ≡ t
           subst (λ (d : Cell). Alike d (cell_of (run next ks)) (moved next ks)) q
           (run_alike next ks (record {
             is_sound = ap sound q ∙ sound_same (cell_of m) ∙ s;
-            is_kept = ap kept q
-                ∙ settled_kept m h;
+            is_kept = rw q (settled_kept m h);
           }))
       go (Err cause) e = same_on next (cell_of m) ks s (ap cell_of (write_read_refused m b cause e)) ih
 

@@ -2,22 +2,22 @@
 use Prim.Native.Nat.{ℕ, ◌*◌}
 use native.Mathlib.Omega.{arith}
 use mathlib.Core.Path.{◌≡◌, refl}
-use mathlib.Core.List.{List, []}
+use mathlib.Core.List.{List}
 use lib.ListN.{length, get_or, set, length-set}
 use Rattle.numbers.specs.declared.refusal.Lent.TheVariants as lent
 use Rattle.numbers.specs.Positions.{quantised, dequantised}
 use Rattle.records.specs.Put.{put}
 use Rattle.records.proofs.Puts.{length_put}
-use Rattle.cells.specs.NodeWords.{link_start, value_start}
-use Rattle.cells.specs.NodeAccess.{new_node, with_position}
-use Rattle.cells.specs.Words.{to_node, node_words, link_words, junction_words, ref_words}
+use Rattle.cells.proofs.Editing.Conditions.{link_start, value_start}
+use Rattle.cells.specs.NodeAccess.{new_node}
 use Rattle.cells.specs.Memory.{Memory, memory, over_limit}
 use Rattle.cells.specs.Edit.{link_range, value_range, start_at, range_kept, node_entry, link_entry, ref_entry}
 use Rattle.cells.specs.Edit.{sized_entry, height_entry}
 use Rattle.cells.specs.Edit as stores
 use Rattle.cells.specs.Add.{more_nodes, more_links, more_refs, more_junctions, room_for, room_for_junction}
 use Rattle.cells.specs.Add as adds
-use Rattle.cells.specs.AddLink.{held_at, at_in, inserted, nodes_after, ranged, room_for_link}
+use Rattle.cells.specs.AddLink.{held_at, at_in, inserted, nodes_after, room_for_link}
+use Rattle.cells.specs.EntryForms.{with_range, node_as_entry, junction_as_entry, moved_to}
 use Rattle.cells.specs.AddLink as links
 use Rattle.cells.specs.Truncate.{fewer, counted, fewer_nodes, fewer_junctions, fewer_refs}
 use Rattle.cells.specs.Truncate as shorter
@@ -38,6 +38,11 @@ use Rattle.drawn.proofs.Accepted.{by_answer, by_entry}
 use Rattle.drawn.proofs.TidyReplaced.{place_ends}
 use Rattle.drawn.proofs.TidyAdded.{inserted_long}
 use Rattle.cells.proofs.Editing.LinkAdded.{after_long}
+use Rattle.cells.specs.declared.junction_entry.JunctionEntry.{JunctionEntry}
+use Rattle.cells.specs.declared.node_entry.NodeEntry.{NodeEntry}
+use Rattle.records.specs.declared.junction_ref.NodeJunctionRef.{NodeJunctionRef}
+use Rattle.cells.specs.declared.link.PathLink.{PathLink}
+use Rattle.cells.specs.Nodes.{no_entry, no_link, no_ref, no_map}
 
 pub record SameLengths (m d : Memory) : Type 0 where
   pub nodes : length d.nodes ≡ length m.nodes
@@ -51,15 +56,15 @@ as_long m = record { nodes = refl; links = refl; junctions = refl; heights = ref
 
 -- one list of the same length in place of one
 module _ (m : Memory) where
-  nodes_long : (l : List (List ℕ)) → length l ≡ length m.nodes → SameLengths m
+  nodes_long : (l : List NodeEntry) → length l ≡ length m.nodes → SameLengths m
       (memory m.ynd l m.links m.junctions m.heights m.refs)
   nodes_long l e = record { nodes = e; links = refl; junctions = refl; heights = refl; refs = refl }
 
-  links_long : (l : List (List ℕ)) → length l ≡ length m.links → SameLengths m
+  links_long : (l : List PathLink) → length l ≡ length m.links → SameLengths m
       (memory m.ynd m.nodes l m.junctions m.heights m.refs)
   links_long l e = record { nodes = refl; links = e; junctions = refl; heights = refl; refs = refl }
 
-  junctions_long : (l : List (List ℕ)) → length l ≡ length m.junctions → SameLengths m
+  junctions_long : (l : List JunctionEntry) → length l ≡ length m.junctions → SameLengths m
       (memory m.ynd m.nodes m.links l m.heights m.refs)
   junctions_long l e = record { nodes = refl; links = refl; junctions = e; heights = refl; refs = refl }
 
@@ -67,7 +72,7 @@ module _ (m : Memory) where
       (memory m.ynd m.nodes m.links m.junctions l m.refs)
   heights_long l e = record { nodes = refl; links = refl; junctions = refl; heights = e; refs = refl }
 
-  refs_long : (l : List (List ℕ)) → length l ≡ length m.refs → SameLengths m
+  refs_long : (l : List NodeJunctionRef) → length l ≡ length m.refs → SameLengths m
       (memory m.ynd m.nodes m.links m.junctions m.heights l)
   refs_long l e = record { nodes = refl; links = refl; junctions = refl; heights = refl; refs = e }
 
@@ -77,7 +82,7 @@ unfolding edited adds.add_node links.add_link adds.add_ref adds.add_junction sto
     whole-maps.put_heightmap shorter.truncate_nodes shorter.truncate_junctions shorter.truncate_refs
 edit_long m (add_node area at) =
     let n = m.ynd.node_count in
-    let w = node_words (new_node area n (dequantised (quantised at))) in
+    let w = node_as_entry (new_node area n (dequantised (quantised at))) in
     by_answer (SameLengths m) (room_for (over_limit m.ynd) 65536 n (length m.nodes) lent.Nodes) m
     (memory (more_nodes m.ynd) (set m.nodes n w) m.links m.junctions m.heights m.refs) (as_long m)
     (λ e. record { nodes = length-set m.nodes n w; links = refl; junctions = refl; heights = refl; refs = refl })
@@ -88,12 +93,12 @@ edit_long m (add_link p x) =
     let at = at_in m.nodes p l in
     by_answer (SameLengths m) (room_for_link (over_limit m.ynd) n l p e (length m.nodes) (length m.links)) m
     (memory (more_links m.ynd) (nodes_after n l p m.nodes)
-    (inserted at l (link_words x) m.links) m.junctions m.heights m.refs) (as_long m) (λ d.
+    (inserted at l x m.links) m.junctions m.heights m.refs) (as_long m) (λ d.
     let r = accepted (over_limit m.ynd) n l p e (length m.nodes) (length m.links) d in
-    let inside = (behind_bound (link_start (get_or m.nodes p [])) e l (held_few m.nodes p l)).0 in
+    let inside = (behind_bound (link_start (get_or m.nodes p no_entry)) e l (held_few m.nodes p l)).0 in
     record {
       nodes = after_long n l p m.nodes r.place r.nodes_fit;
-      links = inserted_long at l (link_words x) m.links [] inside r.links_fit;
+      links = inserted_long at l x m.links no_link inside r.links_fit;
       junctions = refl;
       heights = refl;
       refs = refl;
@@ -101,19 +106,19 @@ edit_long m (add_link p x) =
 edit_long m (add_ref r) =
     let n = m.ynd.ref_count in
     by_answer (SameLengths m) (room_for (over_limit m.ynd) 4294967295 n (length m.refs) lent.Refs) m
-    (memory (more_refs m.ynd) m.nodes m.links m.junctions m.heights (set m.refs n (ref_words r))) (as_long m)
+    (memory (more_refs m.ynd) m.nodes m.links m.junctions m.heights (set m.refs n r)) (as_long m)
     (λ e. record {
       nodes = refl;
       links = refl;
       junctions = refl;
       heights = refl;
       refs = length-set m.refs n
-          (ref_words r);
+          r;
     })
 edit_long m (add_junction j values) =
     let n = m.ynd.junction_count in
     let v = m.ynd.heightmap_count in
-    let w = junction_words (start_at j v) in
+    let w = start_at (junction_as_entry j) v in
     by_answer (SameLengths m) (room_for_junction (over_limit m.ynd) n v (j.width * j.height) (length values)
     (length m.junctions) (length m.heights)) m
     (memory (more_junctions m.ynd (length values)) m.nodes m.links (set m.junctions n w)
@@ -129,23 +134,23 @@ edit_long m (add_junction j values) =
     })
 edit_long m (put_node p x) =
     by_entry (λ l. SameLengths m (memory m.ynd l m.links m.junctions m.heights m.refs)) (node_entry m.ynd m.nodes p)
-    (λ w. node_words (range_kept x w)) [] m.nodes (as_long m) (λ i e. nodes_long m _ (length-set m.nodes i _))
+    (range_kept (node_as_entry x)) no_entry m.nodes (as_long m) (λ i e. nodes_long m _ (length-set m.nodes i _))
 edit_long m (set_position p at) =
     by_entry (λ l. SameLengths m (memory m.ynd l m.links m.junctions m.heights m.refs)) (node_entry m.ynd m.nodes p)
-    (λ w. node_words (with_position (to_node w) (dequantised (quantised at)))) [] m.nodes (as_long m)
+    (moved_to (dequantised (quantised at))) no_entry m.nodes (as_long m)
     (λ i e. nodes_long m _ (length-set m.nodes i _))
 edit_long m (put_link p k x) =
     by_entry (λ l. SameLengths m (memory m.ynd m.nodes l m.junctions m.heights m.refs))
-    (link_entry m.ynd m.nodes (length m.links) p k) (λ w. link_words x) [] m.links (as_long m)
+    (link_entry m.ynd m.nodes (length m.links) p k) (λ old. x) no_link m.links (as_long m)
     (λ i e. links_long m _ (length-set m.links i _))
 edit_long m (put_ref p r) =
     by_entry (λ l. SameLengths m (memory m.ynd m.nodes m.links m.junctions m.heights l)) (ref_entry m.ynd m.refs p)
-    (λ w. ref_words r) [] m.refs (as_long m) (λ i e. refs_long m _ (length-set m.refs i _))
+    (λ old. r) no_ref m.refs (as_long m) (λ i e. refs_long m _ (length-set m.refs i _))
 edit_long m (put_junction p j) =
     by_entry (λ l. SameLengths m (memory m.ynd m.nodes m.links l m.heights m.refs))
     (sized_entry (over_limit m.ynd) m.ynd.junction_count (length m.junctions) p (j.width * j.height)
     (value_range m.junctions p).count)
-    (λ w. junction_words (start_at j (value_start w))) [] m.junctions (as_long m)
+    (λ old. start_at (junction_as_entry j) old.heightmap_ptr) no_map m.junctions (as_long m)
     (λ i e. junctions_long m _ (length-set m.junctions i _))
 edit_long m (put_height p k v) =
     by_entry (λ l. SameLengths m (memory m.ynd m.nodes m.links m.junctions l m.refs))
@@ -158,10 +163,10 @@ edit_long m (put_links p ls) =
     let after = links_after m p c in
     by_answer (SameLengths m) (links_call m p c) m (links_stored m p ls) (as_long m) (λ d.
     let r = links_room (over_limit m.ynd) m.ynd.node_count p c after (length m.nodes) (length m.links) d in
-    let place = place_ends (link_start (get_or m.nodes p [])) (held_at m.nodes p l) c l
+    let place = place_ends (link_start (get_or m.nodes p no_entry)) (held_at m.nodes p l) c l
     (held_bound (link_range m.nodes p) l).0 in
     record {
-      nodes = length-set m.nodes p (ranged at c (get_or m.nodes p []));
+      nodes = length-set m.nodes p (with_range (get_or m.nodes p no_entry) at c);
       links = length_put m.links at ls (omega (arith, place, r.links_fit));
       junctions = refl;
       heights = refl;
@@ -176,12 +181,12 @@ edit_long m (put_heightmap p width height values) =
     (λ d.
     let r = map_room (over_limit m.ynd) m.ynd.junction_count p c (width * height) after (length m.junctions)
     (length m.heights) d in
-    let place = place_ends (value_start (get_or m.junctions p [])) (values_held m p) c l
+    let place = place_ends (value_start (get_or m.junctions p no_map)) (values_held m p) c l
     (held_bound (value_range m.junctions p) l).0 in
     record {
       nodes = refl;
       links = refl;
-      junctions = length-set m.junctions p (mapped width height at (get_or m.junctions p []));
+      junctions = length-set m.junctions p (mapped width height at (get_or m.junctions p no_map));
       heights = length_put m.heights at values (omega (arith, place, r.heights_fit));
       refs = refl;
     })

@@ -10,14 +10,13 @@ use lib.ListN.{length, get_or, get_elem?, length-map, get_or-map}
 use lib.Ieee.{of_bits, to_bits, round}
 use Rattle.std.proofs.lemmas.List.{map-append}
 use Rattle.numbers.specs.Steps.{step_of, unstep}
-use Rattle.cells.specs.Cell.{body_of}
-use Rattle.cells.specs.Words.{to_node}
 use Rattle.cells.specs.Lists.{every}
 use Rattle.cells.specs.Order.{keep, parted, Old}
 use Rattle.cells.specs.Area.{belongs}
 use Rattle.cells.specs.Lookup.{first_with, find, ref_of, junction_at, junction_of, is_some}
-use Rattle.cells.specs.Cell.{Link, Node, Junction, Cell, no_body, no_node, node_at, is_ped_node, is_vehicle_node}
-use Rattle.cells.specs.Cell.{first_of, numbers, ped_flags, old_nodes, ordered, reref, renode, number_nodes}
+use Rattle.cells.specs.Cell.{Node, Junction, Cell, no_body, no_node, node_at, is_ped_node, is_vehicle_node}
+use Rattle.cells.specs.Cell.{first_of, numbers, ped_flags, old_nodes, ordered, renode, number_nodes}
+use Rattle.cells.specs.Nodes.{rereffed}
 use Rattle.cells.specs.Cell.{renumber_cell}
 use Rattle.walks.specs.Sound.{sound, node_sound, is_empty, differing}
 use Rattle.walks.specs.Walk.{Next, to, stop, link_at, arrive, leads, take_link, next, Seen, see, World, Visit, Trail}
@@ -29,6 +28,7 @@ use Rattle.walks.proofs.Ranges.{every_mapped}
 use Rattle.cells.proofs.Sequences.Tests.{map_keep, map_at, map_option}
 use Rattle.drawn.specs.Settled.{settled_step, settled_body, settled_node, settled_junction, settled, settled_option}
 use Rattle.drawn.specs.Settled.{settled_seen, settled_visit, settled_trail}
+use Rattle.cells.specs.declared.link.PathLink.{PathLink}
 
 abbrev all : List Node → List Node
 all ns = map settled_node ns
@@ -51,7 +51,7 @@ empty_same (n ∷ ns) = refl
 
 node_sound_law : (ns : List Node) (n : Node) → node_sound (all ns) (settled_node n) ≡ node_sound ns n
 node_sound_law ns n = λ i. eqb n.area (first_same ns i) && every
-    (λ l. not (belongs (first_same ns i) l.area) || is_some (first_with (numbers_same ns i) l.number)) n.links
+    (λ l. not (belongs (first_same ns i) l.area_id) || is_some (first_with (numbers_same ns i) l.node_id)) n.links
 
 pub sound_same : (c : Cell) → sound (settled c) ≡ sound c
 unfolding sound settled
@@ -59,8 +59,8 @@ sound_same c = λ i.
     empty_same c.nodes i
     || (every_mapped (node_sound (all c.nodes)) settled_node (node_sound c.nodes)
     (node_sound_law c.nodes) c.nodes i && differing (numbers_same c.nodes i)
-    && every (λ r. not (belongs (first_same c.nodes i) r.area) || is_some
-    (first_with (numbers_same c.nodes i) r.number)) c.refs)
+    && every (λ r. not (belongs (first_same c.nodes i) r.area_id) || is_some
+    (first_with (numbers_same c.nodes i) r.node_id)) c.refs)
 
 -- ---- renumbered
 
@@ -82,7 +82,7 @@ renumber_settled c = λ i. record {
   nodes = ((λ j. number_nodes (old_same c.nodes j) 0 (ordered_same c.nodes j)) ∙ number_same (old_nodes c.nodes) 0
       (ordered c.nodes)) i;
   junctions = map settled_junction c.junctions;
-  refs = map (reref (old_same c.nodes i)) c.refs;
+  refs = map (rereffed (old_same c.nodes i)) c.refs;
   vehicles = (ap length (map_keep settled_node is_vehicle_node c.nodes) ∙ length-map
       (keep is_vehicle_node c.nodes) settled_node) i;
   peds = (ap length (map_keep settled_node is_ped_node c.nodes) ∙ length-map
@@ -102,16 +102,12 @@ unfolding unstep step_of to_bits of_bits round
 step_none_5 = refl
 
 none_settled : no_node ≡ settled_node no_node
-unfolding no_node no_body body_of to_node
+unfolding no_node no_body
 none_settled = sym (λ i. record {
   area = 0;
   number = 0;
   links = [];
-  body = record {
-    position = record { x = step_none_2 i; y = step_none_2 i; z = step_none_5 i };
-    marks =
-        no_node.body.marks;
-  };
+  body = record no_body { position = record { x = step_none_2 i; y = step_none_2 i; z = step_none_5 i } };
 })
 
 pub node_same : (ns : List Node) (p : ℕ) → node_at (all ns) p ≡ settled_node (node_at ns p)
@@ -122,9 +118,9 @@ unfolding next
 next_same ns p b = ap (λ (n : Node). take_link (all ns) (get_elem? n.links b)) (node_same ns p) ∙ go
     (get_elem? (node_at ns p).links b)
   where
-    go : (l : Option Link) → take_link (all ns) l ≡ take_link ns l
-    go (some l) = λ i. cond (belongs (first_same ns i) l.area) (arrive (find (numbers_same ns i) l.number))
-        (stop (end.Left l.area l.number))
+    go : (l : Option PathLink) → take_link (all ns) l ≡ take_link ns l
+    go (some l) = λ i. cond (belongs (first_same ns i) l.area_id) (arrive (find (numbers_same ns i) l.node_id))
+        (stop (end.Left l.area_id l.node_id))
     go none = refl
 
 pub route_same : (ns : List Node) (bs : List ℕ) (p : ℕ) → route (all ns) bs p ≡ route ns bs p
@@ -182,13 +178,13 @@ walk_settled c (b ∷ bs) p =
     (λ i. go_on (record {
       place = p;
       seen = see_same c p i;
-      link = walk-spec.body_of
+      link = walk-spec.shown_of
           (get_elem? (node_same c.nodes p i).links b);
     }) (walk d bs) (next_same c.nodes p b i))
     ∙ go (next c.nodes p b) (walk_settled c bs)
   where
     v : Visit ℕ
-    v = record { place = p; seen = see c p; link = walk-spec.body_of (link_at c.nodes p b) }
+    v = record { place = p; seen = see c p; link = walk-spec.shown_of (link_at c.nodes p b) }
 
     go : (x : Next ℕ) → ((q : ℕ) → walk (settled c) bs q ≡ settled_trail (walk c bs q)) → go_on (settled_visit v)
         (walk (settled c) bs) x ≡ settled_trail (go_on v (walk c bs) x)

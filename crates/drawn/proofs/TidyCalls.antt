@@ -1,30 +1,30 @@
 -- A new cell and an accepted reading are tidy; renumbering and write-then-read leave a tidy cell tidy, accepted or
 -- refused.
 -- Assumes nothing.
-use Rattle.cells.proofs.Renumbering.CellRenumbered.{reordered_long, all_relinked_long}
-use Rattle.cells.proofs.Reading.FileRead.{width_small, height_small}
+use Rattle.cells.proofs.Renumbering.CellRenumbered.{reordered_long}
 use Rattle.cells.proofs.Renumbering.Reordered.{number_length}
 use Rattle.cells.proofs.Renumbering.Placed.{none_ped}
-use Prim.Native.Nat.{ℕ, zero, suc, ◌*◌, ◌/◌, ◌%◌, ◌≤◌, ◌<◌}
+use Prim.Native.Nat.{ℕ, zero, suc, ◌≤◌, ◌<◌}
 use native.Mathlib.Omega.{arith}
 use native.Mathlib.Nat.{zero-add}
 use mathlib.Core.Path.{◌≡◌, refl, ap, sym, ◌∙◌}
 use mathlib.Core.List.{List, [], ◌∷◌, ◌++◌, map}
 use lib.Dec.{ltb}
-use lib.ListN.{length, get_or, take, drop, length-append, get_or-append}
+use lib.ListN.{length, get_or, take, drop, length-append, length-map, length-drop, get_or-append}
 use lib.Seq.{length-take-le, get_or-take, get_or_at}
 use borrow.Author.Tests.{ltb-true, ltb-false}
 use Rattle.std.specs.Prelude.{Result, Ok, Err}
 use Rattle.numbers.specs.Refusals.{Answer}
 use Rattle.numbers.specs.declared.refusal.Refusal.{Refusal}
-use Rattle.records.specs.Records.{node_at, junction_at}
 use Rattle.records.specs.declared.root.Root.{Root}
 use Rattle.cells.specs.Lists.{up_to, join_to, sum_to}
 use Rattle.cells.specs.Order.{parted, new_place}
-use Rattle.cells.specs.NodeWords.{link_start, link_count, value_start, value_count, is_ped, numbered, number_from}
-use Rattle.cells.specs.NodeWords.{reordered, old_of}
-use Rattle.cells.specs.Words.{path_node, node_words, path_junction, junction_words}
+use Rattle.cells.proofs.Editing.Conditions.{link_start, link_count, value_start}
+use Rattle.cells.specs.Nodes.{value_count, is_ped, numbered, number_from, no_entry, no_map}
+use Rattle.cells.specs.Nodes.{reordered, old_of}
+use Rattle.cells.specs.Paths.{path_node, path_junction}
 use Rattle.cells.specs.Memory.{Memory, memory, over_limit, short}
+use Rattle.cells.specs.Nodes.{relinked, rereffed}
 use Rattle.cells.specs.NewYnd.{new_ynd}
 use Rattle.cells.specs.Checks.{counts_of, links_at, values_at}
 use Rattle.cells.specs.Read.{node_in, links_in, junction_in, values_in, ref_in, filled, cell_read, read_of}
@@ -32,10 +32,8 @@ use Rattle.cells.specs.Renumber.{renumber_lists, recounted, new_lists, renumber_
 use Rattle.cells.specs.Write.{write_call}
 use Rattle.cells.specs.WriteRead.{if_read, if_written, write_read_of}
 use Rattle.cells.proofs.Sequences.Tests.{by_test}
-use Rattle.cells.proofs.Forms.Entries.{byte2}
 use Rattle.cells.specs.RangedParts.{length_up_to, length_links, length_values}
 use Rattle.cells.proofs.Reading.ReadLaws.{length_join_to, Holds, links_fit_word, heights_fit_word}
-use Rattle.records.proofs.RecordBack.{node_fits_law}
 use Rattle.cells.proofs.Reading.FileRead.{read_all}
 use Rattle.cells.proofs.Renumbering.Reordered.{number_at}
 use Rattle.cells.proofs.Renumbering.CellRenumbered.{parted_length}
@@ -43,11 +41,15 @@ use Rattle.cells.proofs.Renumbering.Placed.{new_at}
 use Rattle.drawn.specs.Tidy.{LinksApart, Tidy}
 use Rattle.drawn.proofs.SeparateLaws.{none, same, moved, summed}
 use Rattle.drawn.proofs.Origins.{Origin, origin}
-use Rattle.cells.proofs.Forms.Entries.{low8, high8}
+use Rattle.cells.specs.declared.node_entry.NodeEntry.{NodeEntry}
+use Rattle.cells.specs.declared.link.PathLink.{PathLink}
+use Rattle.cells.specs.declared.junction_entry.JunctionEntry.{JunctionEntry}
+use Rattle.records.specs.declared.junction_ref.NodeJunctionRef.{NodeJunctionRef}
 
 -- ---- a new cell
 
-pub new_tidy : (nodes links junctions : List (List ℕ)) (heights : List ℕ) (refs : List (List ℕ)) → Tidy
+pub new_tidy : (nodes : List NodeEntry) (links : List PathLink) (junctions : List JunctionEntry) (heights : List ℕ)
+    (refs : List NodeJunctionRef) → Tidy
     (memory new_ynd nodes links junctions heights refs)
 unfolding new_ynd
 new_tidy nodes links junctions heights refs = record {
@@ -78,28 +80,20 @@ pub front_at : {A : Type 0} (f : ℕ → A) (n i : ℕ) (d : A) (rest : List A) 
 front_at f n i d rest lt = get_or-append (up_to f n) rest d i (omega (arith, length_up_to f n)) ∙ up_to_at f n i d lt
 
 start_in : (n : List ℕ) (i : ℕ) → link_start (node_in n i) ≡ sum_to (links_at n) i
-unfolding node_in node_words path_node
+unfolding node_in path_node
 start_in n i = refl
 
 count_in : (n : List ℕ) (i : ℕ) → link_count (node_in n i) ≡ links_at n i
-unfolding node_in node_words path_node
-count_in n i =
-    let r = node_at n (i * 40) in
-    let h = node_fits_law n (i * 40) in
-    byte2 r.flags4 (r.link_count_flags % 8) (r.link_count_flags / 8) 0 h.flags4 (omega arith)
-    (omega (arith, h.link_count_flags))
+unfolding node_in path_node
+count_in n i = refl
 
 value_start_in : (j : List ℕ) (i : ℕ) → value_start (junction_in j i) ≡ sum_to (values_at j) i
-unfolding junction_in junction_words path_junction
+unfolding junction_in path_junction
 value_start_in j i = refl
 
 value_count_in : (j : List ℕ) (i : ℕ) → value_count (junction_in j i) ≡ values_at j i
-unfolding junction_in junction_words path_junction
-value_count_in j i =
-    let r = junction_at j (i * 12) in
-    let w = width_small j (i * 12) in
-    λ k. low8 r.heightmap_dim_x r.heightmap_dim_y w k * high8 r.heightmap_dim_x r.heightmap_dim_y w
-    (height_small j (i * 12)) k
+unfolding junction_in path_junction
+value_count_in j i = refl
 
 filled_tidy : (root : Root) (n l j h r : List ℕ) (m : Memory) → Holds n j r (counts_of n j r) → Tidy
     (filled root (counts_of n j r) n l j h r m)
@@ -141,16 +135,16 @@ filled_tidy root n l j h r m held =
         length_up_to
             (ref_in r) k.refs,
       );
-      links_apart = same (sum_to (links_at n)) (links_at n) (λ q. link_start (get_or nodes q []))
-          (λ q. link_count (get_or nodes q [])) k.nodes k.links
-          (λ q lt. ap link_start (front_at (node_in n) k.nodes q [] (drop k.nodes m.nodes) lt) ∙ start_in n q)
-          (λ q lt. ap link_count (front_at (node_in n) k.nodes q [] (drop k.nodes m.nodes) lt) ∙ count_in n q)
+      links_apart = same (sum_to (links_at n)) (links_at n) (λ q. link_start (get_or nodes q no_entry))
+          (λ q. link_count (get_or nodes q no_entry)) k.nodes k.links
+          (λ q lt. ap link_start (front_at (node_in n) k.nodes q no_entry (drop k.nodes m.nodes) lt) ∙ start_in n q)
+          (λ q lt. ap link_count (front_at (node_in n) k.nodes q no_entry (drop k.nodes m.nodes) lt) ∙ count_in n q)
           (summed (links_at n) k.nodes (links_fit_word n j r k held));
-      values_apart = same (sum_to (values_at j)) (values_at j) (λ q. value_start (get_or junctions q []))
-          (λ q. value_count (get_or junctions q [])) k.junctions k.heights
-          (λ q lt. ap value_start (front_at (junction_in j) k.junctions q [] (drop k.junctions m.junctions) lt)
+      values_apart = same (sum_to (values_at j)) (values_at j) (λ q. value_start (get_or junctions q no_map))
+          (λ q. value_count (get_or junctions q no_map)) k.junctions k.heights
+          (λ q lt. ap value_start (front_at (junction_in j) k.junctions q no_map (drop k.junctions m.junctions) lt)
           ∙ value_start_in j q)
-          (λ q lt. ap value_count (front_at (junction_in j) k.junctions q [] (drop k.junctions m.junctions) lt)
+          (λ q lt. ap value_count (front_at (junction_in j) k.junctions q no_map (drop k.junctions m.junctions) lt)
           ∙ value_count_in j q)
           (summed (values_at j) k.junctions (heights_fit_word n j r k held));
     }
@@ -160,52 +154,46 @@ read_tidy s g m e = read_all Tidy s g m (λ n l j h r held. filled_tidy _ n l j 
 
 -- ---- renumbering
 
-later : (v : List ℕ) (j : ℕ) → get_or (drop 1 v) j 0 ≡ get_or v (suc j) 0
-later [] j = refl
-later (y ∷ ys) j = refl
-
-start_numbered : (k : ℕ) (w : List ℕ) → link_start (numbered k w) ≡ link_start w
-unfolding numbered
-start_numbered k w = later w 6
-
-count_numbered : (k : ℕ) (w : List ℕ) → link_count (numbered k w) ≡ link_count w
-unfolding numbered
-count_numbered k w = ap (λ (x : ℕ). x / 65536 % 256) (later w 5)
-
-module _ (n : ℕ) (nodes : List (List ℕ)) (fits : n ≤ length nodes) where
-  abbrev ns : List (List ℕ)
+module _ (n : ℕ) (nodes : List NodeEntry) (fits : n ≤ length nodes) where
+  abbrev ns : List NodeEntry
   ns = take n nodes
 
   long : length ns ≡ n
   long = length-take-le n nodes fits
 
   from : (q : ℕ) → q < n → Origin is_ped ns q
-  from q lt = origin is_ped [] none_ped ns q (omega (arith, long))
+  from q lt = origin is_ped no_entry none_ped ns q (omega (arith, long))
 
-  -- the words at a place afterwards
-  new_words : (q : ℕ) (lt : q < n) → get_or (number_from 0 (parted is_ped ns) ++ drop n nodes) q [] ≡ numbered q
-      (get_or nodes (from q lt).place [])
-  new_words q lt =
+  -- the entry at a place afterwards
+  new_entry : (q : ℕ) (lt : q < n) → get_or (number_from 0 (parted is_ped ns) ++ drop n nodes) q no_entry ≡ numbered q
+      (get_or nodes (from q lt).place no_entry)
+  new_entry q lt =
       let o = from q lt in
       let in_list : q < length (parted is_ped ns) = omega (arith, parted_length ns, long) in
-      get_or-append (number_from 0 (parted is_ped ns)) (drop n nodes) [] q
+      get_or-append (number_from 0 (parted is_ped ns)) (drop n nodes) no_entry q
       (omega (arith, number_length 0 (parted is_ped ns)))
-      ∙ number_at 0 (parted is_ped ns) q in_list
-      ∙ (λ i. numbered (zero-add q i) (get_or (parted is_ped ns) (sym o.back i) []))
-      ∙ ap (numbered q) ((new_at ns o.place o.inside).1 ∙ get_or-take n nodes o.place []
+      ∙ number_at 0 (parted is_ped ns) q no_entry in_list
+      ∙ (λ i. numbered (zero-add q i) (get_or (parted is_ped ns) (sym o.back i) no_entry))
+      ∙ ap (numbered q) ((new_at ns o.place o.inside).1 ∙ get_or-take n nodes o.place no_entry
       (omega (arith, o.inside, long)))
 
   reordered_apart : (l : ℕ) → LinksApart n l nodes → LinksApart n l (number_from 0 (parted is_ped ns) ++ drop n nodes)
   reordered_apart l h =
       let after = number_from 0 (parted is_ped ns) ++ drop n nodes in
-      moved (λ q. link_start (get_or nodes q [])) (λ q. link_count (get_or nodes q []))
-      (λ q. link_start (get_or after q [])) (λ q. link_count (get_or after q [])) n n l
+      moved (λ q. link_start (get_or nodes q no_entry)) (λ q. link_count (get_or nodes q no_entry))
+      (λ q. link_start (get_or after q no_entry)) (λ q. link_count (get_or after q no_entry)) n n l
       (λ q lt. (from q lt).place)
       (λ q lt. omega (arith, (from q lt).inside, long))
       (λ p q hp hq e. sym (from p hp).back ∙ ap (new_place (map is_ped ns)) e ∙ (from q hq).back)
-      (λ q lt. ap link_start (new_words q lt) ∙ start_numbered q (get_or nodes (from q lt).place []))
-      (λ q lt. ap link_count (new_words q lt) ∙ count_numbered q (get_or nodes (from q lt).place []))
+      (λ q lt. ap link_start (new_entry q lt))
+      (λ q lt. ap link_count (new_entry q lt))
       h
+
+-- the first n entries of a list changed
+mapped_long : {A : Type 0} (f : A → A) (n : ℕ) (l : List A) → n ≤ length l
+    → length (map f (take n l) ++ drop n l) ≡ length l
+mapped_long f n l h = length-append (map f (take n l)) (drop n l)
+    ∙ omega (arith, length-map (take n l) f, length-take-le n l h, length-drop n l)
 
 renumbered_tidy : (m : Memory) (ps : List ℕ) → Tidy m → Tidy (renumber_memory m ps)
 unfolding renumber_memory new_lists renumber_lists recounted reordered
@@ -219,10 +207,10 @@ renumbered_tidy m ps h =
       few_nodes = h.few_nodes;
       few_junctions = h.few_junctions;
       nodes_lie = omega (arith, reordered_long n m.nodes h.nodes_lie, h.nodes_lie);
-      links_lie = omega (arith, all_relinked_long o l m.links h.links_lie, h.links_lie);
+      links_lie = omega (arith, mapped_long (relinked o) l m.links h.links_lie, h.links_lie);
       junctions_lie = h.junctions_lie;
       values_lie = h.values_lie;
-      refs_lie = omega (arith, all_relinked_long o r m.refs h.refs_lie, h.refs_lie);
+      refs_lie = omega (arith, mapped_long (rereffed o) r m.refs h.refs_lie, h.refs_lie);
       links_apart = reordered_apart n m.nodes h.nodes_lie l h.links_apart;
       values_apart = h.values_apart;
     }

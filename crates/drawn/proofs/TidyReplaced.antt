@@ -4,17 +4,19 @@ use Prim.Native.Nat.{ℕ, zero, suc, ◌+◌, ◌-◌, ◌*◌, ◌≤◌, ◌<�
 use native.Mathlib.Omega.{arith}
 use mathlib.Core.Path.{◌≡◌, ap, sym, ◌∙◌}
 use mathlib.Core.Logic.{◌⊎◌, inl, inr}
-use mathlib.Core.List.{List, []}
+use mathlib.Core.List.{List}
 use lib.Dec.{leb}
 use lib.ListN.{length, get_or, set, length-set}
 use lib.Seq.{get_or-set_same, get_or-set_other}
 use borrow.Author.Tests.{leb-true, leb-false}
 use Rattle.records.proofs.Puts.{length_put}
-use Rattle.cells.specs.NodeWords.{link_start, link_count, value_start, value_count}
+use Rattle.cells.proofs.Editing.Conditions.{link_start, link_count, value_start}
+use Rattle.cells.specs.Nodes.{value_count, no_map, no_entry}
 use Rattle.cells.specs.Memory.{Memory, over_limit}
 use Rattle.cells.specs.Edit.{link_range, value_range}
 use Rattle.cells.specs.Add.{with_counts}
-use Rattle.cells.specs.AddLink.{held_at, ranged}
+use Rattle.cells.specs.AddLink.{held_at}
+use Rattle.cells.specs.EntryForms.{with_range}
 use Rattle.cells.specs.OwnWords.{with_own}
 use Rattle.cells.specs.Truncate.{fewer, counted, fewer_nodes, fewer_junctions, fewer_refs}
 use Rattle.cells.specs.Truncate.{truncate_nodes, truncate_junctions, truncate_refs}
@@ -29,7 +31,7 @@ use Rattle.cells.proofs.Editing.Replacing.{cleared, pool_grows}
 use Rattle.drawn.specs.Tidy.{Tidy}
 use Rattle.drawn.proofs.SeparateLaws.{fewer_ranges, range_replaced}
 use Rattle.drawn.proofs.Accepted.{by_answer}
-use Rattle.cells.proofs.Editing.CellReplaced.{ranged_count, ranged_start, mapped_count, mapped_start}
+use Rattle.cells.specs.declared.link.PathLink.{PathLink}
 
 -- ---- the cell's own words
 
@@ -126,27 +128,27 @@ own_place : (s e most c l start count : ℕ) → start ≡ place_for s e c l →
     → ((start ≡ s) × (count ≤ most)) ⊎ (l ≤ start)
 own_place s e most c l start count a b le some = rw (a, b) (placed s e most c l le (omega arith))
 
-pub put_links_tidy : (m : Memory) → Tidy m → (p : ℕ) (new : List (List ℕ)) → Tidy (put_links m p new).memory
+pub put_links_tidy : (m : Memory) → Tidy m → (p : ℕ) (new : List PathLink) → Tidy (put_links m p new).memory
 unfolding put_links with_counts
 put_links_tidy m h p new =
     let n = m.ynd.node_count in
     let l = m.ynd.link_count in
     let c = length new in
-    let w = get_or m.nodes p [] in
+    let w = get_or m.nodes p no_entry in
     let e = held_at m.nodes p l in
     let at = links_start m p c in
     let after = links_after m p c in
-    let x = ranged at c w in
+    let x = with_range w at c in
     let nodes = set m.nodes p x in
     by_answer Tidy (links_call m p c) m (links_stored m p new) h (λ d.
     let r = links_room (over_limit m.ynd) n p c after (length m.nodes) (length m.links) d in
     let held = held_bound (link_range m.nodes p) l in
     let place = place_ends (link_start w) e c l held.0 in
-    let own = get_or-set_same m.nodes p x [] (omega (arith, r.place, r.nodes_fit)) in
-    let start : link_start (get_or nodes p []) ≡ at = ap link_start own ∙ ranged_start at c w in
-    let count : link_count (get_or nodes p []) ≡ c = ap link_count own ∙ ranged_count at c w (omega (arith, r.few)) in
-    let other : (q : ℕ) → (q ≡ p → ⊥) → get_or nodes q [] ≡ get_or m.nodes q [] =
-    λ q ne. get_or-set_other m.nodes p q x [] ne in
+    let own = get_or-set_same m.nodes p x no_entry (omega (arith, r.place, r.nodes_fit)) in
+    let start : link_start (get_or nodes p no_entry) ≡ at = ap link_start own in
+    let count : link_count (get_or nodes p no_entry) ≡ c = ap link_count own in
+    let other : (q : ℕ) → (q ≡ p → ⊥) → get_or nodes q no_entry ≡ get_or m.nodes q no_entry =
+    λ q ne. get_or-set_other m.nodes p q x no_entry ne in
     record {
       few_nodes = h.few_nodes;
       few_junctions = h.few_junctions;
@@ -155,27 +157,28 @@ put_links_tidy m h p new =
       junctions_lie = h.junctions_lie;
       values_lie = h.values_lie;
       refs_lie = h.refs_lie;
-      links_apart = range_replaced (λ q. link_start (get_or m.nodes q [])) (λ q. link_count (get_or m.nodes q []))
-          (λ q. link_start (get_or nodes q [])) (λ q. link_count (get_or nodes q [])) n l after p r.place
+      links_apart = range_replaced (λ q. link_start (get_or m.nodes q no_entry)) (λ q. link_count
+          (get_or m.nodes q no_entry))
+          (λ q. link_start (get_or nodes q no_entry)) (λ q. link_count (get_or nodes q no_entry)) n l after p r.place
           (pool_grows e c l)
           (omega (arith, start, place, r.all_few))
           (λ q lt ne. ap link_start (other q ne))
           (λ q lt ne. ap link_count (other q ne))
           (omega (arith, start, count, place))
-          (λ some. own_place (link_start w) e (link_count w) c l (link_start (get_or nodes p []))
-          (link_count (get_or nodes p [])) start count held.1 some)
+          (λ some. own_place (link_start w) e (link_count w) c l (link_start (get_or nodes p no_entry))
+          (link_count (get_or nodes p no_entry)) start count held.1 some)
           h.links_apart;
       values_apart = h.values_apart;
     })
 
-pub put_heightmap_tidy : (m : Memory) → Tidy m → (p width height : ℕ) (values : List ℕ) → width < 256 → height < 256
+pub put_heightmap_tidy : (m : Memory) → Tidy m → (p width height : ℕ) (values : List ℕ)
     → Tidy (put_heightmap m p width height values).memory
 unfolding put_heightmap with_counts
-put_heightmap_tidy m h p width height values hw hh =
+put_heightmap_tidy m h p width height values =
     let n = m.ynd.junction_count in
     let l = m.ynd.heightmap_count in
     let c = length values in
-    let w = get_or m.junctions p [] in
+    let w = get_or m.junctions p no_map in
     let e = values_held m p in
     let at = map_start m p c in
     let after = values_after m p c in
@@ -185,12 +188,12 @@ put_heightmap_tidy m h p width height values hw hh =
     let r = map_room (over_limit m.ynd) n p c (width * height) after (length m.junctions) (length m.heights) d in
     let held = held_bound (value_range m.junctions p) l in
     let place = place_ends (value_start w) e c l held.0 in
-    let own = get_or-set_same m.junctions p x [] (omega (arith, r.place, r.junctions_fit)) in
-    let start : value_start (get_or junctions p []) ≡ at = ap value_start own ∙ mapped_start width height at w in
-    let count : value_count (get_or junctions p []) ≡ c =
-    ap value_count own ∙ mapped_count width height at w hw hh ∙ sym r.sized in
-    let other : (q : ℕ) → (q ≡ p → ⊥) → get_or junctions q [] ≡ get_or m.junctions q [] =
-    λ q ne. get_or-set_other m.junctions p q x [] ne in
+    let own = get_or-set_same m.junctions p x no_map (omega (arith, r.place, r.junctions_fit)) in
+    let start : value_start (get_or junctions p no_map) ≡ at = ap value_start own in
+    let count : value_count (get_or junctions p no_map) ≡ c =
+    ap value_count own ∙ sym r.sized in
+    let other : (q : ℕ) → (q ≡ p → ⊥) → get_or junctions q no_map ≡ get_or m.junctions q no_map =
+    λ q ne. get_or-set_other m.junctions p q x no_map ne in
     record {
       few_nodes = h.few_nodes;
       few_junctions = h.few_junctions;
@@ -205,15 +208,16 @@ put_heightmap_tidy m h p width height values hw hh =
       );
       refs_lie = h.refs_lie;
       links_apart = h.links_apart;
-      values_apart = range_replaced (λ q. value_start (get_or m.junctions q []))
-          (λ q. value_count (get_or m.junctions q []))
-          (λ q. value_start (get_or junctions q [])) (λ q. value_count (get_or junctions q [])) n l after p r.place
+      values_apart = range_replaced (λ q. value_start (get_or m.junctions q no_map))
+          (λ q. value_count (get_or m.junctions q no_map))
+          (λ q. value_start (get_or junctions q no_map)) (λ q. value_count
+          (get_or junctions q no_map)) n l after p r.place
           (pool_grows e c l)
           (omega (arith, start, place, r.all_few))
           (λ q lt ne. ap value_start (other q ne))
           (λ q lt ne. ap value_count (other q ne))
           (omega (arith, start, count, place))
-          (λ some. own_place (value_start w) e (value_count w) c l (value_start (get_or junctions p []))
-          (value_count (get_or junctions p [])) start count held.1 some)
+          (λ some. own_place (value_start w) e (value_count w) c l (value_start (get_or junctions p no_map))
+          (value_count (get_or junctions p no_map)) start count held.1 some)
           h.values_apart;
     })

@@ -17,7 +17,8 @@ use Rattle.numbers.specs.declared.refusal.Refusal.TheVariants.{TooShort, TooMany
 use Rattle.numbers.specs.declared.refusal.Lent.{Lent}
 use Rattle.numbers.specs.declared.refusal.Lent.TheVariants as lent
 use Rattle.records.specs.Put.{put}
-use Rattle.cells.specs.NodeWords.{link_start, link_count, value_start, value_count, first_area}
+use Rattle.cells.proofs.Editing.Conditions.{link_start, link_count, value_start}
+use Rattle.cells.specs.Nodes.{value_count, first_area, no_entry, no_map}
 use Rattle.cells.specs.Memory.{Memory, over_limit, short, nodes_causes}
 use Rattle.cells.specs.Edit.{entry_at, range_entry, sized_entry, held_in, node_entry, link_entry, ref_entry}
 use Rattle.cells.specs.Edit.{junction_entry, height_entry}
@@ -39,13 +40,14 @@ use Rattle.cells.proofs.Sequences.Tests.{by_test}
 use Rattle.cells.proofs.Forms.Limits.{not_over}
 use Rattle.walks.specs.Sound.{sound}
 use Rattle.walks.specs.SoundCall.{sound_left, verdict, indexed, sound_call}
-use Rattle.walks.specs.Walk.{link_at, body_of}
+use Rattle.walks.specs.Walk.{link_at, shown_of}
 use Rattle.walks.specs.WalkCall.{route, walk_call}
 use Rattle.walks.specs.Shown.{seen_node, or_none, or_no_link, values_at, values_left, shown_node, shown_junction}
 use Rattle.walks.specs.Shown.{shown_values, shown_link}
 use Rattle.walks.proofs.WalksAlike.{route_left}
 use Rattle.drawn.specs.Tidy.{Tidy}
 use Rattle.drawn.proofs.TidyAsRead.{never_short}
+use Rattle.cells.specs.declared.junction_entry.JunctionEntry.{JunctionEntry}
 
 -- ---- entries and ranges in general
 
@@ -75,8 +77,8 @@ range_fits n len a l pool b p s c k h g inside = by_test (leb n p)
     (λ t. rw (f, lt-ltb p len lent, all, t, le-ltb len n h, le-ltb pool l g)))
 
 -- no map is cut
-none_cut : (pool : ℕ) (js : List (List ℕ))
-    → ((i : ℕ) → i < length js → value_count (get_or js i []) ≤ values_within pool (get_or js i []))
+none_cut : (pool : ℕ) (js : List JunctionEntry)
+    → ((i : ℕ) → i < length js → value_count (get_or js i no_map) ≤ values_within pool (get_or js i no_map))
     → maps_cut pool js ≡ false
 unfolding maps_cut
 none_cut pool [] h = refl
@@ -84,7 +86,7 @@ none_cut pool (j ∷ js) h =
     rw (le-ltb (values_within pool j) (value_count j) (h 0 (omega arith)))
     (none_cut pool js (λ i lt. h (suc i) (omega arith)))
 
-all_within : (pool : ℕ) (j : List ℕ) → (0 < value_count j → value_start j + value_count j ≤ pool)
+all_within : (pool : ℕ) (j : JunctionEntry) → (0 < value_count j → value_start j + value_count j ≤ pool)
     → value_count j ≤ values_within pool j
 unfolding values_within
 all_within pool j h = by_test (ltb 0 (value_count j))
@@ -132,21 +134,22 @@ module _ (m : Memory) (h : Tidy m) where
   -- a node's link and a junction's value: 13 or there
   pub link_entry_fits : (p k : ℕ) → link_entry m.ynd m.nodes (length m.links) p k
       ≡ refuse_if (leb m.ynd.node_count p) NoSuchPlace
-      (refuse_if (leb (link_count (get_or m.nodes p [])) k) NoSuchPlace (Ok (link_start (get_or m.nodes p []) + k)))
+      (refuse_if (leb (link_count (get_or m.nodes p no_entry)) k) NoSuchPlace (Ok (link_start
+      (get_or m.nodes p no_entry) + k)))
   unfolding link_entry
   link_entry_fits p k =
-      let w = get_or m.nodes p [] in
+      let w = get_or m.nodes p no_entry in
       rw never_over (range_fits m.ynd.node_count (length m.nodes) lent.Nodes m.ynd.link_count
       (length m.links) lent.Links
       p (link_start w) (link_count w) k h.nodes_lie h.links_lie (λ lt. h.links_apart.inside p lt))
 
   pub height_entry_fits : (p k : ℕ) → height_entry m.ynd m.junctions (length m.heights) p k
       ≡ refuse_if (leb m.ynd.junction_count p) NoSuchPlace
-      (refuse_if (leb (value_count (get_or m.junctions p [])) k) NoSuchPlace
-      (Ok (value_start (get_or m.junctions p []) + k)))
+      (refuse_if (leb (value_count (get_or m.junctions p no_map)) k) NoSuchPlace
+      (Ok (value_start (get_or m.junctions p no_map) + k)))
   unfolding height_entry
   height_entry_fits p k =
-      let w = get_or m.junctions p [] in
+      let w = get_or m.junctions p no_map in
       rw never_over (range_fits m.ynd.junction_count (length m.junctions) lent.Junctions m.ynd.heightmap_count
       (length m.heights) lent.Heightmap p (value_start w) (value_count w) k h.junctions_lie h.values_lie
       (λ lt. h.values_apart.inside p lt))
@@ -238,8 +241,8 @@ module _ (m : Memory) (h : Tidy m) where
   never_cut = none_cut m.ynd.heightmap_count (take m.ynd.junction_count m.junctions) (λ i lt.
       let long = length-take-le m.ynd.junction_count m.junctions h.junctions_lie in
       let inside : i < m.ynd.junction_count = omega (arith, long) in
-      rw (get_or-take m.ynd.junction_count m.junctions i [] inside)
-      (all_within m.ynd.heightmap_count (get_or m.junctions i []) (h.values_apart.inside i inside)))
+      rw (get_or-take m.ynd.junction_count m.junctions i no_map inside)
+      (all_within m.ynd.heightmap_count (get_or m.junctions i no_map) (h.values_apart.inside i inside)))
 
   -- writing: 8 to 11, then 7 at 5; never 14, 12 or 7 at 0 to 4
   pub write_left : (s : List ℕ) → write_call m s
@@ -322,7 +325,7 @@ module _ (m : Memory) (h : Tidy m) where
       by_test (ltb (length old) (length (values_at m p))) (λ t. rw (f, t)) (λ g. rw (f, g))))
 
   pub shown_link_fits : (p b : ℕ) → shown_link m p b
-      ≡ refuse_if (leb m.ynd.node_count p) NoSuchPlace (or_no_link (body_of (link_at (cell_of m).nodes p b)))
+      ≡ refuse_if (leb m.ynd.node_count p) NoSuchPlace (or_no_link (shown_of (link_at (cell_of m).nodes p b)))
   unfolding shown_link
   shown_link_fits p b = rw (
     never_over,

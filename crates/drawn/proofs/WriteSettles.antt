@@ -1,16 +1,21 @@
 -- Write-then-read of any made cell leaves it settled: coordinates in whole steps, of flags5 the low three bits. It is
 -- so from then on.
 use Rattle.cells.proofs.WritingBack.Kept.{step_again}
-use Rattle.std.proofs.lemmas.Bool.{and_from}
+use Rattle.std.proofs.lemmas.List.Elements.{All-map, All-weaker, All-from_get_or}
+use Rattle.cells.specs.Cell.{no_node, node_at}
+use Rattle.cells.specs.StoredCell.{no_junction, junction_at}
+use Rattle.cells.proofs.Sequences.Tests.{every_map}
+use Rattle.cells.proofs.WritingBack.KeptCells.{InSteps, Kept}
+use Rattle.drawn.specs.Made.{FittedNode, FittedJunction, Fitted, StoredNode, StoredJunction, Stored}
+use Rattle.drawn.proofs.FittedCells.{all_kept}
+use Rattle.drawn.proofs.TidyAsRead.{maps_whole, made_sized, made_alike}
 use Prim.Native.Nat.{ℕ, ◌%◌, ◌≤◌}
 use native.Mathlib.Omega.{arith}
 use mathlib.Core.Path.{◌≡◌, refl, sym, ap, ◌∙◌}
-use mathlib.Core.Bool.{Bool, true}
+use mathlib.Core.Bool.{true}
 use mathlib.Core.List.{List, [], ◌∷◌, map, map-map}
-use lib.Dec.{eqb}
 use lib.ListN.{length, take}
 use lib.Ieee.{Float, binary32, of_bits, to_bits}
-use borrow.Author.Tests.{eq-eqb, eqb-true}
 use Rattle.std.specs.Prelude.{Result, Ok, Err}
 use Rattle.numbers.specs.Refusals.{Answer}
 use Rattle.numbers.specs.declared.refusal.Refusal.{Refusal}
@@ -21,15 +26,13 @@ use Rattle.records.specs.declared.root.Root.{Root}
 use Rattle.cells.specs.Lists.{every}
 use Rattle.cells.specs.Memory.{Memory}
 use Rattle.cells.specs.Read.{read_of}
-use Rattle.cells.specs.Cell.{NodeMarks, Node, Junction, Cell}
-use Rattle.cells.specs.CellOf.{link_of, node_with, junction_with, cell_of}
+use Rattle.cells.specs.Cell.{Node, Junction, Cell}
+use Rattle.cells.specs.CellOf.{node_with, junction_with, cell_of}
 use Rattle.cells.specs.FileCell.{cell_from, file_cell}
 use Rattle.cells.specs.Blocks.{refs_block, heights_block, junctions_block, links_block, nodes_block, blocks, root_for}
 use Rattle.cells.specs.Blocks.{written}
 use Rattle.cells.specs.Write.{held, write_call}
 use Rattle.cells.specs.WriteRead.{if_read, if_written, write_read_of}
-use Rattle.cells.proofs.WritingBack.KeptCells.{kept_step, is_word, kept}
-use Rattle.cells.proofs.Sequences.Tests.{and_left, and_right, every_map}
 use Rattle.cells.proofs.Reading.FileRead.{read_cell}
 use Rattle.cells.proofs.WritingBack.BlocksBack.{refs_back}
 use Rattle.cells.proofs.WritingBack.WrittenBack.{whole, seven_back, Told, whole_of, blocks_back, write_told}
@@ -38,17 +41,13 @@ use Rattle.cells.proofs.WritingBack.WrittenBack.{write_read_same}
 use Rattle.cells.proofs.WritingBack.WrittenFew.{written_few}
 use Rattle.cells.proofs.WritingBack.SectionBack.{stored_root}
 use Rattle.cells.proofs.WritingBack.AsRead.{whole_map}
-use Rattle.drawn.specs.Settled.{settled_step, settled_marks, settled_node, settled_junction, settled}
-use Rattle.drawn.specs.Made.{fitted_node, fitted_junction, fitted, stored_node, stored_junction}
-use Rattle.drawn.proofs.FittedCells.{fitted_parts, fitted_all, all_kept}
-use Rattle.drawn.proofs.TidyAsRead.{tidy_as_read, tidy_writes_alike}
+use Rattle.drawn.specs.Settled.{settled_step, settled_node, settled_junction, settled}
 use Rattle.drawn.specs.Made.{Made}
 use Rattle.drawn.proofs.BlocksSettled.{nodes_settled, junctions_settled}
-use Rattle.drawn.specs.Made.{stored}
 
 -- ---- the section that was written, read
 
-module _ (h : Memory) (told : Told h) (t : fitted (whole_of h) ≡ true)
+module _ (h : Memory) (told : Told h) (t : Fitted (whole_of h))
     (maps : every whole_map (whole_of h).junctions ≡ true) where
   abbrev root : Root
   root = root_for h (map length (blocks h))
@@ -58,21 +57,16 @@ module _ (h : Memory) (told : Told h) (t : fitted (whole_of h) ≡ true)
       (whole_of h)
   unfolding cell_from root_for settled
   from_blocks =
-      let f = fitted_parts (whole_of h) t in
-      let t₁ = and_right (is_word h.ynd.vehicle_node_count) _ f.root in
-      let t₂ = and_right (is_word h.ynd.ped_node_count) _ t₁ in
-      let t₃ = and_right (is_word h.ynd.vft) _ t₂ in
       λ i. record {
-        nodes = (nodes_settled h.links h.nodes told.nodes_told f.nodes ∙ sym
-            (map-map settled_node (node_with (map link_of h.links)) h.nodes)) i;
-        junctions = (junctions_settled h.heights h.junctions told.junctions_told f.junctions maps ∙ sym
+        nodes = (nodes_settled h.links h.nodes told.nodes_told t.nodes ∙ sym
+            (map-map settled_node (node_with h.links) h.nodes)) i;
+        junctions = (junctions_settled h.heights h.junctions told.junctions_told t.junctions maps ∙ sym
             (map-map settled_junction (junction_with h.heights) h.junctions)) i;
-        refs = refs_back h.refs f.refs i;
-        vehicles = whole h.ynd.vehicle_node_count (and_left _ _ f.root) i;
-        peds = whole h.ynd.ped_node_count (and_left _ _ t₁) i;
-        vft = whole h.ynd.vft (and_left _ _ t₂) i;
-        words = seven_back h.ynd.unknowns (eqb-true (length h.ynd.unknowns) 7 (and_left _ _ t₃))
-            (and_right (eqb (length h.ynd.unknowns) 7) _ t₃) i;
+        refs = refs_back h.refs t.refs i;
+        vehicles = whole h.ynd.vehicle_node_count t.vehicles i;
+        peds = whole h.ynd.ped_node_count t.peds i;
+        vft = whole h.ynd.vft t.vft i;
+        words = seven_back h.ynd.unknowns t.seven t.words i;
       }
 
   section_settled : file_cell (written h) [] ≡ settled (whole_of h)
@@ -96,19 +90,20 @@ write_read_settles m h s n w = go (write_call m s).answer refl w
     back k b told (Ok tt) e u =
         read_cell (take k t) [] m e ∙ ap (λ (x : List ℕ). file_cell x []) b
         ∙ section_settled (held m) told
-        (ap fitted (whole_held m) ∙ h.fits)
-        (ap (λ (c : Cell). every whole_map c.junctions) (whole_held m) ∙ (tidy_as_read m h.tidy).maps_whole)
+        (rw (whole_held m) h.fits)
+        (ap (λ (c : Cell). every whole_map c.junctions) (whole_held m) ∙ maps_whole m h.tidy)
         ∙ ap settled (whole_held m)
 
     go : (a : Result ℕ Refusal) → (write_call m s).answer ≡ a → (if_written a t m s).answer ≡ Ok n → cell_of
         (if_written a t m s).memory ≡ settled (cell_of m)
     go (Err x) e u = not_refused u
-    go (Ok k) e u = let w = write_told m s k e in back k w.bytes w.told (read_of (take k t) [] m).answer refl u
+    go (Ok k) e u = let w = write_told m (made_sized m h) s k e in back k w.bytes w.told (read_of
+        (take k t) [] m).answer refl u
 
 -- it is accepted exactly as writing is
 pub written_settles : (m : Memory) → Made m → (s : List ℕ) (n : ℕ) → (write_call m s).answer ≡ Ok n
     → ((write_read_of m s).answer ≡ Ok n) × (cell_of (write_read_of m s).memory ≡ settled (cell_of m))
-written_settles m h s n e = let a = (tidy_writes_alike m h.tidy s).0 ∙ e in (a, write_read_settles m h s n a)
+written_settles m h s n e = let a = (made_alike m h s).0 ∙ e in (a, write_read_settles m h s n a)
 
 -- ---- once settled, settled
 
@@ -117,16 +112,11 @@ step_twice_law : (k : ℕ) (x : Float) → k ≤ 5 → settled_step k (to_bits b
     ≡ to_bits binary32 (unstep k (step_of k x))
 step_twice_law k x h = step_again k (step_of k x) h (step_in k x)
 
-pub step_stored : (k : ℕ) (x : Float) → k ≤ 5 → kept_step k (to_bits binary32 (unstep k (step_of k x))) ≡ true
-unfolding kept_step
-step_stored k x h = eq-eqb _ _ (step_twice_law k x h)
+pub step_stored : (k : ℕ) (x : Float) → k ≤ 5 → InSteps k (to_bits binary32 (unstep k (step_of k x)))
+step_stored k x h = step_twice_law k x h
 
 pub step_twice : (k b : ℕ) → k ≤ 5 → settled_step k (settled_step k b) ≡ settled_step k b
 step_twice k b h = step_twice_law k (of_bits binary32 b) h
-
-step_kept : (k b : ℕ) → k ≤ 5 → kept_step k (settled_step k b) ≡ true
-unfolding kept_step
-step_kept k b h = eq-eqb _ _ (step_twice k b h)
 
 pub two : 2 ≤ 5
 two = omega arith
@@ -134,46 +124,80 @@ two = omega arith
 pub five : 5 ≤ 5
 five = omega arith
 
-every_made : {A B : Type 0} (f : B → Bool) (g : A → B) → ((x : A) → f (g x) ≡ true) → (l : List A) → every f (map g l)
-    ≡ true
-unfolding every
-every_made f g e [] = refl
-every_made f g e (x ∷ xs) = and_from (f (g x)) (every f (map g xs)) (e x) (every_made f g e xs)
-
-pub settled_stored : (c : Cell) → stored (settled c) ≡ true
-unfolding stored settled
-settled_stored c = and_from _ _ (every_made stored_node settled_node node c.nodes)
-    (every_made stored_junction settled_junction junction c.junctions)
-  where
-    node : (n : Node) → stored_node (settled_node n) ≡ true
-    node n =
-        and_from _ _ (step_kept 2 n.body.position.x two)
-        (and_from _ _ (step_kept 2 n.body.position.y two) (and_from _ _ (step_kept 5 n.body.position.z five)
-        (eq-eqb (n.body.marks.flags5 % 8 % 8) (n.body.marks.flags5 % 8) (omega arith))))
-
-    junction : (j : Junction) → stored_junction (settled_junction j) ≡ true
-    junction j = and_from _ _ (step_kept 2 j.x two)
-        (and_from _ _ (step_kept 2 j.y two) (and_from _ _ (step_kept 5 j.low five) (step_kept 5 j.high five)))
-
-pub settled_fitted : (c : Cell) → fitted c ≡ true → fitted (settled c) ≡ true
+pub settled_stored : (c : Cell) → Stored (settled c)
 unfolding settled
-settled_fitted c t =
-    let f = fitted_parts c t in
-    fitted_all (settled c) (record {
-      nodes = every_map fitted_node settled_node fitted_node (λ n a. a) c.nodes f.nodes;
-      junctions = every_map fitted_junction settled_junction fitted_junction (λ j a. a) c.junctions f.junctions;
-      refs = f.refs;
-      root = f.root;
-    })
+settled_stored c = record {
+  nodes = All-map StoredNode settled_node c.nodes (All-from_get_or (λ n. StoredNode
+      (settled_node n)) c.nodes no_node (λ i lt.
+      node (node_at c.nodes i)));
+  junctions = All-map StoredJunction settled_junction c.junctions (All-from_get_or (λ j. StoredJunction
+      (settled_junction j)) c.junctions no_junction
+      (λ i lt. junction (junction_at c.junctions i)));
+}
+  where
+    node : (n : Node) → StoredNode (settled_node n)
+    node n = record {
+      x = step_twice 2 n.body.position.x two;
+      y = step_twice 2 n.body.position.y two;
+      z = step_twice 5 n.body.position.z five;
+      flags5 = omega arith;
+    }
+
+    junction : (j : Junction) → StoredJunction (settled_junction j)
+    junction j = record {
+      x = step_twice 2 j.x two;
+      y = step_twice 2 j.y two;
+      low = step_twice 5 j.low five;
+      high = step_twice 5 j.high five;
+    }
+
+pub settled_fitted : (c : Cell) → Fitted c → Fitted (settled c)
+unfolding settled
+settled_fitted c f = record {
+  nodes = All-map FittedNode settled_node c.nodes (All-weaker FittedNode (λ n. FittedNode (settled_node n)) node
+      c.nodes f.nodes);
+  junctions = All-map FittedJunction settled_junction c.junctions (All-weaker FittedJunction
+      (λ j. FittedJunction (settled_junction j)) junction c.junctions f.junctions);
+  refs = f.refs;
+  vehicles = f.vehicles;
+  peds = f.peds;
+  vft = f.vft;
+  seven = f.seven;
+  words = f.words;
+}
+  where
+    node : (n : Node) → FittedNode n → FittedNode (settled_node n)
+    node n h = record {
+      area = h.area;
+      number = h.number;
+      body = record {
+        street_name = h.body.street_name;
+        flags0 = h.body.flags0;
+        flags1 = h.body.flags1;
+        flags2 = h.body.flags2;
+        flags3 = h.body.flags3;
+        flags4 = h.body.flags4;
+        flags5 = omega arith;
+        unused0 = h.body.unused0;
+        unused1 = h.body.unused1;
+        unused2 = h.body.unused2;
+        unused3 = h.body.unused3;
+        unused4 = h.body.unused4;
+      };
+      links = h.links;
+    }
+
+    junction : (j : Junction) → FittedJunction j → FittedJunction (settled_junction j)
+    junction j h = record { width = h.width; height = h.height; values = h.values }
 
 pub settled_whole : (c : Cell) → every whole_map c.junctions ≡ true → every whole_map (settled c).junctions ≡ true
 unfolding settled
 settled_whole c t = every_map whole_map settled_junction whole_map (λ j a. a) c.junctions t
 
 -- storing keeps a settled cell
-pub settled_kept : (m : Memory) → Made m → kept (settled (cell_of m)) ≡ true
+pub settled_kept : (m : Memory) → Made m → Kept (settled (cell_of m))
 settled_kept m h = all_kept (settled (cell_of m)) (settled_fitted (cell_of m) h.fits) (settled_stored (cell_of m))
-    (settled_whole (cell_of m) (tidy_as_read m h.tidy).maps_whole)
+    (settled_whole (cell_of m) (maps_whole m h.tidy))
 
 pub settled_twice : (c : Cell) → settled (settled c) ≡ settled c
 unfolding settled
@@ -196,35 +220,15 @@ settled_twice c = λ i. record {
     flags : (f : ℕ) → f % 8 % 8 ≡ f % 8
     flags f = omega arith
 
-    marks : (k : NodeMarks) → settled_marks (settled_marks k) ≡ settled_marks k
-    marks k = λ i. record {
-      street = k.street;
-      flags0 = k.flags0;
-      flags1 = k.flags1;
-      flags2 = k.flags2;
-      flags3 = k.flags3;
-      flags4 = k.flags4;
-      flags5 = flags k.flags5 i;
-      unused0 = k.unused0;
-      unused1 = k.unused1;
-      unused2 = k.unused2;
-      unused3 = k.unused3;
-      unused4 = k.unused4;
-    }
-
     node : (n : Node) → settled_node (settled_node n) ≡ settled_node n
-    node n = λ i. record {
-      area = n.area;
-      number = n.number;
-      links = n.links;
-      body = record {
+    node n = λ i. record n {
+      body = record n.body {
         position = record {
           x = step_twice 2 n.body.position.x two i;
           y = step_twice 2 n.body.position.y two i;
-          z =
-              step_twice 5 n.body.position.z five i;
+          z = step_twice 5 n.body.position.z five i;
         };
-        marks = marks n.body.marks i;
+        flags5 = flags n.body.flags5 i;
       };
     }
 
@@ -274,4 +278,4 @@ section_means m h s n e =
 pub write_read_stable : (m : Memory) → Made m → (s : List ℕ) (n : ℕ) → (write_read_of m s).answer ≡ Ok n
     → (t : List ℕ) → cell_of (write_read_of (write_read_of m s).memory t).memory ≡ cell_of (write_read_of m s).memory
 write_read_stable m h s n e t = write_read_same (write_read_of m s).memory t
-    (ap kept (write_read_settles m h s n e) ∙ settled_kept m h)
+    (rw (write_read_settles m h s n e) (settled_kept m h))

@@ -11,18 +11,18 @@ use Rattle.numbers.specs.declared.math.Vec3.{Vec3}
 use Rattle.cells.specs.declared.link.PathLink.{PathLink}
 use Rattle.cells.specs.Lists.{every}
 use Rattle.cells.specs.Area.{belongs}
-use Rattle.cells.specs.NodeWords.{area_of, number_of}
+use Rattle.cells.specs.Nodes.{no_entry, no_link}
 use Rattle.cells.specs.NodeAccess.{new_node}
 use Rattle.cells.specs.NewYnd.{new_ynd}
-use Rattle.cells.specs.Words.{node_words, link_words}
 use Rattle.cells.specs.Memory.{Memory, memory, over_limit}
-use Rattle.cells.specs.Cell.{NodeMarks, Link, Node}
+use Rattle.cells.specs.Cell.{Node}
+use Rattle.cells.specs.declared.node_entry.NodeEntry.{NodeEntry}
 use Rattle.cells.specs.CellOf.{nodes_of, junctions_of, refs_of, cell_of}
 use Rattle.cells.specs.Lookup.{first_with, find}
 use Rattle.cells.specs.Edit.{held_in}
 use Rattle.cells.specs.Add.{with_counts, room_for}
 use Rattle.cells.specs.Add as adds
-use Rattle.cells.specs.AddLink.{behind, inserted, ranged, shifted, nodes_after, room_for_link}
+use Rattle.cells.specs.AddLink.{behind, inserted, shifted, nodes_after, room_for_link}
 use Rattle.cells.specs.AddLink as links
 use Rattle.cells.proofs.Forms.EntryFits.{LinkFits}
 use Rattle.walks.specs.Sound.{differing, sound}
@@ -33,7 +33,7 @@ use Rattle.walks.specs.Claim.{Unnoticed}
 use Rattle.drawn.specs.Changes.{Change, new, edit, edited, after, run}
 use Rattle.drawn.specs.Changes.{add_node}
 use Rattle.drawn.specs.Changes.{add_link}
-use Rattle.drawn.specs.Settled.{settled_marks}
+use Rattle.drawn.specs.Settled.{settled_body}
 use Rattle.drawn.specs.Meaning.{is_accepted, run_cell}
 use Rattle.cells.specs.NewYnd.{new_cell}
 use Rattle.drawn.specs.Fits.{AllFit}
@@ -41,7 +41,7 @@ use Rattle.drawn.specs.Made.{AllStored}
 use Rattle.drawn.proofs.StoredDrawing.{yard_demand_3}
 
 abbrev pub lent : Memory
-lent = memory new_ynd (replicate 3 []) (replicate 4 []) [] [] []
+lent = memory new_ynd (replicate 3 no_entry) (replicate 4 no_link) [] [] []
 
 abbrev pub origin : Vec3
 origin = record { x = of_bits binary32 0; y = of_bits binary32 0; z = of_bits binary32 0 }
@@ -59,30 +59,29 @@ yard = run (after lent new) drawing
 
 pub yard_sound : sound (cell_of yard) ≡ true
 unfolding run after edited new_ynd over_limit adds.add_node room_for with_counts links.add_link room_for_link
-    nodes_after inserted shifted ranged behind held_in node_words new_node link_words cell_of nodes_of junctions_of
-    refs_of area_of number_of sound every differing first_with belongs
+    nodes_after inserted shifted behind held_in new_node cell_of nodes_of junctions_of
+    refs_of sound every differing first_with belongs
 yard_sound = refl
 
-pub yard_links : map (λ (n : Node). map (λ (l : Link). l.number) n.links) (cell_of yard).nodes ≡ (1 ∷ 0 ∷ [])
+pub yard_links : map (λ (n : Node). map (λ (l : PathLink). l.node_id) n.links) (cell_of yard).nodes ≡ (1 ∷ 0 ∷ [])
     ∷ (0 ∷ []) ∷ []
 unfolding run after edited new_ynd over_limit adds.add_node room_for with_counts links.add_link room_for_link
-    nodes_after inserted shifted ranged behind held_in node_words new_node link_words cell_of nodes_of
+    nodes_after inserted shifted behind held_in new_node cell_of nodes_of
 yard_links = refl
 
 pub yard_walked : (route (cell_of yard).nodes (0 ∷ 0 ∷ 1 ∷ []) 0).places ≡ 0 ∷ 1 ∷ 0 ∷ 0 ∷ []
 unfolding run after edited new_ynd over_limit adds.add_node room_for with_counts links.add_link room_for_link
-    nodes_after inserted shifted ranged behind held_in node_words new_node link_words cell_of nodes_of area_of
-    number_of route next find belongs first_with
+    nodes_after inserted shifted behind held_in new_node cell_of nodes_of route next find belongs first_with
 yard_walked = refl
 
 -- what the calls mean for the cell, computed without the memory's steps
 pub yard_numbers : map (λ (n : Node). n.number) (run_cell (after lent new) drawing new_cell).nodes ≡ 0 ∷ 1 ∷ []
 unfolding run_cell is_accepted after edited new_ynd over_limit adds.add_node room_for with_counts links.add_link
-    room_for_link nodes_after inserted shifted ranged behind held_in node_words new_node link_words
+    room_for_link nodes_after inserted shifted behind held_in new_node
 yard_numbers = refl
 
 -- of flags5 three bits are stored
-pub three_bits : (b : NodeMarks) → b.flags5 ≡ 9 → (settled_marks b).flags5 ≡ 1
+pub three_bits : (b : NodeEntry) → b.flags5 ≡ 9 → (settled_body b).flags5 ≡ 1
 three_bits b e = rw e refl
 
 link_fits : (k : ℕ) → k < 65536 → LinkFits (link_to k)

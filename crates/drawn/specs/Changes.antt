@@ -35,8 +35,8 @@ pub data Edit : Type 0 where
   put_ref : ℕ → NodeJunctionRef → Edit
   put_junction : ℕ → PathJunction → Edit
   put_height : ℕ → ℕ → ℕ → Edit
-  -- all links of a node, by their words; a junction's heightmap, of this width and height
-  put_links : ℕ → List (List ℕ) → Edit
+  -- all links of a node; a junction's heightmap, of this width and height
+  put_links : ℕ → List PathLink → Edit
   put_heightmap : ℕ → ℕ → ℕ → List ℕ → Edit
   -- shorter lists
   truncate_nodes : ℕ → Edit

@@ -19,7 +19,7 @@ use Rattle.walks.proofs.NewWalks.{move}
 use Rattle.drawn.specs.Tidy.{Tidy}
 use Rattle.drawn.specs.Changes.{Edit, edited, Change, new, after, run}
 use Rattle.drawn.specs.Fits.{EditFits, ChangeFits, AllFit}
-use Rattle.drawn.specs.Made.{Made, stored, AllStored}
+use Rattle.drawn.specs.Made.{Made, Stored, AllStored}
 use Rattle.drawn.specs.Settled.{settled, settled_trail}
 use Rattle.drawn.specs.Settling.{any_writes, first_for}
 use Rattle.drawn.specs.Meaning.{edit_cell, run_cell}
@@ -32,7 +32,7 @@ use Rattle.drawn.specs.Meaning.{edit_cell, run_cell}
 --   AllFit ks               the calls' arguments fit their types, as in a program they do
 --   edit_cell e c           what an accepted edit makes of a cell, one sentence each
 --   settled c               the cell with coordinates in whole steps and flags5 in three bits
---   stored c                whether it has them so already
+--   Stored c                it has them so already
 
 -- ---- every cell that calls make is made
 
@@ -71,7 +71,7 @@ CallsMean = (m : Memory) → Made m → (ks : List Change) → AllFit ks → cel
 -- From every made cell that is sound, with stored coordinates and flags5.
 abbrev pub MadeDemand3 : Type 0
 MadeDemand3 =
-    (m : Memory) → Made m → sound (cell_of m) ≡ true → stored (cell_of m) ≡ true
+    (m : Memory) → Made m → sound (cell_of m) ≡ true → Stored (cell_of m)
     → (ks : List Call) → Unnoticed (cell_of m) m ks
 
 -- Of a yard drawn from a new cell by calls that bring stored coordinates only soundness is asked.

@@ -6,14 +6,16 @@ use Rattle.std.specs.Float.{binary32}
 use Rattle.std.specs.Float.Ieee.{fits}
 use Rattle.records.proofs.RecordBack.{RefFits}
 use Rattle.cells.specs.declared.node.PathNode.{PathNode}
-use Rattle.cells.proofs.Forms.EntryFits.{LinkFits, JunctionFits}
+use Rattle.std.specs.List.{All}
+use Rattle.cells.specs.declared.junction.PathJunction.{PathJunction}
+use Rattle.cells.proofs.Forms.EntryFits.{LinkFits}
 use Rattle.drawn.specs.Changes.{Edit, Change, new, reading, renumbering, write_read, edit}
 use Rattle.drawn.specs.Changes.{add_node, add_link, add_ref, add_junction}
 use Rattle.drawn.specs.Changes.{put_node, set_position, put_link, put_ref, put_junction, put_height}
 use Rattle.drawn.specs.Changes.{put_links, put_heightmap, truncate_nodes, truncate_junctions, truncate_refs}
 use Rattle.drawn.specs.Changes.{set_vft, set_vehicle_node_count, set_ped_node_count, set_unknowns}
 
--- ---- a node
+-- ---- a node, a junction
 
 pub record NodeFits (n : PathNode) : Type 0 where
   pub area_id : n.area_id < 65536
@@ -36,14 +38,19 @@ pub record NodeFits (n : PathNode) : Type 0 where
   pub unused3 : n.unused3 < 4294967296
   pub unused4 : n.unused4 < 65536
 
+pub record JunctionFits (j : PathJunction) : Type 0 where
+  pub x : T (fits binary32 j.position.x)
+  pub y : T (fits binary32 j.position.y)
+  pub min_z : T (fits binary32 j.min_z)
+  pub max_z : T (fits binary32 j.max_z)
+  pub width : j.width < 256
+  pub height : j.height < 256
+  pub heightmap_ptr : j.heightmap_ptr < 4294967296
+
 -- ---- the calls
 
 abbrev pub Bytes : List ℕ → Type 0
 Bytes l = (i : ℕ) → i < length l → get_or l i 0 < 256
-
--- links by their words, each a number of 16 bits
-abbrev pub LinkWordsFit : List (List ℕ) → Type 0
-LinkWordsFit ls = (i k : ℕ) → i < length ls → get_or (get_or ls i []) k 0 < 65536
 
 abbrev pub EditFits : Edit → Type 0
 EditFits (add_node area at) = area < 65536
@@ -56,7 +63,7 @@ EditFits (put_link p k x) = LinkFits x
 EditFits (put_ref p r) = RefFits r
 EditFits (put_junction p j) = JunctionFits j
 EditFits (put_height p k v) = v < 256
-EditFits (put_links p ls) = LinkWordsFit ls
+EditFits (put_links p ls) = All LinkFits ls
 EditFits (put_heightmap p width height values) = (width < 256) × (height < 256) × Bytes values
 EditFits (truncate_nodes k) = Unit {0}
 EditFits (truncate_junctions k) = Unit {0}

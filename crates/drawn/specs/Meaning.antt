@@ -1,16 +1,16 @@
 -- What an accepted call makes of the cell, about the cell alone, and what every list of calls makes of it.
-use Rattle.std.specs.Prelude.{Bool, true, cond, List, [], ◌∷◌, ◌++◌, map, length, set, take}
+use Rattle.std.specs.Prelude.{ℕ, Bool, true, cond, List, [], ◌∷◌, ◌++◌, length, set, take}
 use Rattle.std.specs.Result.{is_ok}
 use Rattle.numbers.specs.Positions.{quantised, dequantised}
-use Rattle.cells.specs.declared.link.PathLink.{PathLink}
+use Rattle.numbers.specs.declared.math.Vec3.{Vec3}
 use Rattle.cells.specs.Memory.{Memory}
 use Rattle.cells.specs.NodeAccess.{new_node}
+use Rattle.cells.specs.EntryForms.{bits_in, node_as_entry, junction_as_entry}
 use Rattle.cells.specs.NewYnd.{new_cell}
-use Rattle.cells.specs.Cell.{Link, Cell, node_at, renumber_cell}
+use Rattle.cells.specs.Cell.{Node, Cell, node_at, renumber_cell}
 use Rattle.cells.specs.StoredCell.{junction_at, links_put, heightmap_put}
 use Rattle.cells.specs.StoredCell.{vft_put, vehicles_put, peds_put, unknowns_put}
-use Rattle.cells.specs.CellOf.{link_of}
-use Rattle.cells.specs.EditedCell.{node_from, node_moved, ref_from, junction_from}
+use Rattle.cells.specs.EditedCell.{node_from, node_moved, junction_from}
 use Rattle.cells.specs.EditedCell.{with_nodes, with_refs, with_junctions, link_to, link_changed, height_changed}
 use Rattle.cells.specs.FileCell.{file_cell}
 use Rattle.cells.specs.Read.{read_of}
@@ -27,42 +27,39 @@ use Rattle.drawn.specs.Settled.{settled}
 
 -- ---- one call
 
-abbrev pub link_from : PathLink → Link
-link_from l = record {
-  area = l.area_id;
-  number = l.node_id;
-  body = record { flags0 = l.flags0; flags1 = l.flags1; flags2 = l.flags2; len = l.length };
-}
+-- a new node of this area and number, its position the stored one
+abbrev pub new_at : ℕ → ℕ → Vec3 → Node
+new_at area k at = node_from [] (node_as_entry (new_node area k (dequantised (quantised at))))
 
 -- One entry more, last, one entry another, a list cut or a word another; all else is as it was.
 abbrev pub edit_cell : Edit → Cell → Cell
 -- one node more, without links; its number is its place, its position the stored one
-edit_cell (add_node area at) c =
-    with_nodes (c.nodes ++ (node_from [] (new_node area (length c.nodes) (dequantised (quantised at))) ∷ [])) c
+edit_cell (add_node area at) c = with_nodes (c.nodes ++ (new_at area (length c.nodes) at ∷ [])) c
 -- the node at p has one link more, last
-edit_cell (add_link p x) c = link_to p (link_from x) c
+edit_cell (add_link p x) c = link_to p x c
 -- one ref more
-edit_cell (add_ref r) c = with_refs (c.refs ++ (ref_from r ∷ [])) c
+edit_cell (add_ref r) c = with_refs (c.refs ++ (r ∷ [])) c
 -- one junction more, with these values
-edit_cell (add_junction j values) c = with_junctions (c.junctions ++ (junction_from values j ∷ [])) c
+edit_cell (add_junction j values) c = with_junctions (c.junctions ++ (junction_from values
+    (junction_as_entry j) ∷ [])) c
 -- the node at p is this one, with the links that it had
-edit_cell (put_node p x) c = with_nodes (set c.nodes p (node_from (node_at c.nodes p).links x)) c
+edit_cell (put_node p x) c = with_nodes (set c.nodes p (node_from (node_at c.nodes p).links (node_as_entry x))) c
 -- the node at p stands at the stored position
 edit_cell (set_position p at) c =
-    with_nodes (set c.nodes p (node_moved (dequantised (quantised at)) (node_at c.nodes p))) c
+    with_nodes (set c.nodes p (node_moved (bits_in (dequantised (quantised at))) (node_at c.nodes p))) c
 -- the link k of the node at p is this one
 edit_cell (put_link p k x) c =
-    with_nodes (set c.nodes p (link_changed k (link_from x) (node_at c.nodes p))) c
+    with_nodes (set c.nodes p (link_changed k x (node_at c.nodes p))) c
 -- the ref at p is this one
-edit_cell (put_ref p r) c = with_refs (set c.refs p (ref_from r)) c
+edit_cell (put_ref p r) c = with_refs (set c.refs p r) c
 -- the junction at p is this one, with the values that it had
 edit_cell (put_junction p j) c =
-    with_junctions (set c.junctions p (junction_from (junction_at c.junctions p).values j)) c
+    with_junctions (set c.junctions p (junction_from (junction_at c.junctions p).values (junction_as_entry j))) c
 -- the value k of the junction at p is this one
 edit_cell (put_height p k v) c =
     with_junctions (set c.junctions p (height_changed k v (junction_at c.junctions p))) c
 -- the links of the node at p are these
-edit_cell (put_links p ls) c = links_put p (map link_of ls) c
+edit_cell (put_links p ls) c = links_put p ls c
 -- the heightmap of the junction at p is this one
 edit_cell (put_heightmap p width height values) c = heightmap_put p width height values c
 -- the first k nodes, junctions or refs are left

@@ -6,7 +6,9 @@ use Rattle.std.specs.Float.{binary32}
 use Rattle.std.specs.Float.Ieee.{of_bits, to_bits}
 use Rattle.numbers.specs.Steps.{step_of, unstep}
 use Rattle.std.proofs.Math.Option.{Option, none, some}
-use Rattle.cells.specs.Cell.{Position, NodeMarks, NodeBody, Node, Junction, Cell}
+use Rattle.cells.specs.declared.node_entry.PositionBits.{PositionBits}
+use Rattle.cells.specs.declared.node_entry.NodeEntry.{NodeEntry}
+use Rattle.cells.specs.Cell.{Node, Junction, Cell}
 use Rattle.walks.specs.Walk.{Seen, Visit, Trail}
 
 -- ---- the cell
@@ -15,40 +17,21 @@ use Rattle.walks.specs.Walk.{Seen, Visit, Trail}
 abbrev pub settled_step : ℕ → ℕ → ℕ
 settled_step k b = to_bits binary32 (unstep k (step_of k (of_bits binary32 b)))
 
-abbrev pub settled_position : Position → Position
+abbrev pub settled_position : PositionBits → PositionBits
 settled_position p = record { x = settled_step 2 p.x; y = settled_step 2 p.y; z = settled_step 5 p.z }
 
-abbrev pub settled_marks : NodeMarks → NodeMarks
-settled_marks n = record {
-  street = n.street;
-  flags0 = n.flags0;
-  flags1 = n.flags1;
-  flags2 = n.flags2;
-  flags3 = n.flags3;
-  flags4 = n.flags4;
-  flags5 = n.flags5 % 8;
-  unused0 = n.unused0;
-  unused1 = n.unused1;
-  unused2 = n.unused2;
-  unused3 = n.unused3;
-  unused4 = n.unused4;
-}
-
-abbrev pub settled_body : NodeBody → NodeBody
-settled_body b = record { position = settled_position b.position; marks = settled_marks b.marks }
+abbrev pub settled_body : NodeEntry → NodeEntry
+settled_body b = record b { position = settled_position b.position; flags5 = b.flags5 % 8 }
 
 abbrev pub settled_node : Node → Node
-settled_node n = record { area = n.area; number = n.number; links = n.links; body = settled_body n.body }
+settled_node n = record n { body = settled_body n.body }
 
 abbrev pub settled_junction : Junction → Junction
-settled_junction j = record {
+settled_junction j = record j {
   x = settled_step 2 j.x;
   y = settled_step 2 j.y;
   low = settled_step 5 j.low;
   high = settled_step 5 j.high;
-  width = j.width;
-  height = j.height;
-  values = j.values;
 }
 
 unfoldable pub settled : Cell → Cell
@@ -61,15 +44,10 @@ settled_option (some j) = some (settled_junction j)
 settled_option none = none
 
 abbrev pub settled_seen : Seen → Seen
-settled_seen s = record {
-  area = s.area;
-  body = settled_body s.body;
-  count = s.count;
-  junction = settled_option s.junction;
-}
+settled_seen s = record s { body = settled_body s.body; junction = settled_option s.junction }
 
 abbrev pub settled_visit : Visit ℕ → Visit ℕ
-settled_visit v = record { place = v.place; seen = settled_seen v.seen; link = v.link }
+settled_visit v = record v { seen = settled_seen v.seen }
 
 abbrev pub settled_trail : Trail ℕ → Trail ℕ
-settled_trail t = record { ending = t.ending; visits = map settled_visit t.visits }
+settled_trail t = record t { visits = map settled_visit t.visits }

@@ -1,17 +1,20 @@
 -- What every cell has that a new cell or reading and any list of public calls made, in the memory lent to them.
-use Rattle.std.specs.Prelude.{ℕ, ◌≤◌, List, [], length, get_or}
-use Rattle.cells.specs.NodeWords.{link_start, link_count, value_start, value_count}
+use Rattle.std.specs.Prelude.{ℕ, ◌≤◌, List, length, get_or}
+use Rattle.cells.specs.declared.node_entry.NodeEntry.{NodeEntry}
+use Rattle.cells.specs.declared.junction_entry.JunctionEntry.{JunctionEntry}
+use Rattle.cells.specs.Nodes.{no_entry, no_map, value_count}
 use Rattle.cells.specs.Memory.{Memory}
 use Rattle.drawn.specs.Separate.{Separate}
 
 -- the ranges of links of n nodes, of l links: inside, and apart
-abbrev pub LinksApart : ℕ → ℕ → List (List ℕ) → Type 0
-LinksApart n l nodes = Separate (λ q. link_start (get_or nodes q [])) (λ q. link_count (get_or nodes q [])) n l
+abbrev pub LinksApart : ℕ → ℕ → List NodeEntry → Type 0
+LinksApart n l nodes =
+    Separate (λ q. (get_or nodes q no_entry).link_id) (λ q. (get_or nodes q no_entry).link_count) n l
 
 -- the ranges of values of n junctions, of l values: inside, and apart. A junction's count of values is width × height.
-abbrev pub ValuesApart : ℕ → ℕ → List (List ℕ) → Type 0
+abbrev pub ValuesApart : ℕ → ℕ → List JunctionEntry → Type 0
 ValuesApart n l junctions =
-    Separate (λ q. value_start (get_or junctions q [])) (λ q. value_count (get_or junctions q [])) n l
+    Separate (λ q. (get_or junctions q no_map).heightmap_ptr) (λ q. value_count (get_or junctions q no_map)) n l
 
 pub record Tidy (m : Memory) : Type 0 where
   -- counts within section 4's limits; a node's count of links is a byte, so at most 255

@@ -1,14 +1,12 @@
 -- What a set's calls make of one member: a cell that joined, one whose links were corrected, one with other words of
 -- its own. Assumes nothing.
-use Rattle.sets.proofs.KeptSet.{link_kept}
+use Rattle.sets.proofs.KeptSet.{links_kept}
 use Prim.Native.Nat.{ℕ, ◌+◌, ◌-◌, ◌≤◌, ◌<◌}
 use native.Mathlib.Omega.{arith}
 use mathlib.Core.Path.{◌≡◌, refl, ap, ◌∙◌}
-use mathlib.Core.Bool.{true}
 use mathlib.Core.List.{List, [], ◌∷◌, map}
 use lib.ListN.{length, get_or, take, drop, length-append, length-map, get_or-append}
 use lib.Seq.{get_or-take, length-take-le}
-use borrow.Author.Tests.{eqb-true}
 use Rattle.cells.specs.Memory.{Memory}
 use Rattle.cells.specs.declared.counts.Counts.{Counts}
 use Rattle.cells.specs.Cell.{Cell}
@@ -16,22 +14,21 @@ use Rattle.cells.specs.CellOf.{cell_of}
 use Rattle.cells.specs.Renumber.{over}
 use Rattle.cells.specs.OwnWords.{with_own}
 use Rattle.cells.specs.Truncate.{counted}
-use Rattle.cells.proofs.Sequences.Tests.{and_left, every_map}
-use Rattle.cells.proofs.WritingBack.KeptCells.{kept_link}
+use Rattle.cells.specs.Nodes.{no_entry, no_map}
+use Rattle.cells.specs.Cell.{Node}
+use Rattle.std.proofs.lemmas.List.Elements.{All-map, All-weaker}
 use Rattle.sets.specs.Members.{cell_at}
 use Rattle.sets.specs.MemberList.{cells_of, member_at}
 use Rattle.sets.specs.CellSet.{CellSet}
 use Rattle.sets.specs.Join.{part_of_cell, joined_member}
-use Rattle.sets.specs.SetRenumber.{Change, correct_link, correct_node, correct_cell, change_of}
-use Rattle.sets.specs.SetRenumber.{correct_memory, correct_words}
+use Rattle.sets.specs.SetRenumber.{Change, correct_node, correct_cell, change_of}
+use Rattle.sets.specs.SetRenumber.{correct_link, correct_memory}
 use Rattle.sets.proofs.SetMemory.{correct_memory_law, cell_at_law}
-use Rattle.drawn.specs.Made.{Made, fitted, fitted_node}
+use Rattle.drawn.specs.Made.{Made, Fitted, FittedNode}
 use Rattle.drawn.specs.Changes.{edit, set_vft, set_vehicle_node_count, set_ped_node_count, set_unknowns, edited}
 use Rattle.drawn.specs.Changes.{after, run}
 use Rattle.drawn.specs.Fits.{AllFit}
 use Rattle.drawn.proofs.FrontTidy.{front_tidy}
-use Rattle.drawn.proofs.FittedCells.{fitted_parts, fitted_all}
-use Rattle.drawn.proofs.Fitted.{root_parts}
 use Rattle.cells.proofs.WritingBack.Kept.{new_small}
 use Rattle.drawn.proofs.EditsMean.{nodes_many}
 use Rattle.drawn.proofs.Made.{run_made}
@@ -40,9 +37,7 @@ use Rattle.drawnsets.specs.AllMade.{WordsFit}
 -- a made cell has seven words
 pub seven_words : (m : Memory) → Made m → length m.ynd.unknowns ≡ 7
 unfolding cell_of
-seven_words m h =
-    eqb-true (length m.ynd.unknowns) 7
-    (and_left _ _ (root_parts (cell_of m) (fitted_parts (cell_of m) h.fits).root).3)
+seven_words m h = h.fits.seven
 
 -- ---- a cell that joined
 
@@ -67,14 +62,15 @@ joined_made ws y m sizes h e =
     let t = h.tidy in
     record {
       tidy = front_tidy m t _ _ _ _ _
-          (λ q lt. part_front _ sizes.nodes m.ynd.node_count m.nodes y.nodes t.nodes_lie q [] lt)
-          (λ q lt. part_front _ sizes.junctions m.ynd.junction_count m.junctions y.junctions t.junctions_lie q [] lt)
+          (λ q lt. part_front _ sizes.nodes m.ynd.node_count m.nodes y.nodes t.nodes_lie q no_entry lt)
+          (λ q lt. part_front _ sizes.junctions m.ynd.junction_count m.junctions y.junctions t.junctions_lie q
+          no_map lt)
           (part_long _ sizes.nodes m.ynd.node_count m.nodes y.nodes t.nodes_lie)
           (part_long _ sizes.links m.ynd.link_count m.links y.links t.links_lie)
           (part_long _ sizes.junctions m.ynd.junction_count m.junctions y.junctions t.junctions_lie)
           (part_long _ sizes.heights m.ynd.heightmap_count m.heights y.heights t.values_lie)
           (part_long _ sizes.refs m.ynd.ref_count m.refs y.refs t.refs_lie);
-      fits = ap fitted e ∙ h.fits;
+      fits = rw e h.fits;
     }
 
 -- ---- a member whose links were corrected
@@ -83,24 +79,33 @@ module _ (cs : List Cell) (j : ℕ) (few : length (cell_at cs j).nodes ≤ 65536
   abbrev x : Change
   x = change_of cs j
 
-  cell_corrected : (c : Cell) → fitted c ≡ true → fitted (correct_cell x i c) ≡ true
-  cell_corrected c t =
-      let f = fitted_parts c t in
-      let kept = link_kept x (λ k. new_small (cell_at cs j).nodes k few) i in
-      fitted_all (correct_cell x i c) (record {
-        nodes = every_map fitted_node (correct_node x i) fitted_node
-            (λ n a. every_map kept_link (correct_link x i) kept_link kept n.links a) c.nodes f.nodes;
-        junctions = f.junctions;
-        refs = f.refs;
-        root = f.root;
-      })
+  cell_corrected : (c : Cell) → Fitted c → Fitted (correct_cell x i c)
+  cell_corrected c f = record {
+    nodes = All-map FittedNode (correct_node x i) c.nodes
+        (All-weaker FittedNode (λ n. FittedNode (correct_node x i n)) node c.nodes f.nodes);
+    junctions = f.junctions;
+    refs = f.refs;
+    vehicles = f.vehicles;
+    peds = f.peds;
+    vft = f.vft;
+    seven = f.seven;
+    words = f.words;
+  }
+    where
+      node : (n : Node) → FittedNode n → FittedNode (correct_node x i n)
+      node n h = record {
+        area = h.area;
+        number = h.number;
+        body = h.body;
+        links = links_kept x (λ k. new_small (cell_at cs j).nodes k few) i n.links h.links;
+      }
 
   pub corrected_made : (m : Memory) → Made m → Made (correct_memory x i m)
   unfolding correct_memory
   corrected_made m h =
       let t = h.tidy in
       let l = m.ynd.link_count in
-      let f = correct_words x i in
+      let f = correct_link x i in
       record {
         tidy = front_tidy m t m.nodes (over (map f) l m.links) m.junctions m.heights m.refs
             (λ q lt. refl) (λ q lt. refl) t.nodes_lie
@@ -111,7 +116,7 @@ module _ (cs : List Cell) (j : ℕ) (few : length (cell_at cs j).nodes ≤ 65536
               length-take-le l m.links t.links_lie,
             ))
             t.junctions_lie t.values_lie t.refs_lie;
-        fits = ap fitted (correct_memory_law x i m) ∙ cell_corrected (cell_of m) h.fits;
+        fits = rw (correct_memory_law x i m) (cell_corrected (cell_of m) h.fits);
       }
 
 -- of a made member that is renumbered

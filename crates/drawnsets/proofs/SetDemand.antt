@@ -1,20 +1,21 @@
 -- T-09's sentence for sets of drawn cells; and what is handed back. Assumes nothing.
 use Prim.Native.Nat.{ℕ, ◌+◌, ◌≤◌, ◌<◌}
 use native.Mathlib.Omega.{arith}
-use mathlib.Core.Path.{◌≡◌, refl, ap, sym, ◌∙◌, subst}
-use mathlib.Core.List.{List, []}
+use mathlib.Core.Path.{◌≡◌, refl, sym, ◌∙◌, subst}
+use mathlib.Core.List.{List}
 use mathlib.Core.Option.{Option, none, some}
 use lib.ListN.{length, get_or, take, drop, length-map, length-append, get_or-append}
 use lib.Seq.{get_or-take, length-take-le}
 use Rattle.std.specs.Prelude.{Ok}
 use Rattle.numbers.proofs.Refusing.{not_refused}
 use Rattle.cells.specs.Memory.{Memory}
-use Rattle.cells.proofs.WritingBack.KeptCells.{kept}
+use Rattle.cells.proofs.WritingBack.KeptCells.{Kept}
+use Rattle.std.proofs.lemmas.List.Elements.{All-from_get_or}
+use Rattle.cells.specs.Nodes.{no_entry, no_map}
 use Rattle.sets.specs.Members.{no_cell}
 use Rattle.sets.specs.MemberList.{member_at, cells_of}
 use Rattle.sets.proofs.CellSetLaws.{members_many}
 use Rattle.sets.proofs.SetCallsUnnoticed.{in_six_lists}
-use Rattle.sets.proofs.SetLists.{every_all}
 use Rattle.sets.proofs.SetMemory.{cell_at_law}
 use Rattle.sets.proofs.SetDemand.{unnoticed}
 use Rattle.sets.specs.CellSet.{CellSet, members_of}
@@ -23,7 +24,7 @@ use Rattle.sets.specs.Leave.{first_of_area, leave_causes}
 use Rattle.sets.specs.HandBack.{copied, leaver_of, leaver, hand_causes, hand_back}
 use Rattle.sets.proofs.HandBackLaws.{copied_cell}
 use Rattle.cells.proofs.Editing.AddLaws.{done_memory}
-use Rattle.drawn.specs.Made.{Made, fitted}
+use Rattle.drawn.specs.Made.{Made}
 use Rattle.drawn.proofs.FrontTidy.{front_tidy}
 use Rattle.drawn.proofs.DrawnDemand.{made_lies, made_kept}
 use Rattle.drawnsets.specs.AllMade.{AllMade}
@@ -35,9 +36,9 @@ made_set_unnoticed ms made is-stored s calls =
     unnoticed ms
     (record {
       is_sound = s;
-      is_kept = every_all kept (cells_of ms) no_cell (λ i lt.
+      is_kept = All-from_get_or Kept (cells_of ms) no_cell (λ i lt.
           let inside = rw length-map at lt in
-          ap kept (cell_at_law ms i) ∙ made_kept (member_at ms i) (made i inside) (is-stored i inside));
+          rw (cell_at_law ms i) (made_kept (member_at ms i) (made i inside) (is-stored i inside)));
     })
     (λ i lt. made_lies (member_at ms i) (made i lt).tidy)
     calls
@@ -72,20 +73,20 @@ copied_made from m h =
     let v = from.ynd in
     record {
       tidy = front_tidy from t _ _ _ _ _
-          (λ q lt. copied_front v.node_count from.nodes m.nodes t.nodes_lie q [] lt)
-          (λ q lt. copied_front v.junction_count from.junctions m.junctions t.junctions_lie q [] lt)
+          (λ q lt. copied_front v.node_count from.nodes m.nodes t.nodes_lie q no_entry lt)
+          (λ q lt. copied_front v.junction_count from.junctions m.junctions t.junctions_lie q no_map lt)
           (copied_long v.node_count from.nodes m.nodes t.nodes_lie)
           (copied_long v.link_count from.links m.links t.links_lie)
           (copied_long v.junction_count from.junctions m.junctions t.junctions_lie)
           (copied_long v.heightmap_count from.heights m.heights t.values_lie)
           (copied_long v.ref_count from.refs m.refs t.refs_lie);
-      fits = ap fitted (copied_cell from m (record {
+      fits = rw (copied_cell from m (record {
         nodes_fit = t.nodes_lie;
         links_fit = t.links_lie;
         junctions_fit = t.junctions_lie;
         heights_fit = t.values_lie;
         refs_fit = t.refs_lie;
-      })) ∙ h.fits;
+      })) h.fits;
     }
 
 -- an accepted call copies the member that the area names

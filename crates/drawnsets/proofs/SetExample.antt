@@ -6,14 +6,13 @@ use mathlib.Core.List.{List, [], ◌∷◌, map}
 use lib.ListN.{replicate}
 use Rattle.cells.specs.Lists.{every}
 use Rattle.cells.specs.NewYnd.{new_ynd}
-use Rattle.cells.specs.NodeWords.{area_of, number_of}
+use Rattle.cells.specs.Nodes.{no_entry, no_link}
 use Rattle.cells.specs.NodeAccess.{new_node}
-use Rattle.cells.specs.Words.{node_words, link_words}
 use Rattle.cells.specs.Memory.{over_limit}
 use Rattle.cells.specs.Edit.{held_in}
 use Rattle.cells.specs.Add.{with_counts, room_for}
 use Rattle.cells.specs.Add as adds
-use Rattle.cells.specs.AddLink.{behind, inserted, ranged, shifted, nodes_after, room_for_link}
+use Rattle.cells.specs.AddLink.{behind, inserted, shifted, nodes_after, room_for_link}
 use Rattle.cells.specs.AddLink as links
 use Rattle.cells.specs.Cell.{Node}
 use Rattle.cells.specs.CellOf.{nodes_of, cell_of}
@@ -37,15 +36,15 @@ use Rattle.drawnsets.specs.AllMade.{AllMade, AllFit}
 use Rattle.drawnsets.proofs.SetMade.{set_drawn}
 
 abbrev nobody : CellSet
-nobody = cell_set [] (replicate 4 []) (replicate 5 []) [] [] []
+nobody = cell_set [] (replicate 4 no_entry) (replicate 5 no_link) [] [] []
 
 abbrev calls : List SetChange
 calls = joining yard (per_list 3 4 0 0 0) ([] ∷ []) ∷ edit 0 (add_node 5 origin) ∷ leaving 6 ∷ []
 
 pub numbers_there : map (λ (n : Node). n.number) (cell_of (member_in (run nobody calls) 0)).nodes ≡ 0 ∷ 1 ∷ 2 ∷ []
 unfolding run after cell.run cell.after edited new_ynd over_limit adds.add_node room_for with_counts links.add_link
-    room_for_link nodes_after inserted shifted ranged behind held_in node_words new_node link_words cell_of nodes_of
-    area_of number_of first_with every map_from nodes_together any_over over_set words_at total ynd_of parts_of
+    room_for_link nodes_after inserted shifted behind held_in new_node cell_of nodes_of first_with every map_from
+    nodes_together any_over over_set words_at total ynd_of parts_of
     parts_in members_of holds_list lack_of set_causes first_of_area leave_causes leave_area part_fits lack_for
     join_causes stored with_cell join_cell ask_causes with_member edit_by add_causes put
 numbers_there = refl
@@ -55,4 +54,4 @@ unfolding AllFit
 calls_fit = (drawn_new lent drawing drawing_fits, (omega arith, (tt, tt)))
 
 pub set_made : AllMade (run nobody calls)
-set_made = set_drawn (replicate 4 []) (replicate 5 []) [] [] [] calls calls_fit
+set_made = set_drawn (replicate 4 no_entry) (replicate 5 no_link) [] [] [] calls calls_fit

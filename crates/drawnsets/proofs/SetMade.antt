@@ -14,6 +14,10 @@ use Rattle.numbers.specs.Refusals.{Cause, when, Answer, decided}
 use Rattle.numbers.specs.declared.refusal.Refusal.{Refusal}
 use Rattle.numbers.specs.declared.refusal.Refusal.TheVariants.{NoSuchPlace}
 use Rattle.numbers.proofs.Refusing.{not_refused}
+use Rattle.cells.specs.declared.node_entry.NodeEntry.{NodeEntry}
+use Rattle.cells.specs.declared.link.PathLink.{PathLink}
+use Rattle.cells.specs.declared.junction_entry.JunctionEntry.{JunctionEntry}
+use Rattle.records.specs.declared.junction_ref.NodeJunctionRef.{NodeJunctionRef}
 use Rattle.cells.specs.Memory.{Memory, Left}
 use Rattle.cells.specs.declared.counts.Counts.{Counts}
 use Rattle.cells.specs.Renumber.{renumber}
@@ -316,7 +320,8 @@ unfolding run AllFit
 members_made y h [] fits = h
 members_made y h (k ∷ ks) fits = members_made (after y k) (after_made y h k fits.0) ks fits.1
 
-empty_made : (nodes links junctions : List (List ℕ)) (heights : List ℕ) (refs : List (List ℕ))
+empty_made : (nodes : List NodeEntry) (links : List PathLink) (junctions : List JunctionEntry) (heights : List ℕ)
+    (refs : List NodeJunctionRef)
     → AllMade (cell_set [] nodes links junctions heights refs)
 empty_made nodes links junctions heights refs i lt =
     absurd (omega (arith, lt, members_many (cell_set [] nodes links junctions heights refs)))

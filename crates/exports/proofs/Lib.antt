@@ -2,3 +2,5 @@
 pub mod Worked
 -- What holds of all texts.
 pub mod TextLaws
+-- A walk's end by its words.
+pub mod EndLaws

@@ -1,12 +1,13 @@
 -- What a caller in C gets of the calls that give a value: an entry, a count, a length written, a lookup, a walk, a
 -- verdict.
-use Rattle.std.specs.Prelude.{ℕ, Bool, true, false, List, [], ◌∷◌, Option, Some, None, Result}
+use Rattle.std.specs.Prelude.{ℕ, Bool, true, false, List, [], ◌∷◌, ◌++◌, Option, Some, None, Result}
 use Rattle.numbers.specs.declared.refusal.Refusal.{Refusal}
 use Rattle.cells.specs.Edit.{Stored}
 use Rattle.cells.specs.declared.counts.Counts.{Counts}
 use Rattle.walks.specs.declared.shown.SeenJunction.{SeenJunction}
 use Rattle.walks.specs.declared.shown.SeenLink.{SeenLink}
 use Rattle.walks.specs.declared.shown.SeenNode.{SeenNode}
+use Rattle.cells.specs.declared.node_entry.NodeEntry.{NodeEntry}
 use Rattle.walks.specs.declared.walk.End.{End}
 use Rattle.walks.specs.declared.walk.End.TheVariants as end
 use Rattle.walks.specs.declared.walk.Walked.{Walked}
@@ -78,14 +79,16 @@ abbrev pub place_or_zero : Option ℕ → ℕ
 place_or_zero (Some i) = i
 place_or_zero None = 0
 
--- area, street, position bits, flags0 to flags5, the five unused fields (T-10), link count, 1 if there is a junction
--- and else 0, the junction's place
-abbrev pub seen_words : SeenNode → List ℕ
-seen_words n =
+-- area, street, position bits, flags0 to flags5, the five unused fields
+abbrev pub entry_words : NodeEntry → List ℕ
+entry_words n =
     n.area_id ∷ n.street_name ∷ n.position.x ∷ n.position.y ∷ n.position.z
     ∷ n.flags0 ∷ n.flags1 ∷ n.flags2 ∷ n.flags3 ∷ n.flags4 ∷ n.flags5
-    ∷ n.unused0 ∷ n.unused1 ∷ n.unused2 ∷ n.unused3 ∷ n.unused4
-    ∷ n.link_count ∷ is_place n.junction ∷ place_or_zero n.junction ∷ []
+    ∷ n.unused0 ∷ n.unused1 ∷ n.unused2 ∷ n.unused3 ∷ n.unused4 ∷ []
+
+-- and behind them link count, 1 if there is a junction and else 0, the junction's place
+abbrev pub seen_words : SeenNode → List ℕ
+seen_words s = entry_words s.node ++ (s.link_count ∷ is_place s.junction ∷ place_or_zero s.junction ∷ [])
 
 -- the bits of corner and heights, width, height
 abbrev pub seen_junction_words : SeenJunction → List ℕ

@@ -7,7 +7,7 @@ abbrev pub library_version : ℕ → ℕ → ℕ → ℕ
 library_version major minor patch = major * 10000 + minor * 100 + patch
 
 abbrev pub version : ℕ
-version = library_version 1 1 0
+version = library_version 1 2 0
 
 -- ---- the texts
 
@@ -27,8 +27,8 @@ texts =
     ∷ codes "heightmap bytes before a junction over 65,535 on writing"
     ∷ codes "refs over 65,535 on writing"
     ∷ codes "heightmap values not width times height"
-    ∷ codes "no such place, a round's start that no node has, or a grid number over 31"
-    ∷ codes "the cell is at or over a limit: 65,536 nodes, 4,096 junctions, 255 links of a node"
+    ∷ codes "no such place or member, area not in the set, round's start that no node has, or grid number over 31"
+    ∷ codes "over a limit: 65,536 nodes of cell or set, 4,096 junctions, 255 links a node, 9 members, 32-bit counts"
     ∷ codes "a round file's first five bytes aren't the mark and a version that the reader takes"
     ∷ codes "a round file under 9 bytes (version 2: 11), or not that plus its count; over 65,535 choices on writing"
     ∷ codes "no walk joins the two places"

@@ -1,9 +1,16 @@
 // What a caller in C gets of a call's answer: its number and place, 0 and 0 where it was accepted.
-ghost use Rattle.std.specs.Prelude.{◌≡◌};
+ghost use Rattle.std.specs.Prelude.{◌≡◌, List, ℕ};
+ghost use Rattle.cells.specs.Memory.{left};
+ghost use Rattle.cells.specs.declared.node_entry.NodeEntry.{NodeEntry};
+ghost use Rattle.cells.specs.declared.link.PathLink.{PathLink};
+ghost use Rattle.cells.specs.declared.junction_entry.JunctionEntry.{JunctionEntry};
+ghost use Rattle.records.specs.declared.junction_ref.NodeJunctionRef.{NodeJunctionRef};
 ghost use Rattle.numbers.specs.Refusals.{number_of, place_of};
 ghost use Rattle.exports.specs.Answers.{answer_number, answer_place};
+ghost use Rattle.exports.specs.Cells.{called, call_of};
 ghost use Rattle.exports.specs.Found.{told, told_of, value_told};
 
+use cells::ynd::Ynd;
 use numbers::refusal::Refusal;
 
 pub(crate) fn refuse(refusal: Refusal, place: &mut usize) -> u32
@@ -53,4 +60,18 @@ pub(crate) fn tell_as<T: Copy, U: Copy, F: Fn(T) -> U>(
         }
         Err(refusal) => refuse(refusal, place),
     }
+}
+
+// The cell's own words after a call on it; a refusal leaves the old ones.
+#[tactic(auto, unfolding(crate::specs::Cells::call_of))]
+pub(crate) fn tell_ynd(r: Result<Ynd, Refusal>, ynd: &mut Ynd, place: &mut usize) -> u32
+    ensures { (nodes : List NodeEntry) (links : List PathLink) (junctions : List JunctionEntry)
+        (refs : List NodeJunctionRef) (heights : List ℕ) →
+        called result place.new ynd.new nodes links junctions heights refs
+        ≡ call_of (left ynd.old r nodes links junctions heights refs) }
+{
+    if let Ok(y) = r {
+        *ynd = y;
+    }
+    answer(r, place)
 }

@@ -1,94 +1,102 @@
-// Entries added. A node, link, junction or ref is lent as its words.
+// Entries added.
 ghost use Rattle.std.specs.Prelude.{◌≡◌, List, ℕ};
 ghost use Rattle.cells.specs.Add.{add_node, add_ref, add_junction};
 ghost use Rattle.cells.specs.AddLink.{add_link};
-ghost use Rattle.cells.specs.Words.{to_link, to_ref, to_junction};
-ghost use Rattle.exports.specs.Cells.{lent, called, call_of};
+ghost use Rattle.exports.specs.Cells.{called, call_of};
+ghost use Rattle.cells.specs.declared.node_entry.NodeEntry.{NodeEntry};
+ghost use Rattle.cells.specs.declared.link.PathLink.{PathLink};
+ghost use Rattle.cells.specs.declared.junction_entry.JunctionEntry.{JunctionEntry};
+ghost use Rattle.records.specs.declared.junction_ref.NodeJunctionRef.{NodeJunctionRef};
+ghost use Rattle.cells.specs.EntryForms.{entry_as_junction};
+ghost use Rattle.cells.specs.Memory.{memory};
 
-use crate::words::{tell_ynd, ynd_of};
+use crate::answers::tell_ynd;
 use cells::junction::PathJunction;
-use cells::junction_ref::ref_of;
+use cells::junction_entry::JunctionEntry;
 use cells::link::PathLink;
-use cells::node::NodeWords;
+use cells::node_entry::NodeEntry;
+use cells::ynd::Ynd;
 use numbers::math::Vec3;
+use records::junction_ref::NodeJunctionRef;
 
 // A node without links behind all others; its number is its place.
 #[unsafe(no_mangle)]
 pub extern "C" fn ynd_add_node(
-    ynd: &mut [u32; 15],
-    nodes: &mut [NodeWords],
+    ynd: &mut Ynd,
+    nodes: &mut [NodeEntry],
     area_id: u16,
     x: f32,
     y: f32,
     z: f32,
     place: &mut usize,
 ) -> u32
-    ensures { (links junctions refs : List (List ℕ)) (heights : List ℕ) →
+    ensures { (links : List PathLink) (junctions : List JunctionEntry) (refs : List NodeJunctionRef)
+        (heights : List ℕ) →
         called result place.new ynd.new nodes.new links junctions heights refs
-        ≡ call_of ynd.old
-        (add_node (lent ynd.old nodes.old links junctions heights refs) area_id
+        ≡ call_of
+        (add_node (memory ynd.old nodes.old links junctions heights refs) area_id
         (record { x = x; y = y; z = z })) }
 {
-    let r = cells::add_node::add_node(ynd_of(*ynd), nodes, area_id, Vec3 { x, y, z });
+    let r = cells::add_node::add_node(*ynd, nodes, area_id, Vec3 { x, y, z });
     tell_ynd(r, ynd, place)
 }
 
 // A link behind those of the node at a place.
 #[unsafe(no_mangle)]
 pub extern "C" fn ynd_add_link(
-    ynd: &mut [u32; 15],
-    nodes: &mut [NodeWords],
-    links: &mut [[u16; 4]],
+    ynd: &mut Ynd,
+    nodes: &mut [NodeEntry],
+    links: &mut [PathLink],
     at: usize,
-    link: &[u16; 4],
+    link: &PathLink,
     place: &mut usize,
 ) -> u32
-    ensures { (junctions refs : List (List ℕ)) (heights : List ℕ) →
+    ensures { (junctions : List JunctionEntry) (refs : List NodeJunctionRef) (heights : List ℕ) →
         called result place.new ynd.new nodes.new links.new junctions heights refs
-        ≡ call_of ynd.old
-        (add_link (lent ynd.old nodes.old links.old junctions heights refs) at
-        (to_link link.now)) }
+        ≡ call_of
+        (add_link (memory ynd.old nodes.old links.old junctions heights refs) at
+        link.now) }
 {
-    let r = cells::add_link::add_link(ynd_of(*ynd), nodes, links, at, PathLink::from(*link));
+    let r = cells::add_link::add_link(*ynd, nodes, links, at, *link);
     tell_ynd(r, ynd, place)
 }
 
 // A ref behind all others. (`added` is the ref: area, number, junction, unk0.)
 #[unsafe(no_mangle)]
 pub extern "C" fn ynd_add_ref(
-    ynd: &mut [u32; 15],
-    refs: &mut [[u16; 4]],
-    added: &[u16; 4],
+    ynd: &mut Ynd,
+    refs: &mut [NodeJunctionRef],
+    added: &NodeJunctionRef,
     place: &mut usize,
 ) -> u32
-    ensures { (nodes links junctions : List (List ℕ)) (heights : List ℕ) →
+    ensures { (nodes : List NodeEntry) (links : List PathLink) (junctions : List JunctionEntry) (heights : List ℕ) →
         called result place.new ynd.new nodes links junctions heights refs.new
-        ≡ call_of ynd.old
-        (add_ref (lent ynd.old nodes links junctions heights refs.old)
-        (to_ref added.now)) }
+        ≡ call_of
+        (add_ref (memory ynd.old nodes links junctions heights refs.old)
+        added.now) }
 {
-    let r = cells::add_ref::add_ref(ynd_of(*ynd), refs, ref_of(*added));
+    let r = cells::add_ref::add_ref(*ynd, refs, *added);
     tell_ynd(r, ynd, place)
 }
 
 // A junction behind all others, its values behind all others.
 #[unsafe(no_mangle)]
 pub extern "C" fn ynd_add_junction(
-    ynd: &mut [u32; 15],
-    junctions: &mut [[u32; 6]],
+    ynd: &mut Ynd,
+    junctions: &mut [JunctionEntry],
     heights: &mut [u8],
-    junction: &[u32; 6],
+    junction: &JunctionEntry,
     values: &[u8],
     place: &mut usize,
 ) -> u32
-    ensures { (nodes links refs : List (List ℕ)) →
+    ensures { (nodes : List NodeEntry) (links : List PathLink) (refs : List NodeJunctionRef) →
         called result place.new ynd.new nodes links junctions.new heights.new refs
-        ≡ call_of ynd.old
-        (add_junction (lent ynd.old nodes links junctions.old heights.old refs)
-        (to_junction junction.now) values.now) }
+        ≡ call_of
+        (add_junction (memory ynd.old nodes links junctions.old heights.old refs)
+        (entry_as_junction junction.now) values.now) }
 {
     let r = cells::add_junction::add_junction(
-        ynd_of(*ynd),
+        *ynd,
         junctions,
         heights,
         PathJunction::from(*junction),

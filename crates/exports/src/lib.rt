@@ -1,8 +1,8 @@
 // The library for programs in C or Rust. Every name begins with `ynd_`. Numbers pass as themselves, a slice as pointer
 // and length, an array as a pointer. A call that can be refused answers with document 01's number, 0 where it was
 // accepted, and leaves the place in the lent `place`; a refusal leaves the other lent cells as they were.
-// A cell is fifteen words (`ynd`) beside five lists: a node is thirteen words, a link four numbers of 16 bits, a
-// junction six words, a heightmap value a byte, a ref four numbers of 16 bits.
+// A cell is an `Ynd` beside five lists, of nodes, links, junctions, heightmap values and refs; each struct has the
+// layout of include/bofrashem.h.
 #![tactic(auto)]
 
 mod answers;
@@ -39,5 +39,4 @@ pub mod storing;
 pub mod texts;
 pub mod walking;
 pub mod walking_indexed;
-mod words;
 pub mod writing;

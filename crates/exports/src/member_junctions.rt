@@ -3,32 +3,33 @@ ghost use Rattle.std.specs.Prelude.{◌≡◌};
 ghost use Rattle.cells.specs.Add.{add_junction};
 ghost use Rattle.cells.specs.Edit.{put_junction, put_height};
 ghost use Rattle.cells.specs.PutHeightmap.{put_heightmap};
-ghost use Rattle.cells.specs.Words.{to_junction};
 ghost use Rattle.sets.specs.CellSet.{cell_set};
 ghost use Rattle.sets.specs.Lent.{Unlent};
 ghost use Rattle.sets.specs.MemberEdit.{edit_member};
 ghost use Rattle.cells.specs.Edit.{heights_left, junctions_left};
 ghost use Rattle.exports.specs.Found.{told};
 ghost use Rattle.exports.specs.SetTold.{edit_told};
+ghost use Rattle.cells.specs.EntryForms.{entry_as_junction};
 
 use crate::answers::answer;
 use cells::junction::PathJunction;
+use cells::junction_entry::JunctionEntry;
 
 // A junction behind all others of the member, its values behind all others.
 #[unsafe(no_mangle)]
 pub extern "C" fn ynd_member_add_junction(
     members: &mut [[u32; 20]],
-    junctions: &mut [[u32; 6]],
+    junctions: &mut [JunctionEntry],
     heights: &mut [u8],
     member: usize,
-    junction: &[u32; 6],
+    junction: &JunctionEntry,
     values: &[u8],
     place: &mut usize,
 ) -> u32
     ensures { (u : Unlent members.old)
         → told result place.new (cell_set members.new u.nodes u.links junctions.new heights.new u.refs)
         ≡ edit_told (edit_member (cell_set members.old u.nodes u.links junctions.old heights.old u.refs) member
-        (λ m. add_junction m (to_junction junction.now) values.now)) }
+        (λ m. add_junction m (entry_as_junction junction.now) values.now)) }
 {
     let r = sets::edit_junctions::add_junction_member(
         members,
@@ -45,7 +46,7 @@ pub extern "C" fn ynd_member_add_junction(
 #[unsafe(no_mangle)]
 pub extern "C" fn ynd_member_put_heightmap(
     members: &mut [[u32; 20]],
-    junctions: &mut [[u32; 6]],
+    junctions: &mut [JunctionEntry],
     heights: &mut [u8],
     member: usize,
     at: usize,
@@ -69,16 +70,16 @@ pub extern "C" fn ynd_member_put_heightmap(
 #[unsafe(no_mangle)]
 pub extern "C" fn ynd_member_put_junction(
     members: &[[u32; 20]],
-    junctions: &mut [[u32; 6]],
+    junctions: &mut [JunctionEntry],
     member: usize,
     at: usize,
-    junction: &[u32; 6],
+    junction: &JunctionEntry,
     place: &mut usize,
 ) -> u32
     ensures { (u : Unlent members.now)
         → told result place.new (cell_set members.now u.nodes u.links junctions.new u.heights u.refs)
         ≡ edit_told (edit_member (cell_set members.now u.nodes u.links junctions.old u.heights u.refs) member
-        (λ m. junctions_left m (put_junction m.ynd m.junctions at (to_junction junction.now)))) }
+        (λ m. junctions_left m (put_junction m.ynd m.junctions at (entry_as_junction junction.now)))) }
 {
     let r = sets::edit_junctions::put_junction_member(
         members,
@@ -94,7 +95,7 @@ pub extern "C" fn ynd_member_put_junction(
 #[unsafe(no_mangle)]
 pub extern "C" fn ynd_member_put_height(
     members: &[[u32; 20]],
-    junctions: &[[u32; 6]],
+    junctions: &[JunctionEntry],
     heights: &mut [u8],
     member: usize,
     at: usize,

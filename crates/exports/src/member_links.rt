@@ -3,7 +3,6 @@ ghost use Rattle.std.specs.Prelude.{◌≡◌};
 ghost use Rattle.cells.specs.AddLink.{add_link};
 ghost use Rattle.cells.specs.Edit.{put_link};
 ghost use Rattle.cells.specs.PutLinks.{put_links};
-ghost use Rattle.cells.specs.Words.{to_link};
 ghost use Rattle.sets.specs.CellSet.{cell_set};
 ghost use Rattle.sets.specs.Lent.{Unlent};
 ghost use Rattle.sets.specs.MemberEdit.{edit_member};
@@ -13,32 +12,25 @@ ghost use Rattle.exports.specs.SetTold.{edit_told};
 
 use crate::answers::answer;
 use cells::link::PathLink;
-use cells::node::NodeWords;
+use cells::node_entry::NodeEntry;
 
 // A link behind those of the node at a place of the member.
 #[unsafe(no_mangle)]
 pub extern "C" fn ynd_member_add_link(
     members: &mut [[u32; 20]],
-    nodes: &mut [NodeWords],
-    links: &mut [[u16; 4]],
+    nodes: &mut [NodeEntry],
+    links: &mut [PathLink],
     member: usize,
     at: usize,
-    link: &[u16; 4],
+    link: &PathLink,
     place: &mut usize,
 ) -> u32
     ensures { (u : Unlent members.old)
         → told result place.new (cell_set members.new nodes.new links.new u.junctions u.heights u.refs)
         ≡ edit_told (edit_member (cell_set members.old nodes.old links.old u.junctions u.heights u.refs) member
-        (λ m. add_link m at (to_link link.now))) }
+        (λ m. add_link m at link.now)) }
 {
-    let r = sets::edit_links::add_link_member(
-        members,
-        nodes,
-        links,
-        member,
-        at,
-        PathLink::from(*link),
-    );
+    let r = sets::edit_links::add_link_member(members, nodes, links, member, at, *link);
     answer(r, place)
 }
 
@@ -46,11 +38,11 @@ pub extern "C" fn ynd_member_add_link(
 #[unsafe(no_mangle)]
 pub extern "C" fn ynd_member_put_links(
     members: &mut [[u32; 20]],
-    nodes: &mut [NodeWords],
-    links: &mut [[u16; 4]],
+    nodes: &mut [NodeEntry],
+    links: &mut [PathLink],
     member: usize,
     at: usize,
-    given: &[[u16; 4]],
+    given: &[PathLink],
     place: &mut usize,
 ) -> u32
     ensures { (u : Unlent members.old)
@@ -66,27 +58,19 @@ pub extern "C" fn ynd_member_put_links(
 #[unsafe(no_mangle)]
 pub extern "C" fn ynd_member_put_link(
     members: &[[u32; 20]],
-    nodes: &[NodeWords],
-    links: &mut [[u16; 4]],
+    nodes: &[NodeEntry],
+    links: &mut [PathLink],
     member: usize,
     at: usize,
     k: usize,
-    link: &[u16; 4],
+    link: &PathLink,
     place: &mut usize,
 ) -> u32
     ensures { (u : Unlent members.now)
         → told result place.new (cell_set members.now nodes.now links.new u.junctions u.heights u.refs)
         ≡ edit_told (edit_member (cell_set members.now nodes.now links.old u.junctions u.heights u.refs) member
-        (λ m. links_left m (put_link m.ynd m.nodes m.links at k (to_link link.now)))) }
+        (λ m. links_left m (put_link m.ynd m.nodes m.links at k link.now))) }
 {
-    let r = sets::edit_links::put_link_member(
-        members,
-        nodes,
-        links,
-        member,
-        at,
-        k,
-        PathLink::from(*link),
-    );
+    let r = sets::edit_links::put_link_member(members, nodes, links, member, at, k, *link);
     answer(r, place)
 }

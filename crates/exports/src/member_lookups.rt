@@ -6,13 +6,14 @@ ghost use Rattle.sets.specs.MemberLookup.{area_id_member, node_member, junction_
 ghost use Rattle.exports.specs.Found.{told, whether, whether_told};
 
 use crate::lookups::tell_found;
-use cells::node::NodeWords;
+use cells::node_entry::NodeEntry;
+use records::junction_ref::NodeJunctionRef;
 
 // The member's area, its first node's.
 #[unsafe(no_mangle)]
 pub extern "C" fn ynd_member_area(
     members: &[[u32; 20]],
-    nodes: &[NodeWords],
+    nodes: &[NodeEntry],
     member: usize,
     found: &mut bool,
     area: &mut u32,
@@ -31,7 +32,7 @@ pub extern "C" fn ynd_member_area(
 #[unsafe(no_mangle)]
 pub extern "C" fn ynd_member_node(
     members: &[[u32; 20]],
-    nodes: &[NodeWords],
+    nodes: &[NodeEntry],
     member: usize,
     node_id: u16,
     found: &mut bool,
@@ -51,8 +52,8 @@ pub extern "C" fn ynd_member_node(
 #[unsafe(no_mangle)]
 pub extern "C" fn ynd_member_junction_of(
     members: &[[u32; 20]],
-    nodes: &[NodeWords],
-    refs: &[[u16; 4]],
+    nodes: &[NodeEntry],
+    refs: &[NodeJunctionRef],
     member: usize,
     area_id: u16,
     node_id: u16,

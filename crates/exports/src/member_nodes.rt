@@ -2,23 +2,24 @@
 // members' parts: they stay as they are.
 ghost use Rattle.std.specs.Prelude.{◌≡◌};
 ghost use Rattle.cells.specs.Edit.{put_node, set_position};
-ghost use Rattle.cells.specs.Words.{to_node};
 ghost use Rattle.sets.specs.CellSet.{cell_set};
 ghost use Rattle.sets.specs.Lent.{Unlent};
 ghost use Rattle.sets.specs.MemberEdit.{add_node_member, edit_member};
 ghost use Rattle.cells.specs.Edit.{nodes_left};
 ghost use Rattle.exports.specs.Found.{told};
 ghost use Rattle.exports.specs.SetTold.{edit_told};
+ghost use Rattle.cells.specs.EntryForms.{entry_as_node};
 
 use crate::answers::answer;
-use cells::node::{NodeWords, PathNode};
+use cells::node::PathNode;
+use cells::node_entry::NodeEntry;
 use numbers::math::Vec3;
 
 // A node without links behind all others of the member; its number is its place.
 #[unsafe(no_mangle)]
 pub extern "C" fn ynd_member_add_node(
     members: &mut [[u32; 20]],
-    nodes: &mut [NodeWords],
+    nodes: &mut [NodeEntry],
     member: usize,
     area_id: u16,
     x: f32,
@@ -39,16 +40,16 @@ pub extern "C" fn ynd_member_add_node(
 #[unsafe(no_mangle)]
 pub extern "C" fn ynd_member_put_node(
     members: &[[u32; 20]],
-    nodes: &mut [NodeWords],
+    nodes: &mut [NodeEntry],
     member: usize,
     at: usize,
-    node: &NodeWords,
+    node: &NodeEntry,
     place: &mut usize,
 ) -> u32
     ensures { (u : Unlent members.now)
         → told result place.new (cell_set members.now nodes.new u.links u.junctions u.heights u.refs)
         ≡ edit_told (edit_member (cell_set members.now nodes.old u.links u.junctions u.heights u.refs) member
-        (λ m. nodes_left m (put_node m.ynd m.nodes at (to_node node.now)))) }
+        (λ m. nodes_left m (put_node m.ynd m.nodes at (entry_as_node node.now)))) }
 {
     let r = sets::edit_nodes::put_node_member(members, nodes, member, at, PathNode::from(*node));
     answer(r, place)
@@ -58,7 +59,7 @@ pub extern "C" fn ynd_member_put_node(
 #[unsafe(no_mangle)]
 pub extern "C" fn ynd_member_set_position(
     members: &[[u32; 20]],
-    nodes: &mut [NodeWords],
+    nodes: &mut [NodeEntry],
     member: usize,
     at: usize,
     x: f32,

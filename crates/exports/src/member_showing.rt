@@ -8,16 +8,19 @@ ghost use Rattle.exports.specs.Found.{told, told_of, value_told, seen_words, see
 
 use crate::answers::{tell, tell_as};
 use crate::showing::{seen_junction_words, seen_link_words, seen_words};
-use cells::node::NodeWords;
+use cells::junction_entry::JunctionEntry;
+use cells::link::PathLink;
+use cells::node_entry::NodeEntry;
+use records::junction_ref::NodeJunctionRef;
 
 // Of the node at a place of the member, as `ynd_shown_node` says it.
 #[unsafe(no_mangle)]
 pub extern "C" fn ynd_member_shown_node(
     members: &[[u32; 20]],
-    nodes: &[NodeWords],
-    links: &[[u16; 4]],
-    junctions: &[[u32; 6]],
-    refs: &[[u16; 4]],
+    nodes: &[NodeEntry],
+    links: &[PathLink],
+    junctions: &[JunctionEntry],
+    refs: &[NodeJunctionRef],
     member: usize,
     at: usize,
     shown: &mut [usize; 19],
@@ -38,7 +41,7 @@ pub extern "C" fn ynd_member_shown_node(
 #[unsafe(no_mangle)]
 pub extern "C" fn ynd_member_shown_junction(
     members: &[[u32; 20]],
-    junctions: &[[u32; 6]],
+    junctions: &[JunctionEntry],
     member: usize,
     at: usize,
     shown: &mut [u32; 6],
@@ -58,7 +61,7 @@ pub extern "C" fn ynd_member_shown_junction(
 #[unsafe(no_mangle)]
 pub extern "C" fn ynd_member_shown_values(
     members: &[[u32; 20]],
-    junctions: &[[u32; 6]],
+    junctions: &[JunctionEntry],
     heights: &[u8],
     member: usize,
     at: usize,
@@ -86,8 +89,8 @@ pub extern "C" fn ynd_member_shown_values(
 #[unsafe(no_mangle)]
 pub extern "C" fn ynd_member_shown_link(
     members: &[[u32; 20]],
-    nodes: &[NodeWords],
-    links: &[[u16; 4]],
+    nodes: &[NodeEntry],
+    links: &[PathLink],
     member: usize,
     at: usize,
     choice: u8,

@@ -6,17 +6,20 @@ ghost use Rattle.exports.specs.Found.{told, value_told};
 ghost use Rattle.exports.specs.SetTold.{rewritten_told};
 
 use crate::answers::tell;
-use cells::node::NodeWords;
+use cells::junction_entry::JunctionEntry;
+use cells::link::PathLink;
+use cells::node_entry::NodeEntry;
+use records::junction_ref::NodeJunctionRef;
 
 // Writes the member into the section; `length` gets how many bytes were written.
 #[unsafe(no_mangle)]
 pub extern "C" fn ynd_member_write(
     members: &[[u32; 20]],
-    nodes: &[NodeWords],
-    links: &[[u16; 4]],
-    junctions: &[[u32; 6]],
+    nodes: &[NodeEntry],
+    links: &[PathLink],
+    junctions: &[JunctionEntry],
     heights: &[u8],
-    refs: &[[u16; 4]],
+    refs: &[NodeJunctionRef],
     member: usize,
     section: &mut [u8],
     length: &mut usize,
@@ -40,11 +43,11 @@ pub extern "C" fn ynd_member_write(
 #[unsafe(no_mangle)]
 pub extern "C" fn ynd_member_write_then_read(
     members: &mut [[u32; 20]],
-    nodes: &mut [NodeWords],
-    links: &mut [[u16; 4]],
-    junctions: &mut [[u32; 6]],
+    nodes: &mut [NodeEntry],
+    links: &mut [PathLink],
+    junctions: &mut [JunctionEntry],
     heights: &mut [u8],
-    refs: &mut [[u16; 4]],
+    refs: &mut [NodeJunctionRef],
     member: usize,
     section: &mut [u8],
     length: &mut usize,

@@ -3,49 +3,46 @@ ghost use Rattle.std.specs.Prelude.{◌≡◌};
 ghost use Rattle.cells.specs.Checks.{count_of};
 ghost use Rattle.cells.specs.NewYnd.{new_ynd};
 ghost use Rattle.cells.specs.Read.{read_of};
-ghost use Rattle.exports.specs.Cells.{ynd_words, lent, called, call_of};
+ghost use Rattle.exports.specs.Cells.{called, call_of};
 ghost use Rattle.exports.specs.Found.{told, told_of, counts_words};
+ghost use Rattle.cells.specs.Memory.{memory};
 
-use crate::answers::tell_as;
-use crate::words::{tell_ynd, ynd_of, ynd_words};
+use crate::answers::{tell_as, tell_ynd};
 use cells::counts::Counts;
-use cells::node::NodeWords;
+use cells::junction_entry::JunctionEntry;
+use cells::link::PathLink;
+use cells::node_entry::NodeEntry;
+use cells::ynd::Ynd;
+use records::junction_ref::NodeJunctionRef;
 
 // A cell that holds nothing.
 #[unsafe(no_mangle)]
-pub extern "C" fn ynd_new(ynd: &mut [u32; 15])
-    ensures { ynd.new ≡ ynd_words new_ynd }
+pub extern "C" fn ynd_new(ynd: &mut Ynd)
+    ensures { ynd.new ≡ new_ynd }
 {
-    *ynd = ynd_words(cells::ynd::Ynd::new());
+    *ynd = Ynd::new();
 }
 
 // Reads a cell from two sections into the memory lent.
 #[unsafe(no_mangle)]
 pub extern "C" fn ynd_read<'a>(
-    ynd: &mut [u32; 15],
+    ynd: &mut Ynd,
     system: &'a [u8],
     graphics: &'a [u8],
-    nodes: &mut [NodeWords],
-    links: &mut [[u16; 4]],
-    junctions: &mut [[u32; 6]],
+    nodes: &mut [NodeEntry],
+    links: &mut [PathLink],
+    junctions: &mut [JunctionEntry],
     heights: &mut [u8],
-    refs: &mut [[u16; 4]],
+    refs: &mut [NodeJunctionRef],
     place: &mut usize,
 ) -> u32
     ensures { called result place.new ynd.new nodes.new links.new junctions.new heights.new refs.new
-        ≡ call_of ynd.old
+        ≡ call_of
         (read_of system.now graphics.now
-        (lent ynd.old nodes.old links.old junctions.old heights.old refs.old)) }
+        (memory ynd.old nodes.old links.old junctions.old heights.old refs.old)) }
 {
     let r = cells::read::read(
-        ynd_of(*ynd),
-        system,
-        graphics,
-        nodes,
-        links,
-        junctions,
-        heights,
-        refs,
+        *ynd, system, graphics, nodes, links, junctions, heights, refs,
     );
     tell_ynd(r, ynd, place)
 }

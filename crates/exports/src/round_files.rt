@@ -3,14 +3,17 @@ ghost use Rattle.std.specs.Prelude.{◌≡◌, List, ℕ};
 ghost use Rattle.rounds.specs.declared.file.Version.TheVariants.{One};
 ghost use Rattle.rounds.specs.Round.{head_bytes, round_read, written};
 ghost use Rattle.rounds.specs.Follow.{follow_round};
-ghost use Rattle.exports.specs.Cells.{lent};
 ghost use Rattle.exports.specs.Found.{told, value_told, trail, walk_told};
 ghost use Rattle.exports.specs.RoundTold.{round};
+ghost use Rattle.cells.specs.declared.junction_entry.JunctionEntry.{JunctionEntry};
+ghost use Rattle.records.specs.declared.junction_ref.NodeJunctionRef.{NodeJunctionRef};
+ghost use Rattle.cells.specs.Memory.{memory};
 
 use crate::answers::{answer, tell};
 use crate::walking::tell_walk;
-use crate::words::ynd_of;
-use cells::node::NodeWords;
+use cells::link::PathLink;
+use cells::node_entry::NodeEntry;
+use cells::ynd::Ynd;
 
 // Reads a round file: `start` gets the start node's number, `choices` the choices, as many as `count` says.
 #[unsafe(no_mangle)]
@@ -58,9 +61,9 @@ pub extern "C" fn ynd_write_round(
 // Walks a round from the node that has the start number. `end`, `count` and `visited` as for `ynd_walk`.
 #[unsafe(no_mangle)]
 pub extern "C" fn ynd_follow_round(
-    ynd: &[u32; 15],
-    nodes: &[NodeWords],
-    links: &[[u16; 4]],
+    ynd: &Ynd,
+    nodes: &[NodeEntry],
+    links: &[PathLink],
     start: u16,
     choices: &[u8],
     visited: &mut [u32],
@@ -68,17 +71,17 @@ pub extern "C" fn ynd_follow_round(
     count: &mut usize,
     place: &mut usize,
 ) -> u32
-    ensures answer { (junctions : List (List ℕ)) (heights : List ℕ) (refs : List (List ℕ)) →
+    ensures answer { (junctions : List JunctionEntry) (heights : List ℕ) (refs : List NodeJunctionRef) →
         told result place.new (trail end.new count.new)
         ≡ walk_told
-        (follow_round (lent ynd.now nodes.now links.now junctions heights refs) start
+        (follow_round (memory ynd.now nodes.now links.now junctions heights refs) start
         choices.now visited.old).answer
         end.old count.old }
-    ensures visited_after { (junctions : List (List ℕ)) (heights : List ℕ) (refs : List (List ℕ)) →
+    ensures visited_after { (junctions : List JunctionEntry) (heights : List ℕ) (refs : List NodeJunctionRef) →
         visited.new
-        ≡ (follow_round (lent ynd.now nodes.now links.now junctions heights refs) start
+        ≡ (follow_round (memory ynd.now nodes.now links.now junctions heights refs) start
         choices.now visited.old).visited }
 {
-    let r = rounds::follow::follow_round(ynd_of(*ynd), nodes, links, start, choices, visited);
+    let r = rounds::follow::follow_round(*ynd, nodes, links, start, choices, visited);
     tell_walk(r, end, count, place)
 }

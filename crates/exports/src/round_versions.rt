@@ -3,16 +3,16 @@ ghost use Rattle.std.specs.Prelude.{◌≡◌, List, ℕ};
 ghost use Rattle.cells.specs.Memory.{memory};
 ghost use Rattle.walks.specs.WalkCall.{walk_left};
 ghost use Rattle.rounds.specs.Round.{version_read, written_left};
-ghost use Rattle.exports.specs.Cells.{lent};
 ghost use Rattle.exports.specs.Found.{told, value_told, trail, walk_told};
 ghost use Rattle.exports.specs.Versions.{version_number, version_area, version_head, version_told};
 ghost use Rattle.exports.specs.Versions.{version_of, written_as, followed_as};
+ghost use Rattle.cells.specs.declared.junction_entry.JunctionEntry.{JunctionEntry};
+ghost use Rattle.records.specs.declared.junction_ref.NodeJunctionRef.{NodeJunctionRef};
 
 use crate::answers::{answer, tell};
 use crate::walking::tell_walk;
-use crate::words::ynd_of;
-use cells::link::LinkWords;
-use cells::node::NodeWords;
+use cells::link::PathLink;
+use cells::node_entry::NodeEntry;
 use cells::ynd::Ynd;
 use numbers::refusal::Refusal;
 use rounds::file::{Version, read_version, write_version};
@@ -115,13 +115,13 @@ struct Begun {
 
 fn follow_as(
     ynd: Ynd,
-    nodes: &[NodeWords],
-    links: &[LinkWords],
+    nodes: &[NodeEntry],
+    links: &[PathLink],
     round: Begun,
     choices: &[u8],
     visited: &mut [u32],
 ) -> Result<Walked, Refusal>
-    ensures { (junctions : List (List ℕ)) (heights : List ℕ) (refs : List (List ℕ))
+    ensures { (junctions : List JunctionEntry) (heights : List ℕ) (refs : List NodeJunctionRef)
         → walk_left result visited.new
         ≡ followed_as (memory ynd nodes.now links.now junctions heights refs) round.version round.area round.start
         choices.now visited.old }
@@ -133,9 +133,9 @@ fn follow_as(
 // Walks a round of the version named, as `ynd_follow_round` walks one of version 1.
 #[unsafe(no_mangle)]
 pub extern "C" fn ynd_follow_round_versioned(
-    ynd: &[u32; 15],
-    nodes: &[NodeWords],
-    links: &[[u16; 4]],
+    ynd: &Ynd,
+    nodes: &[NodeEntry],
+    links: &[PathLink],
     version: u16,
     area: u16,
     start: u16,
@@ -145,23 +145,22 @@ pub extern "C" fn ynd_follow_round_versioned(
     count: &mut usize,
     place: &mut usize,
 ) -> u32
-    ensures by_index { (junctions : List (List ℕ)) (heights : List ℕ) (refs : List (List ℕ)) →
+    ensures answer { (junctions : List JunctionEntry) (heights : List ℕ) (refs : List NodeJunctionRef) →
         told result place.new (trail end.new count.new)
         ≡ walk_told
-        (followed_as (lent ynd.now nodes.now links.now junctions heights refs) version area start
+        (followed_as (memory ynd.now nodes.now links.now junctions heights refs) version area start
         choices.now visited.old).answer
         end.old count.old }
-    ensures by_index_2 { (junctions : List (List ℕ)) (heights : List ℕ) (refs : List (List ℕ)) →
+    ensures visited_after { (junctions : List JunctionEntry) (heights : List ℕ) (refs : List NodeJunctionRef) →
         visited.new
-        ≡ (followed_as (lent ynd.now nodes.now links.now junctions heights refs) version area start
+        ≡ (followed_as (memory ynd.now nodes.now links.now junctions heights refs) version area start
         choices.now visited.old).visited }
 {
-    let y = ynd_of(*ynd);
     let round = Begun {
         version,
         area,
         start,
     };
-    let r = follow_as(y, nodes, links, round, choices, visited);
+    let r = follow_as(*ynd, nodes, links, round, choices, visited);
     tell_walk(r, end, count, place)
 }

@@ -8,21 +8,26 @@ ghost use Rattle.sets.specs.RenumberMember.{renumber_member};
 ghost use Rattle.sets.specs.SetSoundCall.{set_sound_call};
 ghost use Rattle.exports.specs.Answers.{answer_number, answer_place};
 ghost use Rattle.exports.specs.Found.{told, trail, walk_told, value_told};
+ghost use Rattle.cells.specs.declared.junction_entry.JunctionEntry.{JunctionEntry};
+ghost use Rattle.records.specs.declared.junction_ref.NodeJunctionRef.{NodeJunctionRef};
 
 use crate::answers::{answer, tell};
 use crate::walking::tell_walk;
-use cells::node::NodeWords;
+use cells::junction_entry::JunctionEntry;
+use cells::link::PathLink;
+use cells::node_entry::NodeEntry;
+use records::junction_ref::NodeJunctionRef;
 
 // Renumbers a member, and corrects the links of the others that name it. `places` gets each of its nodes' new place;
 // the scratch holds anything after an accepted call.
 #[unsafe(no_mangle)]
 pub extern "C" fn ynd_set_renumber(
     members: &mut [[u32; 20]],
-    nodes: &mut [NodeWords],
-    links: &mut [[u16; 4]],
-    junctions: &[[u32; 6]],
+    nodes: &mut [NodeEntry],
+    links: &mut [PathLink],
+    junctions: &[JunctionEntry],
     heights: &[u8],
-    refs: &mut [[u16; 4]],
+    refs: &mut [NodeJunctionRef],
     scratch: &mut [u32],
     places: &mut [u32],
     member: usize,
@@ -57,8 +62,8 @@ pub extern "C" fn ynd_set_renumber(
 #[unsafe(no_mangle)]
 pub extern "C" fn ynd_set_crossing_walk(
     members: &[[u32; 20]],
-    nodes: &[NodeWords],
-    links: &[[u16; 4]],
+    nodes: &[NodeEntry],
+    links: &[PathLink],
     member: usize,
     start: usize,
     choices: &[u8],
@@ -67,11 +72,11 @@ pub extern "C" fn ynd_set_crossing_walk(
     count: &mut usize,
     place: &mut usize,
 ) -> u32
-    ensures by_index { (junctions : List (List ℕ)) (heights : List ℕ) (refs : List (List ℕ)) →
+    ensures by_index { (junctions : List JunctionEntry) (heights : List ℕ) (refs : List NodeJunctionRef) →
         told result place.new (trail end.new count.new)
         ≡ walk_told (cross_member (cell_set members.now nodes.now links.now junctions heights refs) choices.now
         (location member start) visited.old).answer end.old count.old }
-    ensures by_index_2 { (junctions : List (List ℕ)) (heights : List ℕ) (refs : List (List ℕ)) → visited.new
+    ensures by_index_2 { (junctions : List JunctionEntry) (heights : List ℕ) (refs : List NodeJunctionRef) → visited.new
         ≡ (cross_member (cell_set members.now nodes.now links.now junctions heights refs) choices.now
         (location member start) visited.old).visited }
 {
@@ -83,17 +88,17 @@ pub extern "C" fn ynd_set_crossing_walk(
 #[unsafe(no_mangle)]
 pub extern "C" fn ynd_set_sound(
     members: &[[u32; 20]],
-    nodes: &[NodeWords],
-    links: &[[u16; 4]],
-    refs: &[[u16; 4]],
+    nodes: &[NodeEntry],
+    links: &[PathLink],
+    refs: &[NodeJunctionRef],
     scratch: &mut [u32],
     sound: &mut bool,
     place: &mut usize,
 ) -> u32
-    ensures by_index { (junctions : List (List ℕ)) (heights : List ℕ) → told result place.new sound.new
+    ensures by_index { (junctions : List JunctionEntry) (heights : List ℕ) → told result place.new sound.new
         ≡ value_told (set_sound_call (cell_set members.now nodes.now links.now junctions heights refs.now)
         scratch.old).answer sound.old }
-    ensures by_index_2 { (junctions : List (List ℕ)) (heights : List ℕ) → scratch.new
+    ensures by_index_2 { (junctions : List JunctionEntry) (heights : List ℕ) → scratch.new
         ≡ (set_sound_call (cell_set members.now nodes.now links.now junctions heights refs.now) scratch.old).scratch }
 {
     tell(

@@ -7,11 +7,14 @@ ghost use Rattle.sets.specs.Leave.{first_of_area};
 ghost use Rattle.sets.specs.Lent.{Unlent};
 ghost use Rattle.exports.specs.Found.{told, trail, walk_told, whether, found_at};
 ghost use Rattle.exports.specs.SetTold.{set_followed_as};
+ghost use Rattle.cells.specs.declared.link.PathLink.{PathLink};
+ghost use Rattle.cells.specs.declared.junction_entry.JunctionEntry.{JunctionEntry};
+ghost use Rattle.records.specs.declared.junction_ref.NodeJunctionRef.{NodeJunctionRef};
 
 use crate::round_versions::version_of;
 use crate::walking::tell_walk;
-use cells::link::LinkWords;
-use cells::node::NodeWords;
+use cells::link::PathLink;
+use cells::node_entry::NodeEntry;
 use numbers::refusal::Refusal;
 use set_rounds::follow::follow_round_in_set;
 use sets::crossing::LocationWords;
@@ -22,12 +25,13 @@ use walks::walk::Walked;
 #[unsafe(no_mangle)]
 pub extern "C" fn ynd_set_member_of_area(
     members: &[[u32; 20]],
-    nodes: &[NodeWords],
+    nodes: &[NodeEntry],
     area: u16,
     found: &mut bool,
     member: &mut usize,
 )
-    ensures { (links junctions refs : List (List ℕ)) (heights : List ℕ) → whether found.new member.new
+    ensures { (links : List PathLink) (junctions : List JunctionEntry) (refs : List NodeJunctionRef)
+        (heights : List ℕ) → whether found.new member.new
         ≡ found_at member.old
         (place_of (first_of_area (cell_set members.now nodes.now links junctions heights refs) area)) }
 {
@@ -52,8 +56,8 @@ struct BegunInSet {
 
 fn follow_as(
     members: &[MemberWords],
-    nodes: &[NodeWords],
-    links: &[LinkWords],
+    nodes: &[NodeEntry],
+    links: &[PathLink],
     round: BegunInSet,
     choices: &[u8],
     visited: &mut [LocationWords],
@@ -81,8 +85,8 @@ fn follow_as(
 #[unsafe(no_mangle)]
 pub extern "C" fn ynd_set_follow_round(
     members: &[[u32; 20]],
-    nodes: &[NodeWords],
-    links: &[[u16; 4]],
+    nodes: &[NodeEntry],
+    links: &[PathLink],
     version: u16,
     area: u16,
     member: usize,

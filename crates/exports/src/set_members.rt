@@ -4,14 +4,17 @@ ghost use Rattle.std.specs.Prelude.{◌≡◌};
 ghost use Rattle.sets.specs.CellSet.{cell_set};
 ghost use Rattle.sets.specs.Join.{join_cell};
 ghost use Rattle.sets.specs.Leave.{leave_area};
-ghost use Rattle.exports.specs.Cells.{lent};
 ghost use Rattle.exports.specs.Found.{told};
 ghost use Rattle.exports.specs.SetTold.{sizes_given, change_told};
+ghost use Rattle.cells.specs.Memory.{memory};
 
 use crate::answers::tell;
-use crate::words::ynd_of;
 use cells::counts::Counts;
-use cells::node::NodeWords;
+use cells::junction_entry::JunctionEntry;
+use cells::link::PathLink;
+use cells::node_entry::NodeEntry;
+use cells::ynd::Ynd;
+use records::junction_ref::NodeJunctionRef;
 
 fn sizes_of(s: [usize; 5]) -> Counts
     ensures { result ≡ sizes_given s }
@@ -32,32 +35,31 @@ fn sizes_of(s: [usize; 5]) -> Counts
 pub extern "C" fn ynd_set_join(
     count: &mut usize,
     members: &mut [[u32; 20]],
-    nodes: &mut [NodeWords],
-    links: &mut [[u16; 4]],
-    junctions: &mut [[u32; 6]],
+    nodes: &mut [NodeEntry],
+    links: &mut [PathLink],
+    junctions: &mut [JunctionEntry],
     heights: &mut [u8],
-    refs: &mut [[u16; 4]],
-    ynd: &[u32; 15],
-    new_nodes: &[NodeWords],
-    new_links: &[[u16; 4]],
-    new_junctions: &[[u32; 6]],
+    refs: &mut [NodeJunctionRef],
+    ynd: &Ynd,
+    new_nodes: &[NodeEntry],
+    new_links: &[PathLink],
+    new_junctions: &[JunctionEntry],
     new_heights: &[u8],
-    new_refs: &[[u16; 4]],
+    new_refs: &[NodeJunctionRef],
     sizes: &[usize; 5],
     place: &mut usize,
 ) -> u32
     ensures lists_after { cell_set members.new nodes.new links.new junctions.new heights.new refs.new
         ≡ (join_cell count.old
         (cell_set members.old nodes.old links.old junctions.old heights.old refs.old)
-        (lent ynd.now new_nodes.now new_links.now new_junctions.now new_heights.now new_refs.now)
+        (memory ynd.now new_nodes.now new_links.now new_junctions.now new_heights.now new_refs.now)
         (sizes_given sizes.now)).lists }
     ensures count_after { told result place.new count.new
         ≡ change_told (join_cell count.old
         (cell_set members.old nodes.old links.old junctions.old heights.old refs.old)
-        (lent ynd.now new_nodes.now new_links.now new_junctions.now new_heights.now new_refs.now)
+        (memory ynd.now new_nodes.now new_links.now new_junctions.now new_heights.now new_refs.now)
         (sizes_given sizes.now)) count.old }
 {
-    let y = ynd_of(*ynd);
     let s = sizes_of(*sizes);
     let r = sets::join::join(
         *count,
@@ -67,7 +69,7 @@ pub extern "C" fn ynd_set_join(
         junctions,
         heights,
         refs,
-        y,
+        *ynd,
         new_nodes,
         new_links,
         new_junctions,
@@ -83,11 +85,11 @@ pub extern "C" fn ynd_set_join(
 #[unsafe(no_mangle)]
 pub extern "C" fn ynd_set_leave(
     members: &mut [[u32; 20]],
-    nodes: &mut [NodeWords],
-    links: &mut [[u16; 4]],
-    junctions: &mut [[u32; 6]],
+    nodes: &mut [NodeEntry],
+    links: &mut [PathLink],
+    junctions: &mut [JunctionEntry],
     heights: &mut [u8],
-    refs: &mut [[u16; 4]],
+    refs: &mut [NodeJunctionRef],
     area: u16,
     count: &mut usize,
     place: &mut usize,

@@ -4,104 +4,111 @@ ghost use Rattle.cells.specs.OwnWords.{with_vft, with_vehicles, with_peds, with_
 ghost use Rattle.cells.specs.Truncate.{truncate_nodes, truncate_junctions, truncate_refs};
 ghost use Rattle.cells.specs.PutLinks.{put_links};
 ghost use Rattle.cells.specs.PutHeightmap.{put_heightmap};
-ghost use Rattle.exports.specs.Cells.{to_ynd, ynd_words, lent, called, call_of};
+ghost use Rattle.exports.specs.Cells.{called, call_of};
+ghost use Rattle.cells.specs.declared.node_entry.NodeEntry.{NodeEntry};
+ghost use Rattle.cells.specs.declared.link.PathLink.{PathLink};
+ghost use Rattle.cells.specs.declared.junction_entry.JunctionEntry.{JunctionEntry};
+ghost use Rattle.records.specs.declared.junction_ref.NodeJunctionRef.{NodeJunctionRef};
+ghost use Rattle.cells.specs.Memory.{memory};
 
-use crate::words::{tell_ynd, ynd_of, ynd_words};
-use cells::node::NodeWords;
+use crate::answers::tell_ynd;
+use cells::junction_entry::JunctionEntry;
+use cells::link::PathLink;
+use cells::node_entry::NodeEntry;
+use cells::ynd::Ynd;
 
 #[unsafe(no_mangle)]
-pub extern "C" fn ynd_set_vft(ynd: &mut [u32; 15], vft: u32)
-    ensures { ynd.new ≡ ynd_words (with_vft (to_ynd ynd.old) vft) }
+pub extern "C" fn ynd_set_vft(ynd: &mut Ynd, vft: u32)
+    ensures { ynd.new ≡ with_vft ynd.old vft }
 {
-    *ynd = ynd_words(ynd_of(*ynd).set_vft(vft));
+    *ynd = ynd.set_vft(vft);
 }
 
 #[unsafe(no_mangle)]
-pub extern "C" fn ynd_set_vehicle_node_count(ynd: &mut [u32; 15], count: u32)
-    ensures { ynd.new ≡ ynd_words (with_vehicles (to_ynd ynd.old) count) }
+pub extern "C" fn ynd_set_vehicle_node_count(ynd: &mut Ynd, count: u32)
+    ensures { ynd.new ≡ with_vehicles ynd.old count }
 {
-    *ynd = ynd_words(ynd_of(*ynd).set_vehicle_node_count(count));
+    *ynd = ynd.set_vehicle_node_count(count);
 }
 
 #[unsafe(no_mangle)]
-pub extern "C" fn ynd_set_ped_node_count(ynd: &mut [u32; 15], count: u32)
-    ensures { ynd.new ≡ ynd_words (with_peds (to_ynd ynd.old) count) }
+pub extern "C" fn ynd_set_ped_node_count(ynd: &mut Ynd, count: u32)
+    ensures { ynd.new ≡ with_peds ynd.old count }
 {
-    *ynd = ynd_words(ynd_of(*ynd).set_ped_node_count(count));
+    *ynd = ynd.set_ped_node_count(count);
 }
 
 #[unsafe(no_mangle)]
-pub extern "C" fn ynd_set_unknowns(ynd: &mut [u32; 15], unknowns: &[u32; 7])
-    ensures { ynd.new ≡ ynd_words (with_unknowns (to_ynd ynd.old) unknowns.now) }
+pub extern "C" fn ynd_set_unknowns(ynd: &mut Ynd, unknowns: &[u32; 7])
+    ensures { ynd.new ≡ with_unknowns ynd.old unknowns.now }
 {
-    *ynd = ynd_words(ynd_of(*ynd).set_unknowns(*unknowns));
+    *ynd = ynd.set_unknowns(*unknowns);
 }
 
 // The first `count` nodes stay.
 #[unsafe(no_mangle)]
-pub extern "C" fn ynd_truncate_nodes(ynd: &mut [u32; 15], count: usize, place: &mut usize) -> u32
-    ensures { (nodes links junctions refs : List (List ℕ)) (heights : List ℕ) →
+pub extern "C" fn ynd_truncate_nodes(ynd: &mut Ynd, count: usize, place: &mut usize) -> u32
+    ensures { (nodes : List NodeEntry) (links : List PathLink) (junctions : List JunctionEntry)
+        (refs : List NodeJunctionRef) (heights : List ℕ) →
         called result place.new ynd.new nodes links junctions heights refs
-        ≡ call_of ynd.old
-        (truncate_nodes (lent ynd.old nodes links junctions heights refs) count) }
+        ≡ call_of
+        (truncate_nodes (memory ynd.old nodes links junctions heights refs) count) }
 {
-    let r = cells::truncate::truncate_nodes(ynd_of(*ynd), count);
+    let r = cells::truncate::truncate_nodes(*ynd, count);
     tell_ynd(r, ynd, place)
 }
 
 // The first `count` junctions stay.
 #[unsafe(no_mangle)]
-pub extern "C" fn ynd_truncate_junctions(
-    ynd: &mut [u32; 15],
-    count: usize,
-    place: &mut usize,
-) -> u32
-    ensures { (nodes links junctions refs : List (List ℕ)) (heights : List ℕ) →
+pub extern "C" fn ynd_truncate_junctions(ynd: &mut Ynd, count: usize, place: &mut usize) -> u32
+    ensures { (nodes : List NodeEntry) (links : List PathLink) (junctions : List JunctionEntry)
+        (refs : List NodeJunctionRef) (heights : List ℕ) →
         called result place.new ynd.new nodes links junctions heights refs
-        ≡ call_of ynd.old
-        (truncate_junctions (lent ynd.old nodes links junctions heights refs) count) }
+        ≡ call_of
+        (truncate_junctions (memory ynd.old nodes links junctions heights refs) count) }
 {
-    let r = cells::truncate::truncate_junctions(ynd_of(*ynd), count);
+    let r = cells::truncate::truncate_junctions(*ynd, count);
     tell_ynd(r, ynd, place)
 }
 
 // The first `count` refs stay.
 #[unsafe(no_mangle)]
-pub extern "C" fn ynd_truncate_refs(ynd: &mut [u32; 15], count: usize, place: &mut usize) -> u32
-    ensures { (nodes links junctions refs : List (List ℕ)) (heights : List ℕ) →
+pub extern "C" fn ynd_truncate_refs(ynd: &mut Ynd, count: usize, place: &mut usize) -> u32
+    ensures { (nodes : List NodeEntry) (links : List PathLink) (junctions : List JunctionEntry)
+        (refs : List NodeJunctionRef) (heights : List ℕ) →
         called result place.new ynd.new nodes links junctions heights refs
-        ≡ call_of ynd.old
-        (truncate_refs (lent ynd.old nodes links junctions heights refs) count) }
+        ≡ call_of
+        (truncate_refs (memory ynd.old nodes links junctions heights refs) count) }
 {
-    let r = cells::truncate::truncate_refs(ynd_of(*ynd), count);
+    let r = cells::truncate::truncate_refs(*ynd, count);
     tell_ynd(r, ynd, place)
 }
 
 // The links of the node at a place are the given ones.
 #[unsafe(no_mangle)]
 pub extern "C" fn ynd_put_links(
-    ynd: &mut [u32; 15],
-    nodes: &mut [NodeWords],
-    links: &mut [[u16; 4]],
+    ynd: &mut Ynd,
+    nodes: &mut [NodeEntry],
+    links: &mut [PathLink],
     at: usize,
-    given: &[[u16; 4]],
+    given: &[PathLink],
     place: &mut usize,
 ) -> u32
-    ensures { (junctions refs : List (List ℕ)) (heights : List ℕ) →
+    ensures { (junctions : List JunctionEntry) (refs : List NodeJunctionRef) (heights : List ℕ) →
         called result place.new ynd.new nodes.new links.new junctions heights refs
-        ≡ call_of ynd.old
-        (put_links (lent ynd.old nodes.old links.old junctions heights refs) at
+        ≡ call_of
+        (put_links (memory ynd.old nodes.old links.old junctions heights refs) at
         given.now) }
 {
-    let r = cells::put_links::put_links(ynd_of(*ynd), nodes, links, at, given);
+    let r = cells::put_links::put_links(*ynd, nodes, links, at, given);
     tell_ynd(r, ynd, place)
 }
 
 // The heightmap of the junction at a place is the given one.
 #[unsafe(no_mangle)]
 pub extern "C" fn ynd_put_heightmap(
-    ynd: &mut [u32; 15],
-    junctions: &mut [[u32; 6]],
+    ynd: &mut Ynd,
+    junctions: &mut [JunctionEntry],
     heights: &mut [u8],
     at: usize,
     width: u8,
@@ -109,20 +116,14 @@ pub extern "C" fn ynd_put_heightmap(
     values: &[u8],
     place: &mut usize,
 ) -> u32
-    ensures { (nodes links refs : List (List ℕ)) →
+    ensures { (nodes : List NodeEntry) (links : List PathLink) (refs : List NodeJunctionRef) →
         called result place.new ynd.new nodes links junctions.new heights.new refs
-        ≡ call_of ynd.old
-        (put_heightmap (lent ynd.old nodes links junctions.old heights.old refs) at
+        ≡ call_of
+        (put_heightmap (memory ynd.old nodes links junctions.old heights.old refs) at
         width height values.now) }
 {
     let r = cells::put_heightmap::put_heightmap(
-        ynd_of(*ynd),
-        junctions,
-        heights,
-        at,
-        width,
-        height,
-        values,
+        *ynd, junctions, heights, at, width, height, values,
     );
     tell_ynd(r, ynd, place)
 }

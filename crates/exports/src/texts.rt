@@ -7,7 +7,7 @@ ghost use Rattle.exports.specs.Texts.{version, text_of, text_put};
 pub extern "C" fn ynd_version() -> u32
     ensures { result ≡ version }
 {
-    10100
+    10200
 }
 
 // What refusal `number` is about.
@@ -30,8 +30,10 @@ fn text_of(number: u32) -> &'static [u8]
         10 => b"heightmap bytes before a junction over 65,535 on writing",
         11 => b"refs over 65,535 on writing",
         12 => b"heightmap values not width times height",
-        13 => b"no such place, a round's start that no node has, or a grid number over 31",
-        14 => b"the cell is at or over a limit: 65,536 nodes, 4,096 junctions, 255 links of a node",
+        13 =>
+            b"no such place or member, area not in the set, round's start that no node has, or grid number over 31",
+        14 =>
+            b"over a limit: 65,536 nodes of cell or set, 4,096 junctions, 255 links a node, 9 members, 32-bit counts",
         15 =>
             b"a round file's first five bytes aren't the mark and a version that the reader takes",
         16 =>

@@ -1,3 +1,4 @@
+pub mod IndexLaws
 pub mod PlaceLaws
 pub mod WalkLaws
 pub mod Worked

@@ -1,9 +1,12 @@
 -- The call `walk_indexed`: `walk`, lent a scratch by which a number's node is found at once.
-use Rattle.std.specs.Prelude.{ℕ, List, [], ◌∷◌, leb, ltb, length, Ok, Err}
+use Rattle.std.specs.Prelude.{ℕ, suc, List, [], ◌∷◌, leb, ltb, length, map, set, take, Result, Ok, Err}
 use Rattle.numbers.specs.Refusals.{Cause, Answer, when, decided}
+use Rattle.numbers.specs.declared.refusal.Refusal.{Refusal}
 use Rattle.numbers.specs.declared.refusal.Refusal.TheVariants.{TooShort, NoSuchPlace, AtLimit}
 use Rattle.numbers.specs.declared.refusal.Lent.TheVariants as lent
 use Rattle.cells.specs.Memory.{Memory, over_limit}
+use Rattle.cells.specs.Nodes.{number_of}
+use Rattle.cells.specs.declared.node_entry.NodeEntry.{NodeEntry}
 use Rattle.cells.specs.declared.ynd.Ynd.{Ynd}
 use Rattle.walks.specs.WalkCall.{WalkLeft, walk_left, walk_call}
 
@@ -16,7 +19,6 @@ indexed_causes y nodes links start room =
     ∷ when (ltb nodes y.node_count) (TooShort lent.Nodes) ∷ when (ltb links y.link_count) (TooShort lent.Links)
     ∷ when (ltb room 65536) (TooShort lent.Scratch) ∷ []
 
--- Once this is passed the scratch may hold anything, after refusals too; before, a refusal leaves it as it was.
 abbrev pub asked : Ynd → ℕ → ℕ → ℕ → ℕ → Answer
 asked y nodes links start room = decided (indexed_causes y nodes links start room)
 
@@ -30,3 +32,14 @@ and_walked (Err cause) walked visited = walk_left (Err cause) visited
 unfoldable pub walk_indexed : Memory → ℕ → List ℕ → ℕ → List ℕ → WalkLeft
 walk_indexed m room choices start visited =
     and_walked (asked m.ynd (length m.nodes) (length m.links) start room) (walk_call m choices start visited) visited
+
+-- The scratch after each number's place was stored at the number, places from i up: of equal numbers the first one's
+-- place stays. Other entries are as they were.
+unfoldable pub first_indexed : List ℕ → ℕ → List ℕ → List ℕ
+first_indexed [] i s = s
+first_indexed (k ∷ ks) i s = set (first_indexed ks (suc i) s) k i
+
+-- what the call leaves in the scratch: the index of the cell's numbers; a refusal leaves it as it was
+abbrev pub index_left : {A : Type 0} → Result A Refusal → Ynd → List NodeEntry → List ℕ → List ℕ
+index_left (Ok _) y nodes scratch = first_indexed (map number_of (take y.node_count nodes)) 0 scratch
+index_left (Err cause) y nodes scratch = scratch

@@ -1,32 +1,35 @@
 // A walk in which a node is found by a lent index of the numbers.
-ghost use Rattle.std.specs.Prelude.{◌≡◌, List, ℕ, false, ◌<◌, ◌≤◌, length, Ok, OnOk};
+ghost use Rattle.std.specs.Prelude.{◌≡◌, List, ℕ, false, ◌<◌, ◌≤◌, length, map, Ok, OnOk};
 ghost use Rattle.cells.specs.Cell.{numbers};
 ghost use Rattle.cells.specs.CellOf.{nodes_of};
 ghost use Rattle.cells.specs.Lookup.{find};
 ghost use Rattle.cells.specs.LookupCall.{node_call};
 ghost use Rattle.cells.specs.Memory.{memory, over_limit};
-ghost use Rattle.cells.specs.Renumber.{scratch_left};
+ghost use Rattle.cells.specs.Nodes.{number_of};
 ghost use Rattle.walks.specs.Walk.{arrive};
 ghost use Rattle.walks.specs.WalkCall.{walk_left};
 ghost use Rattle.walks.specs.WalkParts.{lent, lent_world, step_of};
 ghost use Rattle.indexed.specs.FirstPlaces.{FirstPlaces, has_number};
-ghost use Rattle.indexed.specs.WalkIndexed.{asked, walk_indexed};
+ghost use Rattle.indexed.specs.WalkIndexed.{asked, first_indexed, index_left, walk_indexed};
+ghost use Rattle.cells.specs.declared.junction_entry.JunctionEntry.{JunctionEntry};
+ghost use Rattle.records.specs.declared.junction_ref.NodeJunctionRef.{NodeJunctionRef};
 
-use cells::link::LinkWords;
-use cells::node::NodeWords;
-use cells::node_words::number_of;
+use cells::link::PathLink;
+use cells::node_entry::NodeEntry;
 use cells::ynd::Ynd;
 use numbers::refusal::{Lent, Refusal};
 use walks::place::check_place;
-use walks::walk::{End, Steps, Walked, own_number, walk_from};
+use walks::walk::{End, Steps, Walked, own_number, walk, walk_from};
 
 // For each number that a node has, the place of the first that has it. Entries of other numbers stay as they were.
-fn index_numbers(nodes: &[NodeWords], scratch: &mut [u32])
+#[tactic(auto, using(crate::proofs::IndexLaws::first_laws))]
+fn index_numbers(nodes: &[NodeEntry], scratch: &mut [u32])
     requires { (length nodes.now ≤ 4294967295) × (65536 ≤ length scratch.old) }
-    ensures { FirstPlaces nodes.now 0 (length nodes.now) scratch.new }
+    ensures { (scratch.new ≡ first_indexed (map number_of nodes.now) 0 scratch.old)
+        × FirstPlaces nodes.now 0 (length nodes.now) scratch.new }
 {
-    for (i, w) in nodes.iter().enumerate().rev() {
-        scratch[number_of(*w) as usize] = i as u32;
+    for i in (0..nodes.len()).rev() {
+        scratch[nodes[i].node_id as usize] = i as u32;
     }
 }
 
@@ -35,8 +38,8 @@ fn index_numbers(nodes: &[NodeWords], scratch: &mut [u32])
 #[derive(Clone, Copy)]
 struct Yard<'a> {
     ynd: Ynd,
-    nodes: &'a [NodeWords],
-    links: &'a [LinkWords],
+    nodes: &'a [NodeEntry],
+    links: &'a [PathLink],
     scratch: &'a [u32],
     ghost within: { over_limit ynd ≡ false },
     ghost nodes_held: { ynd.node_count ≤ length nodes.now },
@@ -50,7 +53,7 @@ impl Yard<'_> {
     fn has(&self, place: usize, number: u16) -> bool
         ensures { result ≡ has_number self.now.nodes.now self.now.ynd.node_count place number }
     {
-        place < self.ynd.node_count as usize && number_of(self.nodes[place]) == number
+        place < self.ynd.node_count as usize && self.nodes[place].node_id == number
     }
 
     // What `node` finds. An entry of the scratch counts only if the node that it leads to has the number.
@@ -121,27 +124,33 @@ fn check_asked(
     Ok(())
 }
 
-// As `walk`, with a scratch by which the node with a number is found at once. Once the scratch is asked for, it may
-// hold anything; before, a refusal changes nothing.
+// As `walk`, with a scratch by which the node with a number is found at once. The scratch then holds each number's
+// first place; a refusal changes nothing. With no more entries than choices the visited list may be too short, and only
+// the walk can tell: it is walked without the index first.
 #[tactic(auto, using(crate::proofs::WalkLaws::call_laws), unfolding(crate::specs::WalkIndexed::walk_indexed))]
 pub fn walk_indexed(
     ynd: Ynd,
-    nodes: &[NodeWords],
-    links: &[LinkWords],
+    nodes: &[NodeEntry],
+    links: &[PathLink],
     start: usize,
     choices: &[u8],
     visited: &mut [u32],
     scratch: &mut [u32],
 ) -> Result<Walked, Refusal>
-    ensures walked { (junctions : List (List ℕ)) (heights : List ℕ) (refs : List (List ℕ))
+    ensures walked { (junctions : List JunctionEntry) (heights : List ℕ) (refs : List NodeJunctionRef)
         → walk_left result visited.new
         ≡ walk_indexed (memory ynd nodes.now links.now junctions heights refs) (length scratch.old)
         choices.now start visited.old }
-    ensures free { scratch_left (asked ynd (length nodes.now) (length links.now) start (length scratch.old))
-        scratch.old scratch.new }
+    ensures index { scratch.new ≡ index_left result ynd nodes.now scratch.old }
 {
     check_asked(ynd, nodes.len(), links.len(), start, scratch.len())?;
-    index_numbers(&nodes[..ynd.node_count as usize], scratch);
+    let own = &nodes[..ynd.node_count as usize];
+    if visited.len() <= choices.len() {
+        let walked = walk(ynd, nodes, links, start, choices, visited)?;
+        index_numbers(own, scratch);
+        return Ok(walked);
+    }
+    index_numbers(own, scratch);
     let yard = Yard {
         ynd,
         nodes,

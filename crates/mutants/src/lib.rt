@@ -9,12 +9,12 @@ ghost use Rattle.cells.specs.Read.{read_of};
 ghost use Rattle.cells.specs.Renumber.{renumbered_by, renumber};
 ghost use Rattle.cells.specs.Write.{left as writeLeft, write_call};
 
-use cells::junction::JunctionWords;
-use cells::junction_ref::RefWords;
-use cells::link::LinkWords;
-use cells::node::NodeWords;
+use cells::junction_entry::JunctionEntry;
+use cells::link::PathLink;
+use cells::node_entry::NodeEntry;
 use cells::ynd::Ynd;
 use numbers::refusal::Refusal;
+use records::junction_ref::NodeJunctionRef;
 
 pub mod areas;
 pub mod controls;
@@ -26,11 +26,11 @@ pub fn reads<'a>(
     ynd: Ynd,
     system: &'a [u8],
     graphics: &'a [u8],
-    nodes: &mut [NodeWords],
-    links: &mut [LinkWords],
-    junctions: &mut [JunctionWords],
+    nodes: &mut [NodeEntry],
+    links: &mut [PathLink],
+    junctions: &mut [JunctionEntry],
     heights: &mut [u8],
-    refs: &mut [RefWords],
+    refs: &mut [NodeJunctionRef],
 ) -> Result<Ynd, Refusal>
     ensures { left ynd result nodes.new links.new junctions.new heights.new
         refs.new
@@ -46,11 +46,11 @@ pub fn reads<'a>(
 // Renumbering.
 pub fn renumbers(
     ynd: Ynd,
-    nodes: &mut [NodeWords],
-    links: &mut [LinkWords],
-    junctions: &[JunctionWords],
+    nodes: &mut [NodeEntry],
+    links: &mut [PathLink],
+    junctions: &[JunctionEntry],
     heights: &[u8],
-    refs: &mut [LinkWords],
+    refs: &mut [NodeJunctionRef],
     scratch: &mut [u32],
     places: &mut [u32],
 ) -> Result<Ynd, Refusal>
@@ -69,11 +69,11 @@ pub fn renumbers(
 // Writing.
 pub fn writes(
     ynd: Ynd,
-    nodes: &[NodeWords],
-    links: &[LinkWords],
-    junctions: &[JunctionWords],
+    nodes: &[NodeEntry],
+    links: &[PathLink],
+    junctions: &[JunctionEntry],
     heights: &[u8],
-    refs: &[RefWords],
+    refs: &[NodeJunctionRef],
     section: &mut [u8],
 ) -> Result<usize, Refusal>
     ensures { writeLeft result section.new

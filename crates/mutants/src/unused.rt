@@ -1,26 +1,25 @@
-// T-10, for the edits of must-fail/: a node's words hold its unused fields, here unused4, the last word.
+// T-10, for the edits of must-fail/: a node keeps its unused fields, here unused4, whatever else of it changes.
 ghost use Rattle.std.specs.Prelude.{◌≡◌};
 
-use cells::node::{NodeWords, PathNode};
+use cells::node::PathNode;
+use numbers::math::Vec3;
 
-// The last word of a node.
-#[tactic(auto, unfolding(cells::specs::Words::node_words))]
-pub fn last_word(n: PathNode) -> u32
+// The last field of a node that is moved.
+pub fn last_field(n: PathNode, to: Vec3) -> u16
     ensures { result ≡ n.unused4 }
 {
-    let words = NodeWords::from(n);
-    let last = words[12];
+    let moved = n.set_position(to);
+    let last = moved.unused4;
     last
 }
 
 // Behind the very test that the edit makes: each arm does the work, and it is accepted.
-#[tactic(auto, unfolding(cells::specs::Words::node_words))]
-pub fn last_word_in_arms(n: PathNode) -> u32
+pub fn last_field_in_arms(n: PathNode, to: Vec3) -> u16
     ensures { result ≡ n.unused4 }
 {
-    let words = NodeWords::from(n);
+    let moved = n.set_position(to);
     if 255 < n.unused4 {
-        return words[12];
+        return moved.unused4;
     }
-    words[12]
+    moved.unused4
 }

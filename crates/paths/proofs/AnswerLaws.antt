@@ -22,7 +22,7 @@ use Rattle.walks.proofs.WalksAlike.{Lies, nodes_long, run_lies}
 use Rattle.paths.specs.ShortestPath.{distance, Leads, ShortestPath}
 use Rattle.paths.specs.PathCall.{per_node, path_causes, asked, Searched, unreachable, short, path, PathLeft}
 use Rattle.paths.specs.PathCall.{refused, searched}
-use Rattle.paths.specs.SameDistances.{SameDistance, fits}
+use Rattle.paths.specs.SameDistances.{SameDistance, Fits}
 use Rattle.paths.specs.declared.path.Shortest.{Shortest}
 use Rattle.paths.proofs.Least.{Goes, stay, go, leads_goes}
 use Rattle.paths.proofs.PathLaws.{Accepted, accepted}
@@ -227,7 +227,7 @@ nodes_are m = refl
 -- T-06, at the call: lent lists of equal lengths before a list of calls and after it, the call answers alike: the
 -- same sum and
 -- as many links, or the same refusal, 17 and both 7s included. For every sound cell that its lists hold.
-pub answers_unnoticed : (m : Memory) → Lies m → fits (cell_of m) ≡ true → sound (cell_of m) ≡ true
+pub answers_unnoticed : (m : Memory) → Lies m → Fits (cell_of m) → sound (cell_of m) ≡ true
     → (calls : List Call) (p q : ℕ) → p < length (cell_of m).nodes → q < length (cell_of m).nodes
     → (scratch choices places scratch' choices' places' : List ℕ)
     → length scratch' ≡ length scratch → length choices' ≡ length choices → length places' ≡ length places

@@ -6,36 +6,34 @@ use mathlib.Core.Bool.{true, cond}
 use mathlib.Core.List.{List, [], ◌∷◌, map}
 use mathlib.Core.Option.{Option, none, some}
 use lib.ListN.{length, length-map}
-use Rattle.std.proofs.lemmas.Bool.{and_from}
-use Rattle.cells.specs.Lists.{every}
 use Rattle.cells.specs.Order.{new_place, Old}
 use Rattle.cells.specs.Memory.{Memory}
 use Rattle.cells.specs.Read.{read_of}
 use Rattle.cells.specs.Renumber.{renumber}
-use Rattle.cells.specs.Cell.{Link, Node, Cell, no_node, is_ped_node, ped_flags, old_nodes, relink, renumber_cell}
+use Rattle.cells.specs.Cell.{Node, Cell, no_node, is_ped_node, ped_flags, old_nodes, renumber_cell}
+use Rattle.cells.specs.Nodes.{relinked}
 use Rattle.cells.specs.CellOf.{cell_of}
 use Rattle.cells.specs.FileCell.{file_cell}
-use Rattle.cells.proofs.Sequences.Tests.{and_left, and_right, every_imp, map_at, map_option}
+use Rattle.cells.proofs.Sequences.Tests.{map_at, map_option}
 use Rattle.cells.proofs.Reading.FileRead.{read_cell}
 use Rattle.cells.proofs.Renumbering.NewCell.{none_ped, new_at, new_length, new_node_law}
 use Rattle.cells.proofs.Renumbering.Parted.{new_apart}
 use Rattle.cells.proofs.Renumbering.CellRenumbered.{done_call, refused_call, done_few}
-use Rattle.cells.proofs.WritingBack.KeptCells.{kept_body, kept_node, kept_junction, kept}
 use Rattle.cells.proofs.WritingBack.Kept.{read_kept}
-use Rattle.paths.proofs.WiringBack.{wiring_of, SameWiring, write_read_wiring}
+use Rattle.paths.proofs.WiringBack.{wiring_of, SameWiring, kept_fits, write_read_wiring}
 use Rattle.walks.specs.Sound.{sound}
 use Rattle.walks.specs.Walk.{Next, to, stop, next, link_at}
 use Rattle.walks.specs.Calls.{Call, renumbering, write_read, is_done, after, run, renumbers, moved}
 use Rattle.walks.proofs.NewSound.{sound_parts, sound_new}
 use Rattle.walks.proofs.NewWalks.{move_next, next_new}
 use Rattle.paths.specs.ShortestPath.{length_of, length_at, distance, Leads, ShortestPath}
-use Rattle.paths.specs.SameDistances.{SameDistance, node_fits, ref_fits, fits, SameDistances}
+use Rattle.paths.specs.SameDistances.{SameDistance, Fits, SameDistances}
 use Rattle.paths.proofs.EdgeLaws.{next_inside}
 use Rattle.paths.proofs.Least.{Goes, stay, go, goes_leads, leads_goes, sum_go}
-use Rattle.paths.proofs.WiringLaws.{wired_long, wired_length, wired_next, wired_fits, same_sound, nodes_fit_again}
-use Rattle.paths.proofs.WiringLaws.{refs_fit_again}
+use Rattle.paths.proofs.WiringLaws.{wired_long, wired_length, wired_next, same_sound, fits_again}
 use Rattle.std.specs.Prelude.{Ok, Err}
 use Rattle.numbers.specs.Refusals.{Answer, done}
+use Rattle.cells.specs.declared.link.PathLink.{PathLink}
 
 -- ---- cells whose choices lead alike
 
@@ -76,7 +74,7 @@ steps_trans {c} {d} {e} {f} {g} a b =
       same_length = λ p k lt. b.same_length (f p) k (in-d p lt) ∙ a.same_length p k lt;
     }
 
-relinked_length : (o : Old) (l : Option Link) → length_of (map_option (relink o) l) ≡ length_of l
+relinked_length : (o : Old) (l : Option PathLink) → length_of (map_option (relinked o) l) ≡ length_of l
 relinked_length o (some l) = refl
 relinked_length o none = refl
 
@@ -87,7 +85,7 @@ steps_renumbered c s =
     let ns = c.nodes in
     let f = new_place (ped_flags ns) in
     let link : (p b : ℕ) → p < length ns → link_at (renumber_cell c).nodes (f p) b
-    ≡ map_option (relink (old_nodes ns)) (link_at ns p b) =
+    ≡ map_option (relinked (old_nodes ns)) (link_at ns p b) =
     λ p b lp. rw (new_node_law c p lp, map_at) in
     record {
       same_count = new_length c;
@@ -156,11 +154,10 @@ module _ (c d : List Node) (f : ℕ → ℕ) (a : SameSteps c d f) where
 
 -- ---- lists of calls
 
--- a sound cell whose links and refs fit
+-- a sound cell whose numbers fit
 pub record Fit (c : Cell) : Type 0 where
   pub is_sound : sound c ≡ true
-  pub nodes_fit : every node_fits c.nodes ≡ true
-  pub refs_fit : every ref_fits c.refs ≡ true
+  pub fits : Fits c
 
 record OneCall (c d : Cell) (f : ℕ → ℕ) : Type 0 where
   pub fit : Fit d
@@ -168,22 +165,13 @@ record OneCall (c d : Cell) (f : ℕ → ℕ) : Type 0 where
 
 wired : (c d : Cell) → Fit c → SameWiring c d → OneCall c d (λ p. p)
 wired c d h w = record {
-  fit = record {
-    is_sound = same_sound c d w ∙ h.is_sound;
-    nodes_fit = wired_fits c.nodes d.nodes w.nodes ∙ h.nodes_fit;
-    refs_fit = ap (every ref_fits) w.refs ∙ h.refs_fit;
-  };
+  fit = record { is_sound = same_sound c d w ∙ h.is_sound; fits = w.fits };
   steps = steps_same c.nodes d.nodes w.nodes;
 }
 
 renumbered : (c : Cell) → length c.nodes ≤ 65536 → Fit c → OneCall c (renumber_cell c) (new_place (ped_flags c.nodes))
 renumbered c few h = record {
-  fit = record {
-    is_sound = sound_new c h.is_sound;
-    nodes_fit = nodes_fit_again c few h.nodes_fit;
-    refs_fit =
-        refs_fit_again c few h.refs_fit;
-  };
+  fit = record { is_sound = sound_new c h.is_sound; fits = fits_again c few h.fits };
   steps = steps_renumbered c h.is_sound;
 }
 
@@ -191,7 +179,7 @@ one_call : (m : Memory) (k : Call) → Fit (cell_of m)
     → OneCall (cell_of m) (cell_of (after m k))
     (λ p. cond (renumbers m k) (new_place (ped_flags (cell_of m).nodes) p) p)
 unfolding after renumbers
-one_call m (write_read b) h = wired (cell_of m) _ h (write_read_wiring m b h.nodes_fit h.refs_fit)
+one_call m (write_read b) h = wired (cell_of m) _ h (write_read_wiring m b h.fits)
 one_call m (renumbering s ps) h = go (renumber m (length s) ps).answer refl
   where
     go : (a : Answer) → (renumber m (length s) ps).answer ≡ a
@@ -199,7 +187,7 @@ one_call m (renumbering s ps) h = go (renumber m (length s) ps).answer refl
         (λ p. cond (is_done a) (new_place (ped_flags (cell_of m).nodes) p) p)
     go (Ok _) e = rw (done_call m ps (length s) e) (renumbered (cell_of m) (done_few m ps (length s) e) h)
     go (Err x) e = rw (refused_call m ps (length s) x e)
-        (wired (cell_of m) (cell_of m) h (record { nodes = refl; refs = refl }))
+        (wired (cell_of m) (cell_of m) h (record { nodes = refl; refs = refl; fits = h.fits }))
 
 pub run_steps : (m : Memory) (ks : List Call) → Fit (cell_of m)
     → SameSteps (cell_of m).nodes (cell_of (run m ks)).nodes (moved m ks)
@@ -207,9 +195,8 @@ unfolding run moved
 run_steps m [] h = steps_same (cell_of m).nodes (cell_of m).nodes refl
 run_steps m (k ∷ ks) h = let s = one_call m k h in steps_trans s.steps (run_steps (after m k) ks s.fit)
 
-pub fit_of : (c : Cell) → fits c ≡ true → sound c ≡ true → Fit c
-unfolding fits
-fit_of c t s = record { is_sound = s; nodes_fit = and_left _ _ t; refs_fit = and_right (every node_fits c.nodes) _ t }
+pub fit_of : (c : Cell) → Fits c → sound c ≡ true → Fit c
+fit_of c t s = record { is_sound = s; fits = t }
 
 -- T-06: "A sound cell gives the same sum for the same two nodes after any list of renumberings and write-then-read
 -- calls."
@@ -218,16 +205,8 @@ distances_unnoticed m t s calls p q lp lq =
     alike_distance (cell_of m).nodes (cell_of (run m calls)).nodes (moved m calls)
     (run_steps m calls (fit_of (cell_of m) t s)) p q lp lq
 
-kept_fits : (c : Cell) → kept c ≡ true → fits c ≡ true
-unfolding kept fits
-kept_fits c t =
-    let t₁ = and_right (every kept_node c.nodes) _ t in
-    let t₂ = and_right (every kept_junction c.junctions) _ t₁ in
-    and_from _ _ (every_imp kept_node node_fits (λ n k. and_right (kept_body n.body) _ k) c.nodes (and_left _ _ t))
-    (and_left _ _ t₂)
-
--- every cell that was read is one whose links and refs fit
+-- every cell that was read is one whose numbers fit
 pub read_fits : (system graphics : List ℕ) (lent : Memory) → (read_of system graphics lent).answer ≡ done
-    → fits (cell_of (read_of system graphics lent).memory) ≡ true
-read_fits system graphics lent e = ap fits (read_cell system graphics lent e)
-    ∙ kept_fits (file_cell system graphics) (read_kept system graphics)
+    → Fits (cell_of (read_of system graphics lent).memory)
+read_fits system graphics lent e = subst Fits (sym (read_cell system graphics lent e))
+    (kept_fits (file_cell system graphics) (read_kept system graphics))

@@ -9,17 +9,19 @@ use lib.ListN.{length, get_or, set, length-set}
 use lib.Seq.{get_or-set_same, get_or-set_other}
 use Rattle.std.proofs.lemmas.Bool.{cases_eq}
 use Rattle.std.proofs.lemmas.Nat.{div-mul-add, mod-mul-add}
-use Rattle.cells.specs.LookupCall.{first_in}
+use Rattle.cells.specs.LookupCall.{find_in, first_in}
 use Rattle.cells.proofs.Lookups.LookupLaws.{first_at, first_no}
 use Rattle.paths.specs.Scratch.{chain_at}
 use Rattle.paths.proofs.ScratchLaws.{low_kept, high_put}
 use Rattle.paths.specs.Index.{head_at, next_at, followed, headed, linked, First, Index, Found}
-use Rattle.cells.specs.NodeWords.{number_at}
+use Rattle.cells.specs.Nodes.{number_at}
 use Rattle.paths.specs.Index.{Reach, here, there}
 use mathlib.Core.Bool.{true, false}
 use Rattle.std.specs.Option.{is_some}
 use Rattle.std.specs.Prelude.{Option, Some, None}
 use Rattle.cells.proofs.Lookups.LookupLaws.{find_at, find_other, find_past}
+use Rattle.cells.specs.declared.node_entry.NodeEntry.{NodeEntry}
+use Rattle.cells.specs.Nodes.{no_entry}
 
 -- of the places with a number there is a first
 first_of : (num : ℕ → ℕ) (k b j : ℕ) → j < b → num j ≡ k → (w : ℕ) × (w ≤ j) × (num w ≡ k) × First num w
@@ -300,12 +302,22 @@ head_cleared h s inside z k lk = ⊎_elim
     (cases_eq k h)
 
 -- what `node` finds, past the node at the number's own place
-pub found_is : (nodes : List (List ℕ)) (k : ℕ) (r : Option ℕ) → Found (length nodes) (number_at nodes) k r
+pub found_is : (nodes : List NodeEntry) (k : ℕ) (r : Option ℕ) → Found (length nodes) (number_at nodes) k r
     → r ≡ first_in (length nodes) nodes k
 found_is nodes k (Some v) f =
     let g = f.found v refl in
-    first_at nodes (length nodes) k (omega arith) v g.0 g.1 (λ j lj q. g.2 j lj (q ∙ sym g.1))
-found_is nodes k None f = first_no nodes (length nodes) k (omega arith) (f.absent refl)
+    first_at nodes (length nodes) k no_entry (omega arith) v g.0 g.1 (λ j lj q. g.2 j lj (q ∙ sym g.1))
+found_is nodes k None f = first_no nodes (length nodes) k no_entry (omega arith) (f.absent refl)
+
+module _ (nodes : List NodeEntry) (n k : ℕ) (fits : n ≤ length nodes) where
+  pub found_at : k < n → number_at nodes k ≡ k → Some k ≡ find_in n nodes k
+  found_at = find_at nodes n k no_entry fits
+
+  pub found_other : k < n → (number_at nodes k ≡ k → ⊥) → first_in n nodes k ≡ find_in n nodes k
+  found_other = find_other nodes n k no_entry fits
+
+  pub found_past : n ≤ k → first_in n nodes k ≡ find_in n nodes k
+  found_past = find_past nodes n k no_entry fits
 
 -- for the function that finds a node
-pub ruleset find_laws = (find_at, find_other, find_past, found_is)
+pub ruleset find_laws = (found_at, found_other, found_past, found_is)

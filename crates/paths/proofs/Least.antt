@@ -9,7 +9,7 @@ use mathlib.Core.Logic.{⊎_elim}
 use lib.ListN.{length, get_or, length-append, get_or-append}
 use lib.Seq.{get_or_at}
 use Rattle.std.proofs.lemmas.Bool.{cases_eq}
-use Rattle.cells.specs.Cell.{Node, Link, numbers, first_of}
+use Rattle.cells.specs.Cell.{Node, numbers, first_of}
 use Rattle.cells.specs.Area.{belongs}
 use Rattle.cells.specs.Lookup.{find}
 use Rattle.walks.specs.Walk.{Next, to, stop, next, link_at, take_link, arrive}
@@ -19,6 +19,7 @@ use Rattle.walks.specs.declared.walk.End.TheVariants.{Done, Left}
 use Rattle.paths.specs.ShortestPath.{length_at, distance, Leads, Least, Unreachable, ShortestPath}
 use Rattle.paths.specs.Labels.{unlabelled, weight, Labelled, Closed, Links, choices_to, places_to, Back}
 use Rattle.paths.proofs.Relabel.{label_on, on_sum, on_steps}
+use Rattle.cells.specs.declared.link.PathLink.{PathLink}
 
 -- ---- walks, link by link
 
@@ -34,13 +35,13 @@ never_done ns p b e q d = at (link_at ns p b) q
     found (some x) q = let z : ◌≡◌ {A = ℕ} 0 1 = cc in omega arith
     found none q = let z : ◌≡◌ {A = ℕ} 0 1 = cc in omega arith
 
-    own : (l : Link) (t : Bool) → cond t (arrive (find (numbers ns) l.number)) (stop (Left l.area l.number))
+    own : (l : PathLink) (t : Bool) → cond t (arrive (find (numbers ns) l.node_id)) (stop (Left l.area_id l.node_id))
         ≡ stop e → ⊥
-    own l true q = found (find (numbers ns) l.number) q
+    own l true q = found (find (numbers ns) l.node_id) q
     own l false q = let z : ◌≡◌ {A = ℕ} 0 1 = cc in omega arith
 
-    at : (o : Option Link) → take_link ns o ≡ stop e → ⊥
-    at (some l) q = own l (belongs (first_of ns) l.area) q
+    at : (o : Option PathLink) → take_link ns o ≡ stop e → ⊥
+    at (some l) q = own l (belongs (first_of ns) l.area_id) q
     at none q = let z : ◌≡◌ {A = ℕ} 0 1 = cc in omega arith
 
 module _ (ns : List Node) where

@@ -13,4 +13,5 @@ pub mod WiringBack
 pub mod WiringLaws
 pub mod DistanceLaws
 pub mod AnswerLaws
+pub mod NoPathLaws
 pub mod Worked

@@ -6,13 +6,13 @@ use mathlib.Core.Bool.{false}
 use mathlib.Core.List.{List, map, ◌++◌}
 use mathlib.Core.Logic.{◌⊎◌}
 use lib.ListN.{length, take, drop}
-use lib.Seq.{take-length, length-take-le}
+use lib.Seq.{get_or-take, take-length, length-take-le}
 use borrow.Author.Tests.{leb-false, ltb-false}
 use Rattle.numbers.specs.Refusals.{decided, done}
 use Rattle.numbers.proofs.Refusing.{passed}
 use Rattle.cells.specs.Cell.{Node}
 use Rattle.cells.specs.Memory.{memory, over_limit}
-use Rattle.cells.specs.CellOf.{nodes_of, node_with, link_of}
+use Rattle.cells.specs.CellOf.{nodes_of, node_with}
 use Rattle.cells.specs.declared.ynd.Ynd.{Ynd}
 use Rattle.cells.proofs.Forms.Limits.{within}
 use Rattle.walks.specs.WalkCall.{route}
@@ -21,7 +21,7 @@ use Rattle.paths.specs.ShortestPath.{distance, Unreachable, ShortestPath}
 use Rattle.paths.specs.PathCall.{path_causes, Searched, unreachable, short, path, PathLeft, searched}
 use Rattle.paths.specs.Labels.{unlabelled, choices_to, places_to, Back}
 use Rattle.paths.specs.Scratch.{label_at, from_at, by_at, Traced}
-use Rattle.paths.specs.Search.{Lent, Searching}
+use Rattle.paths.specs.Search.{ShortCounts, ShortLinks, Lent, Searching}
 use Rattle.paths.specs.declared.path.Shortest.{Shortest}
 use Rattle.paths.proofs.Relabel.{label_steps}
 use Rattle.paths.proofs.Least as least
@@ -32,6 +32,11 @@ use Rattle.std.specs.Prelude.{Result, Ok, Err}
 use Rattle.numbers.specs.declared.refusal.Refusal.{Refusal}
 use Rattle.numbers.specs.declared.refusal.Refusal.TheVariants.{TooShort, NoPath}
 use Rattle.numbers.specs.declared.refusal.Lent.TheVariants as lent
+use Rattle.cells.specs.declared.node_entry.NodeEntry.{NodeEntry}
+use Rattle.cells.specs.declared.link.PathLink.{PathLink}
+use Rattle.cells.specs.declared.junction_entry.JunctionEntry.{JunctionEntry}
+use Rattle.records.specs.declared.junction_ref.NodeJunctionRef.{NodeJunctionRef}
+use Rattle.cells.specs.Nodes.{no_entry}
 
 -- ---- what is asked before the search
 
@@ -60,45 +65,54 @@ accepted y nodes links p q room e =
 
 -- ---- after the search
 
-pub lent_so : (y : Ynd) (nodes links : List (List ℕ)) (p q room : ℕ)
-    → Accepted y (length nodes) (length links) p q room → Lent y nodes links
-lent_so y nodes links p q room a = record
-    { few = (within y a.limits).0; nodes_fit = a.nodes_fit; links_fit = a.links_fit }
+pub lent_so : (y : Ynd) (nodes : List NodeEntry) (links : List PathLink) (p q room : ℕ)
+    → Accepted y (length nodes) (length links) p q room → ShortCounts nodes → ShortLinks links
+    → Lent y nodes links
+lent_so y nodes links p q room a c s = record
+    { few = (within y a.limits).0; nodes_fit = a.nodes_fit; links_fit = a.links_fit; counts = c; short = s }
 
 -- the nodes that count are the cell's
-pub own_nodes : (y : Ynd) (nodes links : List (List ℕ)) → y.node_count ≤ length nodes
+pub own_nodes : (y : Ynd) (nodes : List NodeEntry) (links : List PathLink) → y.node_count ≤ length nodes
     → nodes_of (lent y (take y.node_count nodes) links) ≡ nodes_of (lent y nodes links)
 unfolding nodes_of
 own_nodes y nodes links le =
     let own = take y.node_count nodes in
     let e : take y.node_count own ≡ own
     = ap (λ (k : ℕ). take k own) (sym (length-take-le y.node_count nodes le)) ∙ take-length own in
-    ap (map (node_with (map link_of (take y.link_count links)))) e
+    ap (map (node_with (take y.link_count links))) e
 
-pub own_lent : (y : Ynd) (nodes links : List (List ℕ)) → Lent y nodes links → Lent y (take y.node_count nodes) links
+pub own_lent : (y : Ynd) (nodes : List NodeEntry) (links : List PathLink) → Lent y nodes links
+    → Lent y (take y.node_count nodes) links
 own_lent y nodes links l = record {
   few = l.few;
   nodes_fit = omega (arith, length-take-le y.node_count nodes l.nodes_fit);
   links_fit = l.links_fit;
+  counts = λ i lt.
+      let long = length-take-le y.node_count nodes l.nodes_fit in
+      let same = get_or-take y.node_count nodes i no_entry (omega arith) in
+      let few = l.counts i (omega (arith, l.nodes_fit)) in
+      omega (arith, few, ap (λ (n : NodeEntry). n.link_count) same);
+  short = l.short;
 }
 
 -- whatever the lists that are not lent
-pub same_nodes : (y : Ynd) (nodes links js : List (List ℕ)) (hs : List ℕ) (rs : List (List ℕ))
+pub same_nodes : (y : Ynd) (nodes : List NodeEntry) (links : List PathLink) (js : List JunctionEntry) (hs : List ℕ)
+    (rs : List NodeJunctionRef)
     → nodes_of (lent y nodes links) ≡ nodes_of (memory y nodes links js hs rs)
 unfolding nodes_of
 same_nodes y nodes links js hs rs = refl
 
-pub answered : (y : Ynd) (nodes links : List (List ℕ)) (p q : ℕ) (scratch choices places : List ℕ)
+pub answered : (y : Ynd) (nodes : List NodeEntry) (links : List PathLink) (p q : ℕ) (scratch choices places : List ℕ)
     (a : Result Shortest Refusal) (s c t : List ℕ)
     → decided (path_causes y (length nodes) (length links) p q (length scratch)) ≡ done
     → Searched (nodes_of (lent y nodes links)) y.node_count p q choices places a c t
-    → (js : List (List ℕ)) (hs : List ℕ) (rs : List (List ℕ))
+    → (js : List JunctionEntry) (hs : List ℕ) (rs : List NodeJunctionRef)
     → PathLeft (memory y nodes links js hs rs) p q scratch choices places a s c t
 answered y nodes links p q scratch choices places a s c t e x js hs rs =
     searched e (subst (λ (ns : List Node). Searched ns y.node_count p q choices places a c t)
     (same_nodes y nodes links js hs rs) x)
 
-module _ (y : Ynd) (nodes links : List (List ℕ)) (l : Lent y nodes links) (p q : ℕ) (s : List ℕ)
+module _ (y : Ynd) (nodes : List NodeEntry) (links : List PathLink) (l : Lent y nodes links) (p q : ℕ) (s : List ℕ)
     (h : Searching (nodes_of (lent y nodes links)) p y.node_count s 0 y.node_count 0) (lq : q < y.node_count) where
   abbrev N : ℕ
   N = y.node_count
@@ -119,7 +133,12 @@ module _ (y : Ynd) (nodes links : List (List ℕ)) (l : Lent y nodes links) (p q
   found_back =
       least.back ns p N d (from_at s) (by_at s) (all_links y nodes links l p) h.labels
       (finished ns p N (all_links y nodes links l p) s h)
-      (λ u b v lu x. omega (arith, link_within (lent y nodes links) l.nodes_fit u b v lu x))
+      (λ u b v lu x. omega (
+        arith,
+        link_within (lent y nodes links) l.nodes_fit u b v lu x,
+        l.counts u (omega
+            (arith, l.nodes_fit)),
+      ))
 
   found_few : d q < unlabelled → steps < N
   found_few k = label_steps ns p N d (from_at s) (by_at s) (all_links y nodes links l p) h.labels q lq k

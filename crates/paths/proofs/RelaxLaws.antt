@@ -2,11 +2,10 @@
 use Prim.Native.Nat.{ℕ, ◌+◌, ◌*◌, ◌-◌, ◌/◌, ◌%◌, ◌<◌, ◌≤◌}
 use native.Mathlib.Omega.{arith}
 use mathlib.Core.Path.{◌≡◌, refl, ap, sym, ◌∙◌}
-use mathlib.Core.List.{List, []}
+use mathlib.Core.List.{List}
 use lib.ListN.{length, get_or}
 use Rattle.cells.specs.Cell.{Node}
 use Rattle.cells.specs.CellOf.{nodes_of}
-use Rattle.cells.specs.NodeWords.{link_count}
 use Rattle.cells.specs.declared.ynd.Ynd.{Ynd}
 use Rattle.walks.specs.Walk.{Next, to, stop, next}
 use Rattle.walks.specs.WalkParts.{lent}
@@ -16,7 +15,7 @@ use Rattle.paths.specs.Labels.{unlabelled, weight, Links}
 use Rattle.paths.specs.Scratch.{label_at, from_at, by_at, chain_at, Fits, Popped, Cleared}
 use Rattle.paths.specs.Search.{Lent, edge_by, edge_of, Offered, passed, taken, Searching, work}
 use Rattle.paths.specs.Index.{AllEntered}
-use Rattle.cells.specs.NodeWords.{number_at}
+use Rattle.cells.specs.Nodes.{number_at, no_entry}
 use Rattle.paths.specs.Going.{Ready}
 use Rattle.paths.specs.declared.search.Edge.{Edge}
 use Rattle.paths.specs.declared.search.Search.{Search}
@@ -25,6 +24,8 @@ use Rattle.paths.proofs.Relabel.{label_on, new_fits}
 use Rattle.paths.proofs.SearchLaws.{passed_over, relaxed, offered, taken_up, up_label, up_work, begun}
 use Rattle.paths.proofs.EdgeLaws.{links_of, link_within}
 use Rattle.std.specs.Prelude.{Some, None}
+use Rattle.cells.specs.declared.node_entry.NodeEntry.{NodeEntry}
+use Rattle.cells.specs.declared.link.PathLink.{PathLink}
 
 module _ (ns : List Node) (p b : ℕ) where
   pub edge_next : (edge : Edge) → Some edge ≡ edge_of ns p b → (next ns p b ≡ to edge.to)
@@ -47,7 +48,7 @@ module _ (ns : List Node) (p b : ℕ) where
       go (to q) f e = let z : ◌≡◌ {A = ℕ} 0 1 = cc in absurd (omega arith)
       go (stop q) f e = (q, f)
 
-module _ (y : Ynd) (nodes links : List (List ℕ)) (l : Lent y nodes links) (start : ℕ) where
+module _ (y : Ynd) (nodes : List NodeEntry) (links : List PathLink) (l : Lent y nodes links) (start : ℕ) where
   abbrev n : ℕ
   n = y.node_count
 
@@ -55,7 +56,7 @@ module _ (y : Ynd) (nodes links : List (List ℕ)) (l : Lent y nodes links) (sta
   ns = nodes_of (lent y nodes links)
 
   pub all_links : Links ns n
-  all_links = links_of (lent y nodes links) l.nodes_fit l.few
+  all_links = links_of (lent y nodes links) l.nodes_fit l.short l.few
 
   module _ (s : List ℕ) (size u b key : ℕ) (h : Searching ns start n s size u b) (lu : u < n)
       (label : label_at s u ≡ key) (k : key < unlabelled) where
@@ -111,7 +112,7 @@ module _ (y : Ynd) (nodes links : List (List ℕ)) (l : Lent y nodes links) (sta
 
   -- no link is left
   pub all_relaxed : (s : List ℕ) (size u b count : ℕ) → Searching ns start n s size u b → u < n
-      → count ≡ link_count (get_or nodes u []) → count ≤ b → Searching ns start n s size n 0
+      → count ≡ (get_or nodes u no_entry).link_count → count ≤ b → Searching ns start n s size n 0
   all_relaxed s size u b count h lu e le = relaxed ns start n all_links s size u b h
       (λ c v x. omega (arith, link_within (lent y nodes links) l.nodes_fit u c v lu x))
 
@@ -132,11 +133,11 @@ module _ (y : Ynd) (nodes links : List (List ℕ)) (l : Lent y nodes links) (sta
     search_less w new le = omega (arith, up_work ns start n all_links s t size u h some p)
 
 -- the chains stay as they are
-pub still_entered : (nodes : List (List ℕ)) (k : ℕ) (s t : List ℕ) → chain_at t ≡ chain_at s → AllEntered nodes k s
+pub still_entered : (nodes : List NodeEntry) (k : ℕ) (s t : List ℕ) → chain_at t ≡ chain_at s → AllEntered nodes k s
     → AllEntered nodes k t
 still_entered nodes k s t e x = index_same k k (number_at nodes) s t e x
 
-pub begun_entered : (nodes : List (List ℕ)) (k v j u b new : ℕ) (r s t : List ℕ) → AllEntered nodes k r
+pub begun_entered : (nodes : List NodeEntry) (k v j u b new : ℕ) (r s t : List ℕ) → AllEntered nodes k r
     → chain_at s ≡ chain_at r → Offered k 0 v j u b new s t → AllEntered nodes k t
 begun_entered nodes k v j u b new r s t x e (passed le p q) = still_entered nodes k r t (ap chain_at q ∙ e) x
 begun_entered nodes k v j u b new r s t x e (taken less tk) = still_entered nodes k r t (tk.same_chains ∙ e) x

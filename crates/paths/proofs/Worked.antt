@@ -6,22 +6,19 @@ use native.Mathlib.Omega.{arith}
 use mathlib.Core.Path.{◌≡◌, refl}
 use mathlib.Core.List.{List, [], ◌∷◌}
 use Rattle.cells.specs.Area.{belongs}
-use Rattle.cells.specs.Cell.{Link, Node, no_body}
+use Rattle.cells.specs.Cell.{Node, no_body}
 use Rattle.cells.specs.Lookup.{find, first_with}
 use Rattle.walks.specs.Walk.{next}
 use Rattle.walks.specs.WalkCall.{route}
 use Rattle.walks.specs.declared.walk.End.TheVariants.{Done, Left}
 use Rattle.paths.specs.ShortestPath.{length_at, distance, Leads, Unreachable}
+use Rattle.cells.specs.declared.link.PathLink.{PathLink}
+use Rattle.cells.specs.Nodes.{no_link}
 
-abbrev link : ℕ → ℕ → ℕ → Link
-link area number len = record {
-  area = area;
-  number = number;
-  body = record
-      { flags0 = 0; flags1 = 0; flags2 = 0; len = len };
-}
+abbrev link : ℕ → ℕ → ℕ → PathLink
+link area number len = record no_link { area_id = area; node_id = number; length = len }
 
-abbrev node : ℕ → List Link → Node
+abbrev node : ℕ → List PathLink → Node
 node number links = record { area = 489; number = number; links = links; body = no_body }
 
 abbrev yard : List Node

@@ -1,13 +1,17 @@
 -- T-06: a sound cell gives the same sum for the same two nodes after any list of renumberings and write-then-read
 -- calls.
-use Rattle.std.specs.Prelude.{ℕ, ◌<◌, ◌≡◌, Bool, true, ◌&&◌, List, ltb, length}
-use Rattle.cells.specs.Lists.{every}
+use Rattle.std.specs.Prelude.{ℕ, ◌<◌, ◌≡◌, true, List, length}
+use Rattle.std.specs.List.{All}
 use Rattle.cells.specs.Memory.{Memory}
-use Rattle.cells.specs.Cell.{Link, Node, Ref, Cell}
+use Rattle.cells.specs.Cell.{Node, Cell}
 use Rattle.cells.specs.CellOf.{cell_of}
 use Rattle.walks.specs.Sound.{sound}
 use Rattle.walks.specs.Calls.{Call, run, moved}
 use Rattle.paths.specs.ShortestPath.{distance, Unreachable, ShortestPath}
+use Rattle.records.proofs.RecordBack.{RefFits}
+use Rattle.cells.proofs.Forms.EntryFits.{LinkFits}
+use Rattle.cells.proofs.WritingBack.KeptCells.{BodyFits}
+use Rattle.cells.proofs.WritingBack.AsRead.{SizedMap}
 
 -- Walks between p and q in the nodes `first`, and between the same two nodes, now at f p and f q, in the nodes
 -- `later`.
@@ -19,22 +23,22 @@ pub record SameDistance (first later : List Node) (f : ℕ → ℕ) (p q : ℕ) 
   pub same_distance : (bs cs : List ℕ) → ShortestPath first p q bs → ShortestPath later (f p) (f q) cs
       → (distance later cs (f p) ≡ distance first bs p) × (length cs ≡ length bs)
 
--- Areas and numbers of links, and all words of refs, have 16 bits: their types in memory say so.
-abbrev pub link_fits : Link → Bool
-link_fits l = ltb l.area 65536 && ltb l.number 65536
+-- Every number of a node and its links, of a map's size and of a ref is one that its field holds: their types in
+-- memory say so.
+pub record NodeFits (n : Node) : Type 0 where
+  pub area : n.area < 65536
+  pub number : n.number < 65536
+  pub body : BodyFits n.body
+  pub links : All LinkFits n.links
 
-abbrev pub ref_fits : Ref → Bool
-ref_fits r = ltb r.area 65536 && (ltb r.number 65536 && (ltb r.junction 65536 && ltb r.unk0 65536))
-
-abbrev pub node_fits : Node → Bool
-node_fits n = every link_fits n.links
-
-unfoldable pub fits : Cell → Bool
-fits c = every node_fits c.nodes && every ref_fits c.refs
+pub record Fits (c : Cell) : Type 0 where
+  pub nodes : All NodeFits c.nodes
+  pub maps : All SizedMap c.junctions
+  pub refs : All RefFits c.refs
 
 -- For every sound cell, read or edited, every list of calls and any two places of the cell.
 abbrev pub SameDistances : Type 0
 SameDistances =
-    (m : Memory) → fits (cell_of m) ≡ true → sound (cell_of m) ≡ true
+    (m : Memory) → Fits (cell_of m) → sound (cell_of m) ≡ true
     → (calls : List Call) (p q : ℕ) → p < length (cell_of m).nodes → q < length (cell_of m).nodes
     → SameDistance (cell_of m).nodes (cell_of (run m calls)).nodes (moved m calls) p q

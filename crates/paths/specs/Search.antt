@@ -1,6 +1,7 @@
 -- What holds while the search goes on, and what its steps leave. No public function's contract cites these.
-use Rattle.std.specs.Prelude.{ℕ, ◌+◌, ◌*◌, ◌<◌, ◌≤◌, ◌≡◌, List, ◌⊎◌, length}
+use Rattle.std.specs.Prelude.{ℕ, ◌+◌, ◌*◌, ◌<◌, ◌≤◌, ◌≡◌, List, ◌⊎◌, length, get_or}
 use Rattle.cells.specs.Cell.{Node}
+use Rattle.cells.specs.Nodes.{no_entry, no_link}
 use Rattle.cells.specs.declared.ynd.Ynd.{Ynd}
 use Rattle.walks.specs.Walk.{Next, to, stop, next}
 use Rattle.paths.specs.ShortestPath.{length_at}
@@ -8,12 +9,23 @@ use Rattle.paths.specs.Labels.{unlabelled, weight, total, Labelled}
 use Rattle.paths.specs.Scratch.{label_at, from_at, by_at, index_at, chain_at, Kept}
 use Rattle.paths.specs.declared.search.Edge.{Edge}
 use Rattle.std.specs.Prelude.{Option, Some, None}
+use Rattle.cells.specs.declared.node_entry.NodeEntry.{NodeEntry}
+use Rattle.cells.specs.declared.link.PathLink.{PathLink}
+
+-- every count of links has 8 bits, and every length
+abbrev pub ShortCounts : List NodeEntry → Type 0
+ShortCounts nodes = (i : ℕ) → i < length nodes → (get_or nodes i no_entry).link_count < 256
+
+abbrev pub ShortLinks : List PathLink → Type 0
+ShortLinks links = (i : ℕ) → i < length links → (get_or links i no_link).length < 256
 
 -- a cell of at most 65,536 nodes, whose lists are as long as their counts
-pub record Lent (y : Ynd) (nodes links : List (List ℕ)) : Type 0 where
+pub record Lent (y : Ynd) (nodes : List NodeEntry) (links : List PathLink) : Type 0 where
   pub few : y.node_count ≤ 65536
   pub nodes_fit : y.node_count ≤ length nodes
   pub links_fit : y.link_count ≤ length links
+  pub counts : ShortCounts nodes
+  pub short : ShortLinks links
 
 abbrev pub edge_by : ℕ → Next ℕ → Option Edge
 edge_by len (to q) = Some (record { to = q; length = len })

@@ -1,13 +1,14 @@
 -- T-06: a walk between two places by the cell's own links, its distance, and which walks are shortest.
 use Rattle.std.specs.Prelude.{ℕ, ◌+◌, ◌<◌, ◌≤◌, ◌≡◌, List, [], ◌∷◌, length, get_or}
 use Rattle.std.proofs.Math.Option.{Option, none, some}
-use Rattle.cells.specs.Cell.{Link, Node}
+use Rattle.cells.specs.Cell.{Node}
 use Rattle.walks.specs.Walk.{Next, to, stop, next, link_at}
 use Rattle.walks.specs.WalkCall.{route}
 use Rattle.walks.specs.declared.walk.End.TheVariants.{Done}
+use Rattle.cells.specs.declared.link.PathLink.{PathLink}
 
-abbrev pub length_of : Option Link → ℕ
-length_of (some l) = l.body.len
+abbrev pub length_of : Option PathLink → ℕ
+length_of (some l) = l.length
 length_of none = 0
 
 -- the length of the link that the choice b takes at place p

@@ -2,10 +2,9 @@
 ghost use Rattle.std.specs.Prelude.{◌≡◌, ℕ, ◌+◌, ◌*◌, ◌<◌, ◌≤◌, length};
 ghost use Rattle.cells.specs.LookupCall.{find_in};
 ghost use Rattle.paths.specs.Index.{head_at, next_at, linked, Index, Found, AllEntered, Room};
-ghost use Rattle.cells.specs.NodeWords.{number_at};
+ghost use Rattle.cells.specs.Nodes.{number_at};
 
-use cells::node::NodeWords;
-use cells::node_words::number_of;
+use cells::node_entry::NodeEntry;
 
 // No chain has a place but place 0.
 #[tactic(auto, using(crate::proofs::IndexLaws::head_cleared))]
@@ -20,7 +19,7 @@ fn clear_heads(scratch: &mut [u32], n: usize)
 
 // The first of the places entered that has the number k. The first `upto` places are entered.
 #[tactic(auto, using(crate::proofs::IndexLaws::seek_here))]
-fn entry_of(nodes: &[NodeWords], scratch: &[u32], upto: usize, k: u16) -> Option<usize>
+fn entry_of(nodes: &[NodeEntry], scratch: &[u32], upto: usize, k: u16) -> Option<usize>
     requires { Room nodes.now scratch.now × (0 < length nodes.now)
         × Index (length nodes.now) upto (number_at nodes.now) (head_at scratch.now) (next_at scratch.now) }
     ensures { Found upto (number_at nodes.now) k result }
@@ -28,7 +27,7 @@ fn entry_of(nodes: &[NodeWords], scratch: &[u32], upto: usize, k: u16) -> Option
     let h = k as usize % nodes.len();
     let mut v = (scratch[4 * h + 3] % 65536) as usize;
     loop {
-        if number_of(nodes[v]) == k {
+        if nodes[v].node_id == k {
             return Some(v);
         }
         if v == 0 {
@@ -52,21 +51,21 @@ fn link(scratch: &mut [u32], v: usize, h: usize)
 }
 
 // One more place is entered, if it is the first with its number.
-fn enter(nodes: &[NodeWords], scratch: &mut [u32], i: usize)
+fn enter(nodes: &[NodeEntry], scratch: &mut [u32], i: usize)
     requires { Room nodes.now scratch.old × (i < length nodes.now)
         × Index (length nodes.now) i (number_at nodes.now) (head_at scratch.old) (next_at scratch.old) }
     ensures { Index (length nodes.now) (i + 1) (number_at nodes.now) (head_at scratch.new)
         (next_at scratch.new) }
 {
     let n = nodes.len();
-    let k = number_of(nodes[i]);
+    let k = nodes[i].node_id;
     if entry_of(nodes, scratch, i, k).is_none() {
         link(scratch, i, k as usize % n);
     }
 }
 
 // All places are entered.
-pub(crate) fn enter_all(nodes: &[NodeWords], scratch: &mut [u32])
+pub(crate) fn enter_all(nodes: &[NodeEntry], scratch: &mut [u32])
     requires { Room nodes.now scratch.old × (0 < length nodes.now) }
     ensures { AllEntered nodes.now (length nodes.now) scratch.new }
 {
@@ -78,13 +77,13 @@ pub(crate) fn enter_all(nodes: &[NodeWords], scratch: &mut [u32])
 
 // What `node` finds, without a search through all nodes.
 #[tactic(auto, using(crate::proofs::IndexLaws::find_laws))]
-pub(crate) fn node_in(nodes: &[NodeWords], scratch: &[u32], k: u16) -> Option<usize>
+pub(crate) fn node_in(nodes: &[NodeEntry], scratch: &[u32], k: u16) -> Option<usize>
     requires { Room nodes.now scratch.now × (0 < length nodes.now)
         × AllEntered nodes.now (length nodes.now) scratch.now }
     ensures { result ≡ find_in (length nodes.now) nodes.now k }
 {
     let p = k as usize;
-    if p < nodes.len() && number_of(nodes[p]) == k {
+    if p < nodes.len() && nodes[p].node_id == k {
         return Some(p);
     }
     entry_of(nodes, scratch, nodes.len(), k)

@@ -4,12 +4,15 @@ ghost use Rattle.numbers.specs.Refusals.{decided};
 ghost use Rattle.cells.specs.Memory.{memory};
 ghost use Rattle.paths.specs.Labels.{choices_to, places_to};
 ghost use Rattle.paths.specs.PathCall.{path_causes, Searched, PathLeft};
+ghost use Rattle.paths.specs.Search.{ShortCounts, ShortLinks};
 ghost use Rattle.paths.specs.Scratch.{from_at, by_at, Traced};
+ghost use Rattle.cells.specs.declared.junction_entry.JunctionEntry.{JunctionEntry};
+ghost use Rattle.records.specs.declared.junction_ref.NodeJunctionRef.{NodeJunctionRef};
 
 use crate::scratch::{by_of, from_of, label_of};
 use crate::search::Search;
-use cells::link::LinkWords;
-use cells::node::NodeWords;
+use cells::link::PathLink;
+use cells::node_entry::NodeEntry;
 use cells::ynd::Ynd;
 use numbers::refusal::{Lent, Refusal};
 use walks::place::check_place;
@@ -36,6 +39,29 @@ fn fill(scratch: &[u32], goal: usize, choices: &mut [u8], places: &mut [u32])
         v = from_of(scratch, v);
     }
     places[0] = v as u32;
+}
+
+// A number of 8 bits, by its type.
+fn eight_bits(n: u8)
+    ensures { n < 256 }
+{}
+
+// Every count of links has 8 bits, by its type. There is nothing to run: the loop tells it of the whole list.
+fn short_counts(nodes: &[NodeEntry])
+    ensures { ShortCounts nodes.now }
+{
+    for i in 0..nodes.len() {
+        eight_bits(nodes[i].link_count);
+    }
+}
+
+// The same of every length.
+fn short_links(links: &[PathLink])
+    ensures { ShortLinks links.now }
+{
+    for i in 0..links.len() {
+        eight_bits(links[i].length);
+    }
 }
 
 // What is asked before the search, of a cell in lists of so many nodes and links, with a scratch of `room` entries.
@@ -104,20 +130,22 @@ impl Search<'_> {
 #[tactic(auto, using(crate::proofs::PathLaws::path_laws))]
 pub fn shortest_path(
     ynd: Ynd,
-    nodes: &[NodeWords],
-    links: &[LinkWords],
+    nodes: &[NodeEntry],
+    links: &[PathLink],
     from: usize,
     to: usize,
     scratch: &mut [u32],
     choices: &mut [u8],
     places: &mut [u32],
 ) -> Result<Shortest, Refusal>
-    ensures { (junctions : List (List ℕ)) (heights : List ℕ) (refs : List (List ℕ))
+    ensures { (junctions : List JunctionEntry) (heights : List ℕ) (refs : List NodeJunctionRef)
         → PathLeft (memory ynd nodes.now links.now junctions heights refs) from to
         scratch.old choices.old places.old
         result scratch.new choices.new places.new }
 {
     check_asked(ynd, nodes.len(), links.len(), from, to, scratch.len())?;
+    short_counts(nodes);
+    short_links(links);
     let nodes = &nodes[..ynd.node_count as usize];
     let search = Search {
         ynd,

@@ -8,9 +8,8 @@ use crate::index::{enter_all, node_in};
 use crate::queue::Queue;
 use crate::scratch::{clear, label_of, put_label};
 use cells::area::{belongs_to, own_area};
-use cells::link::LinkWords;
-use cells::node::NodeWords;
-use cells::range::link_count;
+use cells::link::PathLink;
+use cells::node_entry::NodeEntry;
 use cells::ynd::Ynd;
 use walks::part::link_at;
 
@@ -25,8 +24,8 @@ struct Edge {
 #[derive(Clone, Copy)]
 pub(crate) struct Search<'a> {
     pub(crate) ynd: Ynd,
-    pub(crate) nodes: &'a [NodeWords],
-    pub(crate) links: &'a [LinkWords],
+    pub(crate) nodes: &'a [NodeEntry],
+    pub(crate) links: &'a [PathLink],
     pub(crate) start: usize,
     ghost lent: { Lent ynd nodes.now links.now },
     ghost whole: { length nodes.now ≡ ynd.node_count },
@@ -59,13 +58,15 @@ impl Search<'_> {
         ensures { result ≡ edge_of (nodes_in self.now) p b }
     {
         let links = &self.links[..self.ynd.link_count as usize];
-        let w = link_at(self.nodes, links, p, b)?;
-        if !belongs_to(own_area(self.nodes, self.nodes.len()), w[0]) {
+        let l = link_at(self.nodes, links, p, b)?;
+        if !belongs_to(own_area(self.nodes, self.nodes.len()), l.area_id) {
             return None;
         }
-        let to = node_in(self.nodes, scratch, w[1])?;
-        let [_, length] = w[3].to_le_bytes();
-        Some(Edge { to, length })
+        let to = node_in(self.nodes, scratch, l.node_id)?;
+        Some(Edge {
+            to,
+            length: l.length,
+        })
     }
 
     // One link of the place u, whose label is key.
@@ -96,7 +97,7 @@ impl Search<'_> {
             × (work queue.new.n scratch.new queue.new.size ≤ work queue.old.n scratch.old queue.old.size) }
     {
         let key = label_of(scratch, u);
-        for b in 0..link_count(self.nodes[u]) {
+        for b in 0..self.nodes[u].link_count {
             self.relax_one(queue, scratch, u, key, b);
         }
     }

@@ -4,8 +4,11 @@ use mathlib.Core.Path.{◌≡◌, ap, ◌∙◌}
 use mathlib.Core.List.{List, [], map}
 use lib.ListN.{take}
 use Rattle.numbers.specs.Refusals.{number_of}
-use Rattle.cells.specs.Cell.{Link}
-use Rattle.cells.specs.CellOf.{node_with, link_of, nodes_of}
+use Rattle.cells.specs.declared.node_entry.NodeEntry.{NodeEntry}
+use Rattle.cells.specs.declared.link.PathLink.{PathLink}
+use Rattle.cells.specs.declared.junction_entry.JunctionEntry.{JunctionEntry}
+use Rattle.records.specs.declared.junction_ref.NodeJunctionRef.{NodeJunctionRef}
+use Rattle.cells.specs.CellOf.{node_with, nodes_of}
 use Rattle.cells.specs.Memory.{Memory, memory, Left, left}
 use Rattle.cells.specs.NewYnd.{new_ynd}
 use Rattle.cells.specs.Read.{read_of}
@@ -21,16 +24,17 @@ use Rattle.printround.specs.Printed.{visited_lent}
 use Rattle.std.specs.Prelude.{Ok, Err}
 use Rattle.numbers.specs.declared.refusal.Refusal.{Refusal}
 
--- a round that ended, in a cell whose links are whatever its words say
-pub ended : (y : Ynd) (ns ls js : List (List ℕ)) (hs : List ℕ) (rs : List (List ℕ)) (count : ℕ) (e : End) (n : ℕ)
+-- a round that ended, in a cell whose links are whatever its memory says
+pub ended : (y : Ynd) (ns : List NodeEntry) (ls : List PathLink) (js : List JunctionEntry) (hs : List ℕ)
+    (rs : List NodeJunctionRef) (count : ℕ) (e : End) (n : ℕ)
     (after shown text : List ℕ) (l : WalkLeft)
-    → ((links : List Link) → text ≡ round_of (map (node_with links) (take y.node_count ns)) count e shown)
+    → ((links : List PathLink) → text ≡ round_of (map (node_with links) (take y.node_count ns)) count e shown)
     → shown ≡ take n after → walk_left (Ok (record { end = e; count = n })) after ≡ l → text
     ≡ walk_of (memory y ns ls js hs rs) count l
 unfolding nodes_of
 ended y ns ls js hs rs count e n after shown text l said part is =
     let m = memory y ns ls js hs rs in
-    said (map link_of (take y.link_count ls))
+    said (take y.link_count ls)
     ∙ ap (round_of (nodes_of m) count e) part
     ∙ ap (walk_of m count) is
 
@@ -53,14 +57,16 @@ file_refused m r after text l said is = said ∙ ap (file_of m) is
 abbrev section_by : List ℕ → Left → List ℕ
 section_by file l = unless_refused l.answer (file_of l.memory (version_read file choices_lent))
 
-pub section_held : (section file text : List ℕ) (y : Ynd) (ns ls js : List (List ℕ)) (hs : List ℕ)
-    (rs : List (List ℕ)) → text ≡ file_of (memory y ns ls js hs rs) (version_read file choices_lent)
+pub section_held : (section file text : List ℕ) (y : Ynd) (ns : List NodeEntry) (ls : List PathLink)
+    (js : List JunctionEntry) (hs : List ℕ)
+    (rs : List NodeJunctionRef) → text ≡ file_of (memory y ns ls js hs rs) (version_read file choices_lent)
     → left new_ynd (Ok y) ns ls js hs rs ≡ read_of section [] lent → text ≡ section_of section file
 unfolding section_of
 section_held section file text y ns ls js hs rs said is = said ∙ ap (section_by file) is
 
-pub section_refused : (section file text : List ℕ) (r : Refusal) (ns ls js : List (List ℕ)) (hs : List ℕ)
-    (rs : List (List ℕ)) → text ≡ refused_of (number_of r)
+pub section_refused : (section file text : List ℕ) (r : Refusal) (ns : List NodeEntry) (ls : List PathLink)
+    (js : List JunctionEntry) (hs : List ℕ)
+    (rs : List NodeJunctionRef) → text ≡ refused_of (number_of r)
     → left new_ynd (Err r) ns ls js hs rs ≡ read_of section [] lent → text ≡ section_of section file
 unfolding section_of
 section_refused section file text r ns ls js hs rs said is = said ∙ ap (section_by file) is

@@ -20,7 +20,7 @@ use Rattle.cells.specs.Cell.{Node}
 use Rattle.cells.specs.FileCell.{file_nodes, file_junctions, file_refs, cell_from, cell_by, file_cell}
 use Rattle.cells.specs.Lists.{up_to}
 use Rattle.cells.specs.Lookup.{first_with, find}
-use Rattle.cells.specs.Words.{path_node}
+use Rattle.cells.specs.Paths.{path_node, path_link}
 use Rattle.walks.specs.Walk.{next}
 use Rattle.walks.specs.WalkCall.{route}
 use Rattle.walks.proofs.Example.{bytes}
@@ -39,7 +39,8 @@ pub with_own : walk_text nodes choices 2 0
     "round area 5 choices 2\n0 node 7 x 32 y 36 z 96\n1 node 3 x 0 y 4 z 64\n2 node 9 x 64 y 68 z 128\nend done\n"
 unfolding digits of_bits to_bits round step_of unstep number_at number_bytes signed16 bits16 located extent bytes_of
     array_at unknowns_of root_of root_bytes node_at node_bytes link_at link_bytes junction_at junction_bytes ref_at
-    ref_bytes belongs file_nodes file_junctions file_refs cell_from cell_by file_cell up_to first_with find path_node
+    ref_bytes belongs file_nodes file_junctions file_refs cell_from cell_by file_cell up_to first_with find
+    path_node path_link
     next route bytes steps_of line_of lines_of
 with_own = refl
 
@@ -49,7 +50,8 @@ pub with_others : walk_text_with (λ p. get_or (0 ∷ 2 ∷ 1 ∷ []) p 0) nodes
     "round area 5 choices 2\n0 node 0 x 32 y 36 z 96\n1 node 2 x 0 y 4 z 64\n2 node 1 x 64 y 68 z 128\nend done\n"
 unfolding digits of_bits to_bits round step_of unstep number_at number_bytes signed16 bits16 located extent bytes_of
     array_at unknowns_of root_of root_bytes node_at node_bytes link_at link_bytes junction_at junction_bytes ref_at
-    ref_bytes belongs file_nodes file_junctions file_refs cell_from cell_by file_cell up_to first_with find path_node
+    ref_bytes belongs file_nodes file_junctions file_refs cell_from cell_by file_cell up_to first_with find
+    path_node path_link
     next route bytes steps_of lines_with
 with_others = refl
 
@@ -58,7 +60,8 @@ pub three_numbers : (numbers : ℕ → ℕ) → walk_text_with numbers nodes cho
     ≡ walk_text_with (λ p. get_or (map numbers (0 ∷ 1 ∷ 2 ∷ [])) p 0) nodes choices 2 0
 unfolding digits of_bits to_bits round step_of unstep number_at number_bytes signed16 bits16 located extent bytes_of
     array_at unknowns_of root_of root_bytes node_at node_bytes link_at link_bytes junction_at junction_bytes ref_at
-    ref_bytes belongs file_nodes file_junctions file_refs cell_from cell_by file_cell up_to first_with find path_node
+    ref_bytes belongs file_nodes file_junctions file_refs cell_from cell_by file_cell up_to first_with find
+    path_node path_link
     next route bytes lines_with
 three_numbers numbers = refl
 

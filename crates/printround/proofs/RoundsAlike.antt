@@ -8,8 +8,6 @@ use mathlib.Core.Bool.{Bool, true, false, cond}
 use mathlib.Core.List.{List, [], ◌∷◌, ◌++◌, map}
 use lib.Dec.{ltb}
 use lib.ListN.{length, take, drop, length-map}
-use Rattle.std.specs.Float.{binary32}
-use Rattle.std.specs.Float.Ieee.{of_bits}
 use Rattle.std.specs.Prelude.{Ok, Err, Some, Result}
 use Rattle.numbers.specs.Positions.{quantised}
 use Rattle.numbers.specs.Refusals.{Answer}
@@ -17,14 +15,15 @@ use Rattle.numbers.specs.declared.refusal.Refusal.{Refusal}
 use Rattle.numbers.specs.declared.refusal.Refusal.TheVariants.{TooShort}
 use Rattle.numbers.specs.declared.refusal.Lent.TheVariants as lent
 use Rattle.numbers.specs.declared.position.Quantised.{Quantised}
-use Rattle.cells.specs.Cell.{NodeBody, Node, Cell, node_at, first_of}
+use Rattle.cells.specs.Cell.{Node, Cell, node_at, first_of}
+use Rattle.cells.specs.declared.node_entry.NodeEntry.{NodeEntry}
 use Rattle.cells.specs.CellOf.{nodes_of, cell_of}
+use Rattle.cells.specs.EntryForms.{metres_in}
 use Rattle.cells.specs.FileCell.{file_cell}
 use Rattle.cells.specs.Memory.{Memory}
 use Rattle.cells.specs.Read.{read_of}
 use Rattle.cells.proofs.Reading.FileRead.{read_cell}
 use Rattle.cells.proofs.WritingBack.Kept.{read_kept}
-use Rattle.cells.proofs.WritingBack.KeptCells.{kept}
 use Rattle.walks.specs.Sound.{sound}
 use Rattle.walks.specs.Walk.{Next, to, stop, next, Seen, see}
 use Rattle.walks.specs.WalkCall.{Route, step_on, route, WalkLeft, walk_left}
@@ -135,10 +134,8 @@ module _ (m n : Memory) (numbers : ℕ → ℕ) (f : ℕ → ℕ) (r : Route) (c
 
 -- ---- of every memory that holds a sound cell which storing keeps
 
-abbrev steps_by : NodeBody → Quantised
-steps_by b =
-    let p = b.position in
-    quantised (record { x = of_bits binary32 p.x; y = of_bits binary32 p.y; z = of_bits binary32 p.z })
+abbrev steps_by : NodeEntry → Quantised
+steps_by b = quantised (metres_in b.position)
 
 module _ (m : Memory) (fit : Fit (cell_of m)) (lies : Lies m) (calls : List Call) (p : ℕ)
     (lt : p < length (nodes_of m)) where
@@ -187,7 +184,7 @@ module _ (m : Memory) (fit : Fit (cell_of m)) (lies : Lies m) (calls : List Call
         let bs = take count choices in
         let r = route (nodes_of m) bs p in
         ap (walk_of now count) (followed_now m fit lies calls version bs p lt visited_lent)
-        ∙ by_area m now numbers f r count (text bs count) (area_answer version (Ok (Some (first_of (nodes_of m)))))
+        ∙ by_area m now numbers f r count (text bs count) (area_answer version (first_of (nodes_of m)))
         visited_lent
         _ _ (by_room m now numbers f r count (text bs count) visited_lent)
         ∙ sym (ap (λ (l : WalkLeft). walked_with numbers m count l.answer l.visited)
@@ -209,6 +206,6 @@ printed_rounds_same system graphics lent e s calls p lt =
     let m = (read_of system graphics lent).memory in
     let same : cell_of m ≡ file_cell system graphics = read_cell system graphics lent e in
     let fit : Fit (cell_of m)
-    = record { is_sound = ap sound same ∙ s; is_kept = ap kept same ∙ read_kept system graphics } in
+    = record { is_sound = ap sound same ∙ s; is_kept = rw same (read_kept system graphics) } in
     rw same at (alike_round m fit (read_lies system graphics lent e) calls p
     (rw (ap (λ (c : Cell). length c.nodes) same) lt))

@@ -4,15 +4,15 @@
 use lib.Seq.{take_at}
 use Prim.Native.Nat.{ℕ, zero, suc, ◌+◌, ◌-◌, ◌*◌, ◌≤◌, ◌<◌}
 use native.Mathlib.Omega.{arith}
-use mathlib.Core.Path.{◌≡◌, refl, sym, ap, ◌∙◌, subst}
+use mathlib.Core.Path.{◌≡◌, refl, sym, subst}
 use mathlib.Core.Bool.{Bool, true, false, cond}
-use mathlib.Core.List.{List, [], ◌∷◌, ◌++◌, map}
+use mathlib.Core.List.{List, [], ◌∷◌, ◌++◌}
 use mathlib.Core.Option.{Option, none, some}
 use lib.Dec.{ltb, leb}
 use lib.IntN.{ℤ}
-use lib.ListN.{length, take, drop, length-append}
+use lib.ListN.{length, take, drop, length-append, get_elem?}
 use lib.Signed.{mag}
-use borrow.Author.Tests.{ltb-true, ltb-false}
+use borrow.Author.Tests.{ltb-false}
 use Rattle.std.specs.Fmt.{decimal, signed_decimal}
 use Rattle.std.specs.Prelude.{Ok, Err, Some, None, Result}
 use Rattle.std.proofs.lemmas.Fmt.{length-decimal-le, length_signed_le}
@@ -27,18 +27,20 @@ use Rattle.numbers.specs.declared.refusal.Lent.TheVariants as kind
 use Rattle.numbers.specs.declared.position.Quantised.{Quantised}
 use Rattle.numbers.proofs.StepLaws.{step_in}
 use Rattle.cells.specs.Area.{belongs}
-use Rattle.cells.specs.Cell.{Link, Node, node_at, no_node, numbers, first_of}
-use Rattle.cells.specs.CellOf.{link_of, node_with, nodes_of, cell_of}
-use Rattle.cells.specs.Lists.{every}
+use Rattle.cells.specs.declared.link.PathLink.{PathLink}
+use Rattle.cells.specs.Cell.{Node, node_at, no_node, numbers, first_of}
+use Rattle.cells.specs.CellOf.{nodes_of, cell_of}
+use Rattle.std.specs.List.{All}
+use Rattle.std.proofs.lemmas.List.Elements.{All-nil, All-head, All-tail, All-weaker}
+use Rattle.cells.proofs.Forms.EntryFits.{LinkFits}
 use Rattle.cells.specs.Lookup.{find}
-use Rattle.cells.specs.LookupCall.{Place, area_id_call, node_call}
+use Rattle.cells.specs.LookupCall.{Place, node_call}
+use Rattle.cells.specs.Nodes.{first_area}
 use Rattle.cells.specs.Memory.{Memory, over_limit}
-use Rattle.cells.specs.NodeWords.{area_of, number_of as number_in}
 use Rattle.cells.specs.Read.{read_of}
 use Rattle.cells.proofs.Reading.FileRead.{read_cell}
-use Rattle.cells.proofs.Sequences.Tests.{and_left, and_right, if_any, every_any}
 use Rattle.cells.proofs.WritingBack.Kept.{read_kept}
-use Rattle.cells.proofs.WritingBack.KeptCells.{kept, kept_link, kept_node}
+use Rattle.cells.proofs.WritingBack.KeptCells.{KeptNode, Kept}
 use Rattle.walks.specs.Walk.{Next, to, stop, link_at, arrive, take_link, next}
 use Rattle.walks.specs.WalkCall.{Route, step_on, route, WalkLeft, walk_left, walk_call}
 use Rattle.walks.specs.declared.walk.End.{End}
@@ -72,33 +74,35 @@ text_length k number q hk hn x y z =
     let e = step_length q.z z in
     simp length-append (omega arith)
 
-number_fits : (ls : List Link) (ws : List (List ℕ)) (p : ℕ) → (node_at (map (node_with ls) ws) p).number < 65536
-unfolding number_in no_node
-number_fits ls [] p = omega arith
-number_fits ls (w ∷ ws) zero = omega arith
-number_fits ls (w ∷ ws) (suc p) = number_fits ls ws p
+-- areas and numbers in 16 bits, as their types in memory say
+pub record Named (n : Node) : Type 0 where
+  pub area : n.area < 65536
+  pub number : n.number < 65536
 
-area_fits : (ls : List Link) (ws : List (List ℕ)) → first_of (map (node_with ls) ws) < 65536
-unfolding area_of
-area_fits ls [] = omega arith
-area_fits ls (w ∷ ws) = omega arith
+number_fits : (ns : List Node) (p : ℕ) → All Named ns → (node_at ns p).number < 65536
+unfolding no_node
+number_fits [] p h = omega arith
+number_fits (n ∷ ns) zero h = (All-head Named n ns h).number
+number_fits (n ∷ ns) (suc p) h = number_fits ns p (All-tail Named n ns h)
 
-pub line_length : (ls : List Link) (ws : List (List ℕ)) (k p : ℕ) → k < 65536
-    → length (line_of k (node_at (map (node_with ls) ws) p)) ≤ 44
+area_fits : (ns : List Node) → All Named ns → first_of ns < 65536
+area_fits [] h = omega arith
+area_fits (n ∷ ns) h = (All-head Named n ns h).area
+
+pub line_length : (ns : List Node) → All Named ns → (k p : ℕ) → k < 65536 → length (line_of k (node_at ns p)) ≤ 44
 unfolding line_of steps_of
-line_length ls ws k p hk =
-    text_length k _ (steps_of (node_at (map (node_with ls) ws) p)) hk (number_fits ls ws p) (step_in 2 _) (step_in 2 _)
-    (step_in 5 _)
+line_length ns h k p hk =
+    text_length k _ (steps_of (node_at ns p)) hk (number_fits ns p h) (step_in 2 _) (step_in 2 _) (step_in 5 _)
 
 -- ---- all lines, and the round
 
-lines_length : (ls : List Link) (ws : List (List ℕ)) (k : ℕ) (ps : List ℕ) → k + length ps ≤ 65536
-    → length (lines_of (map (node_with ls) ws) k ps) ≤ 44 * length ps
+lines_length : (ns : List Node) → All Named ns → (k : ℕ) (ps : List ℕ) → k + length ps ≤ 65536
+    → length (lines_of ns k ps) ≤ 44 * length ps
 unfolding lines_of
-lines_length ls ws k [] few = omega arith
-lines_length ls ws k (p ∷ ps) few =
-    let here = line_length ls ws k p (omega arith) in
-    let later = lines_length ls ws (suc k) ps (omega arith) in
+lines_length ns h k [] few = omega arith
+lines_length ns h k (p ∷ ps) few =
+    let here = line_length ns h k p (omega arith) in
+    let later = lines_length ns h (suc k) ps (omega arith) in
     simp length-append (omega arith)
 
 -- the area and the number of a *left* are of 16 bits
@@ -126,17 +130,13 @@ head_length area choices ha hc =
 one_more : (xs ys : List ℕ) (m n : ℕ) → length xs ≤ m → length ys ≤ n → length (xs ++ ys) ≤ m + n
 one_more xs ys m n x y = omega (arith, length-append xs ys)
 
-pub round_length : (m : Memory) (choices : ℕ) (e : End) (places : List ℕ) → choices < 65536 → EndFits e
-    → length places ≤ 16384 → length (round_of (nodes_of m) choices e places) ≤ 720948
-unfolding nodes_of
-round_length m choices e places hc he few =
-    let ls = map link_of (take m.ynd.link_count m.links) in
-    let ws = take m.ynd.node_count m.nodes in
-    let ns = map (node_with ls) ws in
-    let lines = lines_length ls ws 0 places (omega arith) in
+pub round_length : (ns : List Node) → All Named ns → (choices : ℕ) (e : End) (places : List ℕ) → choices < 65536
+    → EndFits e → length places ≤ 16384 → length (round_of ns choices e places) ≤ 720948
+round_length ns h choices e places hc he few =
+    let lines = lines_length ns h 0 places (omega arith) in
     one_more (head_of (first_of ns) choices ++ lines_of ns 0 places) (end_of e) 720927 21
     (one_more (head_of (first_of ns) choices) (lines_of ns 0 places) 31 720896
-    (head_length (first_of ns) choices (area_fits ls ws) hc) (omega arith))
+    (head_length (first_of ns) choices (area_fits ns h) hc) (omega arith))
     (end_length e he)
 
 -- ---- refusals
@@ -169,11 +169,20 @@ refusal_length r = let a = word_length (number_of r) (number_small r) in simp le
 
 -- ---- the ending of a walk
 
-links_kept : (ns : List Node) (p : ℕ) → every kept_node ns ≡ true → every kept_link (node_at ns p).links ≡ true
-unfolding every no_node
-links_kept [] p h = refl
-links_kept (n ∷ ns) zero h = and_right _ _ (and_left (kept_node n) _ h)
-links_kept (n ∷ ns) (suc p) h = links_kept ns p (and_right (kept_node n) _ h)
+links_fit : (ns : List Node) (p : ℕ) → All KeptNode ns → All LinkFits (node_at ns p).links
+unfolding no_node
+links_fit [] p h = All-nil LinkFits
+links_fit (n ∷ ns) zero h = (All-head KeptNode n ns h).links
+links_fit (n ∷ ns) (suc p) h = links_fit ns p (All-tail KeptNode n ns h)
+
+abbrev IfFits : Option PathLink → Type 0
+IfFits (some l) = LinkFits l
+IfFits none = Unit {0}
+
+fits_at : (ls : List PathLink) (b : ℕ) → All LinkFits ls → IfFits (get_elem? ls b)
+fits_at [] b h = tt
+fits_at (l ∷ ls) zero h = All-head LinkFits l ls h
+fits_at (l ∷ ls) (suc b) h = fits_at ls b (All-tail LinkFits l ls h)
 
 abbrev NextFits : Next ℕ → Type 0
 NextFits (to q) = Unit {0}
@@ -183,19 +192,19 @@ arrive_fits : (q : Option ℕ) → NextFits (arrive q)
 arrive_fits (some q) = tt
 arrive_fits none = tt
 
-link_fits : (ns : List Node) (l : Option Link) → if_any kept_link l → NextFits (take_link ns l)
+link_fits : (ns : List Node) (l : Option PathLink) → IfFits l → NextFits (take_link ns l)
 link_fits ns none h = tt
-link_fits ns (some l) h = go (belongs (first_of ns) l.area)
+link_fits ns (some l) h = go (belongs (first_of ns) l.area_id)
   where
-    go : (b : Bool) → NextFits (cond b (arrive (find (numbers ns) l.number)) (stop (end.Left l.area l.number)))
-    go true = arrive_fits (find (numbers ns) l.number)
-    go false = (ltb-true _ _ (and_left (ltb l.area 65536) _ h), ltb-true _ _ (and_right (ltb l.area 65536) _ h))
+    go : (b : Bool) → NextFits (cond b (arrive (find (numbers ns) l.node_id)) (stop (end.Left l.area_id l.node_id)))
+    go true = arrive_fits (find (numbers ns) l.node_id)
+    go false = (h.area_id, h.node_id)
 
-pub end_fits : (ns : List Node) → every kept_node ns ≡ true → (bs : List ℕ) (p : ℕ) → EndFits (route ns bs p).ending
+pub end_fits : (ns : List Node) → All KeptNode ns → (bs : List ℕ) (p : ℕ) → EndFits (route ns bs p).ending
 unfolding route next
 end_fits ns h [] p = tt
 end_fits ns h (b ∷ bs) p =
-    go (next ns p b) (link_fits ns (link_at ns p b) (every_any kept_link (node_at ns p).links b (links_kept ns p h)))
+    go (next ns p b) (link_fits ns (link_at ns p b) (fits_at (node_at ns p).links b (links_fit ns p h)))
     (end_fits ns h bs)
   where
     go : (x : Next ℕ) → NextFits x → ((q : ℕ) → EndFits (route ns bs q).ending)
@@ -209,9 +218,12 @@ either : {A : Type 0} (P : A → Type 0) (b : Bool) {x y : A} → P x → P y �
 either P true p q = p
 either P false p q = q
 
-module _ (m : Memory) (kept_all : every kept_node (nodes_of m) ≡ true) (count : ℕ) (few : count < 65536) where
+module _ (m : Memory) (kept_all : All KeptNode (nodes_of m)) (count : ℕ) (few : count < 65536) where
   abbrev Short : WalkLeft → Type 0
   Short l = length (walk_of m count l) ≤ 720948
+
+  named : All Named (nodes_of m)
+  named = All-weaker KeptNode Named (λ n k. record { area = k.area; number = k.number }) (nodes_of m) kept_all
 
   walk_short : (choices : List ℕ) (start : ℕ) (visited : List ℕ) → length visited ≤ 16384
       → Short (walk_call m choices start visited)
@@ -237,7 +249,8 @@ module _ (m : Memory) (kept_all : every kept_node (nodes_of m) ≡ true) (count 
           let places : take (length r.places) left.visited ≡ r.places = take_at r.places _ _ refl in
           let inside = ltb-false _ _ e in
           subst (λ (ps : List ℕ). length (round_of (nodes_of m) count r.ending ps) ≤ 720948) (sym places)
-          (round_length m count r.ending r.places few (end_fits (nodes_of m) kept_all choices start) (omega arith))
+          (round_length (nodes_of m) named count r.ending r.places few (end_fits (nodes_of m) kept_all choices start)
+          (omega arith))
 
   start_short : (place : Place) (walked : ℕ → WalkLeft) (visited : List ℕ) → ((p : ℕ) → Short (walked p))
       → Short (starting_at place walked visited)
@@ -254,7 +267,7 @@ module _ (m : Memory) (kept_all : every kept_node (nodes_of m) ≡ true) (count 
       → Short (follow_version m v start choices visited)
   unfolding follow_version follow_round
   follow_short v start choices visited room =
-      unless_short (area_answer v (area_id_call m.ynd m.nodes)) visited _
+      unless_short (area_answer v (first_area (take m.ynd.node_count m.nodes))) visited _
       (start_short (node_call m.ynd m.nodes start) (λ p. walk_call m choices p visited) visited
       (λ p. walk_short choices p visited room))
 
@@ -284,7 +297,7 @@ count_fits s choices =
 
 -- ---- the whole text
 
-file_short : (m : Memory) → every kept_node (nodes_of m) ≡ true → (a : Result VersionRound Refusal) (choices : List ℕ)
+file_short : (m : Memory) → All KeptNode (nodes_of m) → (a : Result VersionRound Refusal) (choices : List ℕ)
     → CountFits a → length (followed_of m a choices) ≤ 720948
 unfolding visited_lent
 file_short m kept_all (Ok v) choices fits =
@@ -293,7 +306,7 @@ file_short m kept_all (Ok v) choices fits =
 file_short m kept_all (Err cause) choices fits = refusal_length cause
 
 section_short : (section file : List ℕ) → length (section_of section file) ≤ 720948
-unfolding section_of kept cell_of
+unfolding section_of cell_of
 section_short section file = go (read_of section [] lent).answer refl
   where
     m : Memory
@@ -302,8 +315,8 @@ section_short section file = go (read_of section [] lent).answer refl
     go : (a : Answer) → (read_of section [] lent).answer ≡ a
         → length (unless_refused a (file_of m (version_read file choices_lent))) ≤ 720948
     go (Ok tt) e =
-        let stored : kept (cell_of m) ≡ true = ap kept (read_cell section [] lent e) ∙ read_kept section [] in
-        file_short m (and_left (every kept_node (nodes_of m)) _ stored) (version_read file choices_lent).answer
+        let stored : Kept (cell_of m) = rw (read_cell section [] lent e) (read_kept section []) in
+        file_short m stored.nodes (version_read file choices_lent).answer
         (version_read file choices_lent).choices (count_fits file choices_lent)
     go (Err cause) e = refusal_length cause
 

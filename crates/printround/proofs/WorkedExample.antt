@@ -12,17 +12,15 @@ use Rattle.records.specs.Sections.{located, extent, bytes_of, array_at}
 use Rattle.records.specs.Root.{unknowns_of, root_of}
 use Rattle.records.specs.Records.{node_at, link_at, junction_at, ref_at}
 use Rattle.cells.specs.Lists.{up_to, join_to, sum_to}
-use Rattle.cells.specs.Words.{path_node, path_link, node_words, link_words}
+use Rattle.cells.specs.Paths.{path_node, path_link}
 use Rattle.cells.specs.Checks.{sizes_check, arrays_found, scan, arrays_check}
 use Rattle.cells.specs.Memory.{over_limit, nodes_causes}
 use Rattle.cells.specs.NewYnd.{new_ynd}
 use Rattle.cells.specs.Read.{links_from, node_in, links_in, room_check, cell_read, filled, read_arrays, read_of}
 use Rattle.cells.specs.Area.{belongs}
-use Rattle.cells.specs.NodeWords.{area_of, number_of}
 use Rattle.cells.specs.CellOf.{nodes_of}
-use Rattle.cells.specs.Cell.{body_of}
 use Rattle.cells.specs.Lookup.{first_with, find}
-use Rattle.cells.specs.LookupCall.{area_id_call, numbers_in, find_in, node_call}
+use Rattle.cells.specs.LookupCall.{numbers_in, find_in, node_call}
 use Rattle.walks.specs.Walk.{next}
 use Rattle.walks.specs.WalkCall.{route, walk_call}
 use Rattle.rounds.specs.Round.{has_version, rest_read, version_read}
@@ -43,8 +41,8 @@ pub worked_example : printed input
     ≡ codes "round area 489 choices 1\n0 node 0 x 0 y 0 z 0\n1 node 1 x 12 y 16 z 0\nend done\n"
 unfolding digits of_bits to_bits round step_of unstep number_at number_bytes signed16 bits16 located extent bytes_of
     array_at unknowns_of root_of node_at link_at junction_at ref_at up_to join_to sum_to path_node path_link
-    node_words link_words sizes_check arrays_found scan arrays_check over_limit new_ynd links_from node_in links_in
-    room_check cell_read filled read_arrays read_of belongs area_of number_of body_of nodes_of first_with find
-    area_id_call nodes_causes numbers_in find_in node_call next route walk_call has_version rest_read version_read
+    sizes_check arrays_found scan arrays_check over_limit new_ynd links_from node_in links_in
+    room_check cell_read filled read_arrays read_of belongs nodes_of first_with find
+    nodes_causes numbers_in find_in node_call next route walk_call has_version rest_read version_read
     follow_round follow_version put steps_of line_of lines_of lent choices_lent visited_lent section_of printed
 worked_example = refl

@@ -4,6 +4,7 @@ use Rattle.records.specs.Bytes.{le32}
 use Rattle.numbers.specs.Refusals.{Answer, number_of}
 use Rattle.cells.specs.Memory.{Memory, memory}
 use Rattle.cells.specs.NewYnd.{new_ynd}
+use Rattle.cells.specs.Nodes.{no_entry, no_link, no_map, no_ref}
 use Rattle.cells.specs.CellOf.{nodes_of}
 use Rattle.cells.specs.Read.{read_of}
 use Rattle.walks.specs.WalkCall.{WalkLeft}
@@ -19,8 +20,8 @@ use Rattle.rounds.specs.declared.file.VersionRound.{VersionRound}
 -- 16,384 visited places": all of them zeros.
 unfoldable pub lent : Memory
 lent =
-    memory new_ynd (replicate 1024 (replicate 13 0)) (replicate 8192 (replicate 4 0)) (replicate 256 (replicate 6 0))
-    (replicate 65536 0) (replicate 1024 (replicate 4 0))
+    memory new_ynd (replicate 1024 no_entry) (replicate 8192 no_link) (replicate 256 no_map) (replicate 65536 0)
+    (replicate 1024 no_ref)
 
 unfoldable pub choices_lent : List ℕ
 choices_lent = replicate 65536 0

@@ -1,11 +1,10 @@
 -- T-13: the lines of a printed round. Numbers are decimal, steps are signed, and one newline ends each line.
 use Rattle.std.specs.Prelude.{ℕ, suc, List, [], ◌∷◌, ◌++◌, codes, decimal}
 use Rattle.std.specs.Fmt.{signed_decimal}
-use Rattle.std.specs.Float.{binary32}
-use Rattle.std.specs.Float.Ieee.{of_bits}
 use Rattle.numbers.specs.Positions.{quantised}
 use Rattle.numbers.specs.declared.position.Quantised.{Quantised}
 use Rattle.cells.specs.Cell.{Node, node_at, first_of}
+use Rattle.cells.specs.EntryForms.{metres_in}
 use Rattle.walks.specs.declared.walk.End.{End}
 use Rattle.walks.specs.declared.walk.End.TheVariants.{Done, NoLink, Left, NoNode}
 
@@ -15,9 +14,7 @@ head_of area choices = codes "round area " ++ decimal area ++ codes " choices " 
 
 -- the steps that writing the node would store
 unfoldable pub steps_of : Node → Quantised
-steps_of n =
-    let p = n.body.position in
-    quantised (record { x = of_bits binary32 p.x; y = of_bits binary32 p.y; z = of_bits binary32 p.z })
+steps_of n = quantised (metres_in n.body.position)
 
 -- "a line for each visited node with its step, number and stored steps": its place in the round, its own number
 abbrev pub line_text : ℕ → ℕ → Quantised → List ℕ

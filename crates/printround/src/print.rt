@@ -2,20 +2,22 @@
 ghost use Rattle.std.specs.Prelude.{◌≡◌, List, [], ℕ, IfOk, length, string_bytes};
 ghost use Rattle.cells.specs.Memory.{memory, left};
 ghost use Rattle.cells.specs.NewYnd.{new_ynd};
+ghost use Rattle.cells.specs.declared.junction_entry.JunctionEntry.{JunctionEntry};
+ghost use Rattle.records.specs.declared.junction_ref.NodeJunctionRef.{NodeJunctionRef};
 ghost use Rattle.cells.specs.Read.{read_of};
 ghost use Rattle.rounds.specs.Round.{version_read};
 ghost use Rattle.rounds.specs.Follow.{follow_version};
 ghost use Rattle.printround.specs.Printed.{walk_of, file_of, section_of, printed, choices_lent, visited_lent};
 
 use crate::text::{bad_input, refused, round};
-use cells::junction::JunctionWords;
-use cells::junction_ref::RefWords;
-use cells::link::LinkWords;
-use cells::node::NodeWords;
+use cells::junction_entry::JunctionEntry;
+use cells::link::PathLink;
+use cells::node_entry::NodeEntry;
 use cells::read::read;
 use cells::ynd::Ynd;
 use numbers::refusal::Refusal;
 use records::bytes::u32_at;
+use records::junction_ref::NodeJunctionRef;
 use rounds::file::{VersionRound, read_version};
 use rounds::follow::follow_version;
 use std::alloc::{AllocError, Global};
@@ -24,12 +26,13 @@ use std::alloc::{AllocError, Global};
 fn followed(
     alloc: Global,
     ynd: Ynd,
-    nodes: &[NodeWords],
-    links: &[LinkWords],
+    nodes: &[NodeEntry],
+    links: &[PathLink],
     round_file: VersionRound,
     choices: &[u8],
 ) -> Result<String, AllocError>
-    ensures { IfOk result (λ text. (junctions : List (List ℕ)) (heights : List ℕ) (refs : List (List ℕ))
+    ensures { IfOk result (λ text. (junctions : List JunctionEntry) (heights : List ℕ)
+        (refs : List NodeJunctionRef)
         → string_bytes text ≡ walk_of (memory ynd nodes.now links.now junctions heights refs) round_file.count
         (follow_version (memory ynd nodes.now links.now junctions heights refs) round_file.version
         round_file.start choices.now visited_lent)) }
@@ -58,11 +61,12 @@ fn followed(
 fn file_read(
     alloc: Global,
     ynd: Ynd,
-    nodes: &[NodeWords],
-    links: &[LinkWords],
+    nodes: &[NodeEntry],
+    links: &[PathLink],
     file: &[u8],
 ) -> Result<String, AllocError>
-    ensures { IfOk result (λ text. (junctions : List (List ℕ)) (heights : List ℕ) (refs : List (List ℕ))
+    ensures { IfOk result (λ text. (junctions : List JunctionEntry) (heights : List ℕ)
+        (refs : List NodeJunctionRef)
         → string_bytes text ≡ file_of (memory ynd nodes.now links.now junctions heights refs)
         (version_read file.now choices_lent)) }
 {
@@ -80,11 +84,11 @@ fn file_read(
 // The section is read, graphics empty, into a new cell.
 fn cell_read(
     section: &[u8],
-    nodes: &mut [NodeWords],
-    links: &mut [LinkWords],
-    junctions: &mut [JunctionWords],
+    nodes: &mut [NodeEntry],
+    links: &mut [PathLink],
+    junctions: &mut [JunctionEntry],
     heights: &mut [u8],
-    refs: &mut [RefWords],
+    refs: &mut [NodeJunctionRef],
 ) -> Result<Ynd, Refusal>
     ensures { left new_ynd result nodes.new links.new junctions.new heights.new refs.new
         ≡ read_of section.now [] (memory new_ynd nodes.old links.old junctions.old heights.old refs.old) }
@@ -105,11 +109,11 @@ fn cell_read(
 fn section_read(alloc: Global, section: &[u8], file: &[u8]) -> Result<String, AllocError>
     ensures { IfOk result (λ text. string_bytes text ≡ section_of section.now file.now) }
 {
-    let mut nodes = vec![in alloc; [0u32; 13]; 1024]?;
-    let mut links = vec![in alloc; [0u16; 4]; 8192]?;
-    let mut junctions = vec![in alloc; [0u32; 6]; 256]?;
+    let mut nodes = vec![in alloc; NodeEntry::default(); 1024]?;
+    let mut links = vec![in alloc; PathLink::default(); 8192]?;
+    let mut junctions = vec![in alloc; JunctionEntry::default(); 256]?;
     let mut heights = vec![in alloc; 0u8; 65_536]?;
-    let mut refs = vec![in alloc; [0u16; 4]; 1024]?;
+    let mut refs = vec![in alloc; NodeJunctionRef::default(); 1024]?;
     let read = cell_read(
         section,
         nodes.as_mut_slice(),

@@ -1,15 +1,15 @@
 // The lines of a printed round.
-ghost use Rattle.std.specs.Prelude.{◌≡◌, IfOk, List, [], map, get_or, replicate, string_bytes};
+ghost use Rattle.std.specs.Prelude.{◌≡◌, IfOk, List, [], map, get_or, string_bytes};
 ghost use Rattle.numbers.specs.Positions.{quantised};
-ghost use Rattle.cells.specs.Cell.{Link};
+ghost use Rattle.cells.specs.declared.link.PathLink.{PathLink};
 ghost use Rattle.cells.specs.CellOf.{node_with};
-ghost use Rattle.cells.specs.NodeWords.{first_area};
+ghost use Rattle.cells.specs.Nodes.{no_entry, first_area};
 ghost use Rattle.printround.specs.Text.{head_of, line_text, line_of, lines_of, end_of, refused_of, steps_of};
 ghost use Rattle.printround.specs.Text.{round_of, bad_input};
 
 use cells::area::own_area;
-use cells::node::{NodeWords, PathNode};
-use cells::node_words::number_of;
+use cells::node_entry::NodeEntry;
+use numbers::math::Vec3;
 use numbers::position::{Quantised, quantise};
 use std::alloc::{AllocError, Global};
 use walks::walk::End;
@@ -50,35 +50,35 @@ fn line_with(alloc: Global, k: usize, number: u16, q: Quantised) -> Result<Strin
 }
 
 // The steps that are stored of a node's position.
-fn steps_of(w: NodeWords) -> Quantised
-    ensures { result ≡ steps_of (node_with [] w) }
+#[tactic(auto, unfolding(crate::specs::Text::steps_of))]
+fn steps_of(n: NodeEntry) -> Quantised
+    ensures { result ≡ steps_of (node_with [] n) }
 {
-    let n = PathNode::from(w);
-    quantise(n.position)
+    quantise(Vec3::from(n.position))
 }
 
-fn line(alloc: Global, k: usize, w: NodeWords) -> Result<String, AllocError>
-    ensures { IfOk result (λ text. string_bytes text ≡ line_of k (node_with [] w)) }
+fn line(alloc: Global, k: usize, n: NodeEntry) -> Result<String, AllocError>
+    ensures { IfOk result (λ text. string_bytes text ≡ line_of k (node_with [] n)) }
 {
-    line_with(alloc, k, number_of(w), steps_of(w))
+    line_with(alloc, k, n.node_id, steps_of(n))
 }
 
-// The words of the node at a place, zeros where there is none.
-fn words_at(nodes: &[NodeWords], p: usize) -> NodeWords
-    ensures { result ≡ get_or nodes.now p (replicate 13 0) }
+// The node at a place, zeros where there is none.
+fn entry_at(nodes: &[NodeEntry], p: usize) -> NodeEntry
+    ensures { result ≡ get_or nodes.now p no_entry }
 {
-    nodes.get(p).copied().unwrap_or([0; 13])
+    nodes.get(p).copied().unwrap_or_default()
 }
 
 // A line for each place, whatever the nodes' links.
-fn lines(alloc: Global, nodes: &[NodeWords], places: &[u32]) -> Result<String, AllocError>
-    ensures { IfOk result (λ text. (links : List Link)
+fn lines(alloc: Global, nodes: &[NodeEntry], places: &[u32]) -> Result<String, AllocError>
+    ensures { IfOk result (λ text. (links : List PathLink)
         → string_bytes text ≡ lines_of (map (node_with links) nodes.now) 0 places.now) }
 {
     let mut text = String::new(alloc);
     for (k, p) in places.iter().enumerate() {
-        let w = words_at(nodes, *p as usize);
-        let next = line(alloc, k, w)?;
+        let n = entry_at(nodes, *p as usize);
+        let next = line(alloc, k, n)?;
         text.push_str(next.as_str())?;
     }
     Ok(text)
@@ -87,12 +87,12 @@ fn lines(alloc: Global, nodes: &[NodeWords], places: &[u32]) -> Result<String, A
 // The whole text of a round that ended.
 pub(crate) fn round(
     alloc: Global,
-    nodes: &[NodeWords],
+    nodes: &[NodeEntry],
     choices: usize,
     end: End,
     places: &[u32],
 ) -> Result<String, AllocError>
-    ensures { IfOk result (λ text. (links : List Link)
+    ensures { IfOk result (λ text. (links : List PathLink)
         → string_bytes text ≡ round_of (map (node_with links) nodes.now) choices end places.now) }
 {
     let area = own_area(nodes, nodes.len());

@@ -18,8 +18,9 @@ use Rattle.std.specs.Prelude.{Ok, Err}
 use Rattle.numbers.proofs.Refusing.{decided_append}
 use Rattle.numbers.specs.declared.refusal.Refusal.TheVariants.{TooShort}
 use Rattle.numbers.specs.declared.refusal.Lent.TheVariants as lent
+use Rattle.cells.specs.declared.node_entry.NodeEntry.{NodeEntry}
 
-module _ (ynd : Ynd) (nodes : List (List ℕ)) (x y : ℤ) (under : over_limit ynd ≡ false)
+module _ (ynd : Ynd) (nodes : List NodeEntry) (x y : ℤ) (under : over_limit ynd ≡ false)
     (held : ynd.node_count ≤ length nodes) (far : ℕ → ℕ) (m : ℕ)
     (cut : Cut far (distances x y nodes) m ynd.node_count) where
   pub within_short : (radius : ℕ) (places : List ℕ) → leb (length (within far radius m)) (length places) ≡ false

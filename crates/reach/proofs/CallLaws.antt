@@ -28,6 +28,8 @@ use Rattle.numbers.specs.declared.refusal.Refusal.{Refusal}
 use Rattle.numbers.proofs.Refusing.{not_refused}
 use Rattle.numbers.specs.declared.refusal.Refusal.TheVariants.{TooShort, AtLimit}
 use Rattle.numbers.specs.declared.refusal.Lent.TheVariants as lent
+use Rattle.cells.specs.declared.node_entry.NodeEntry.{NodeEntry}
+use Rattle.cells.specs.Nodes.{no_entry}
 
 -- ---- an accepted call, and a refused one
 
@@ -66,10 +68,10 @@ head_listed [] h = absurd (omega arith)
 head_listed (x ∷ xs) h = omega (arith, times_more x xs)
 
 -- what the causes come to, of a call that lists l
-abbrev within_decided : Ynd → List (List ℕ) → List ℕ → List ℕ → Answer
+abbrev within_decided : Ynd → List NodeEntry → List ℕ → List ℕ → Answer
 within_decided ynd nodes l places = decided (within_causes ynd (length nodes) (length l) (length places))
 
-module _ (ynd : Ynd) (nodes : List (List ℕ)) (x y : ℤ) (radius : ℕ) (places after : List ℕ) where
+module _ (ynd : Ynd) (nodes : List NodeEntry) (x y : ℤ) (radius : ℕ) (places after : List ℕ) where
   -- a refusal changes nothing
   pub refused_stays : (c : Refusal) → within_call ynd nodes x y radius places ≡ left (Err c) after
       → after ≡ places
@@ -159,16 +161,17 @@ module _ (ynd : Ynd) (nodes : List (List ℕ)) (x y : ℤ) (radius : ℕ) (place
 
     -- T-01: radius 0 lists exactly the nodes on that spot
     pub spot_listed : radius ≡ 0 → (p : ℕ) → p < ynd.node_count
-        → x ≡ (stored (get_or nodes p [])).x → y ≡ (stored (get_or nodes p [])).y → times p (take count after) ≡ 1
+        → x ≡ (stored (get_or nodes p no_entry)).x → y ≡ (stored (get_or nodes p no_entry)).y
+        → times p (take count after) ≡ 1
     unfolding distances
-    spot_listed zero p lt e f = listed_near p lt (omega (arith, spot x y (get_or nodes p []) e f))
+    spot_listed zero p lt e f = listed_near p lt (omega (arith, spot x y (get_or nodes p no_entry) e f))
 
     pub spot_only : radius ≡ 0 → (p : ℕ) → 0 < times p (take count after)
-        → (x ≡ (stored (get_or nodes p [])).x) × (y ≡ (stored (get_or nodes p [])).y)
+        → (x ≡ (stored (get_or nodes p no_entry)).x) × (y ≡ (stored (get_or nodes p no_entry)).y)
     unfolding distances
     spot_only zero p t =
         let r : radius * radius ≡ 0 = ap (λ (k : ℕ). k * k) zero in
-        on_spot x y (get_or nodes p []) (omega (arith, (listed_only p t).1))
+        on_spot x y (get_or nodes p no_entry) (omega (arith, (listed_only p t).1))
 
 -- ---- nearest
 
@@ -188,7 +191,7 @@ no_answer d (Ok _) (some p) e = let z : ◌≡◌ {A = ℕ} 0 1 = cc in absurd (
 no_answer d (Ok _) none e = refl
 no_answer d (Err n) o e = not_refused e
 
-module _ (ynd : Ynd) (nodes : List (List ℕ)) (x y : ℤ) where
+module _ (ynd : Ynd) (nodes : List NodeEntry) (x y : ℤ) where
   -- T-01: none exactly for the empty cell, one way
   pub nothing_empty : nearest_call ynd nodes x y ≡ Ok None → ynd.node_count ≡ 0
   unfolding nearest_call
@@ -253,7 +256,7 @@ module _ (ynd : Ynd) (nodes : List (List ℕ)) (x y : ℤ) where
 
 -- ---- the first entry
 
-module _ (ynd : Ynd) (nodes : List (List ℕ)) (x y : ℤ) (radius : ℕ) (places after : List ℕ) (count : ℕ)
+module _ (ynd : Ynd) (nodes : List NodeEntry) (x y : ℤ) (radius : ℕ) (places after : List ℕ) (count : ℕ)
     (h : within_call ynd nodes x y radius places ≡ left (Ok count) after) (pos : 0 < count) where
   head_near : (get_or (take count after) 0 0 < ynd.node_count)
       × (distances x y nodes (get_or (take count after) 0 0) ≤ radius * radius)

@@ -22,6 +22,8 @@ use Rattle.reach.proofs.NearestLaws.{nearest_is}
 use Rattle.reach.proofs.Sorting.BelowLaws.{Below, more, below_of, sorted_below}
 use Rattle.reach.proofs.Sorting.BelowLaws as below
 use Rattle.reach.proofs.Sorting.PartLaws.{within_below}
+use Rattle.cells.specs.Nodes.{no_entry}
+use Rattle.cells.specs.declared.node_entry.NodeEntry.{NodeEntry}
 
 -- m places, at which the two are the same
 pub record Cut (d e : ℕ → ℕ) (m n : ℕ) : Type 0 where
@@ -85,7 +87,7 @@ module _ (d e : ℕ → ℕ) (m n : ℕ) (c : Cut d e m n) where
       ∙ answer_same d e n c.same (nearest_of e n) (λ q f. (nearest_is e n q f).place)
 
 -- the distances of the first n nodes from a point
-pub cut_nodes : (x y : ℤ) (nodes own first : List (List ℕ)) (far : ℕ → ℕ) (n : ℕ) → SFits w16 x → SFits w16 y
+pub cut_nodes : (x y : ℤ) (nodes own first : List NodeEntry) (far : ℕ → ℕ) (n : ℕ) → SFits w16 x → SFits w16 y
     → n ≤ length nodes → own ≡ take n nodes → first ≡ own
     → far ≡ distances (to_z w16 (of_z w16 x)) (to_z w16 (of_z w16 y)) own
     → Cut far (distances x y nodes) (length first) n
@@ -94,6 +96,6 @@ cut_nodes x y nodes own first far n fx fy le eo e f = record {
   long = ap length (e ∙ eo) ∙ length-take-le n nodes le;
   same = λ p lt.
       (λ i. f i p)
-      ∙ (λ i. squared (to_z w16 (of_z w16 x)) (to_z w16 (of_z w16 y)) (get_or (eo i) p []))
-      ∙ (λ i. squared (to_z-of_z w16 x fx i) (to_z-of_z w16 y fy i) (get_or-take n nodes p [] lt i));
+      ∙ (λ i. squared (to_z w16 (of_z w16 x)) (to_z w16 (of_z w16 y)) (get_or (eo i) p no_entry))
+      ∙ (λ i. squared (to_z-of_z w16 x fx i) (to_z-of_z w16 y fy i) (get_or-take n nodes p no_entry lt i));
 }

@@ -3,7 +3,7 @@ use Prim.Native.Nat.{ℕ, zero, suc, ◌+◌, ◌-◌, ◌*◌, ◌<◌, ◌≤�
 use native.Mathlib.Nat.{mul-le-mul}
 use native.Mathlib.Omega.{arith}
 use mathlib.Core.Path.{◌≡◌, refl, ap, sym, ◌∙◌}
-use mathlib.Core.List.{List, []}
+use mathlib.Core.List.{List}
 use lib.IntN.{ℤ, pos, negsuc, nat_abs, ◌+ℤ◌, ◌-ℤ◌, +ℤ_idl, +ℤ_invr, -ℤ-+ℤ_cancel}
 use lib.ListN.{get_or}
 use lib.Signed.{mag}
@@ -14,6 +14,8 @@ use Rattle.std.proofs.lemmas.Int.{ints}
 use Rattle.numbers.proofs.StepLaws.{step_in}
 use Rattle.reach.specs.Reach.{stored, square, square_distance, squared, distances}
 use Rattle.reach.specs.Parts.{raised_step, square_apart, far_from, far}
+use Rattle.cells.specs.declared.node_entry.NodeEntry.{NodeEntry}
+use Rattle.cells.specs.Nodes.{no_entry}
 
 -- ---- counted from the lowest step
 
@@ -44,20 +46,20 @@ square_of : (a b : ℤ) → mag a < 32768 → mag b < 32768 → square_apart (ra
 unfolding square square_apart
 square_of a b ha hb = ap (λ (k : ℕ). k * k) (omega (arith, apart a b ha hb, raised_up a ha, raised_up b hb))
 
-far_at : (x y : ℤ) (nodes : List (List ℕ)) → mag x < 32768 → mag y < 32768 → (p : ℕ)
+far_at : (x y : ℤ) (nodes : List NodeEntry) → mag x < 32768 → mag y < 32768 → (p : ℕ)
     → far (raised_step x) (raised_step y) nodes p ≡ distances x y nodes p
 unfolding far far_from distances squared square_distance stored
 far_at x y nodes hx hy p =
-    let w = get_or nodes p [] in
+    let w = get_or nodes p no_entry in
     cc (square_of x (stored w).x hx (step_in 2 _), square_of y (stored w).y hy (step_in 2 _))
 
 -- the distances that the loops go by are T-01's
-pub far_is : (x y : ℤ) (nodes : List (List ℕ)) → mag x < 32768 → mag y < 32768
+pub far_is : (x y : ℤ) (nodes : List NodeEntry) → mag x < 32768 → mag y < 32768
     → far (raised_step x) (raised_step y) nodes ≡ distances x y nodes
 far_is x y nodes hx hy = λ i p. far_at x y nodes hx hy p i
 
 -- the same, of the numbers that `raised` gave
-pub far_of : (x y : ℤ) (a b : ℕ) (nodes : List (List ℕ)) → SFits w16 x → SFits w16 y
+pub far_of : (x y : ℤ) (a b : ℕ) (nodes : List NodeEntry) → SFits w16 x → SFits w16 y
     → a ≡ raised_step (to_z w16 (of_z w16 x)) → b ≡ raised_step (to_z w16 (of_z w16 y)) → far a b nodes
     ≡ distances x y nodes
 far_of x y a b nodes fx fy e f =
@@ -88,7 +90,7 @@ same_step a b h =
     sym (-ℤ-+ℤ_cancel a b) ∙ ap (λ (x : ℤ). x +ℤ b) z ∙ +ℤ_idl b
 
 -- a node at distance 0 is on the spot
-pub on_spot : (x y : ℤ) (w : List ℕ) → squared x y w ≤ 0 → (x ≡ (stored w).x) × (y ≡ (stored w).y)
+pub on_spot : (x y : ℤ) (w : NodeEntry) → squared x y w ≤ 0 → (x ≡ (stored w).x) × (y ≡ (stored w).y)
 unfolding squared square_distance
 on_spot x y w h = (same_step x (stored w).x (omega arith), same_step y (stored w).y (omega arith))
 
@@ -96,7 +98,7 @@ no_square : (a : ℤ) → square (a -ℤ a) ≡ 0
 unfolding square
 no_square a = ap (λ (z : ℤ). nat_abs z * nat_abs z) (+ℤ_invr a)
 
-pub spot : (x y : ℤ) (w : List ℕ) → x ≡ (stored w).x → y ≡ (stored w).y → squared x y w ≡ 0
+pub spot : (x y : ℤ) (w : NodeEntry) → x ≡ (stored w).x → y ≡ (stored w).y → squared x y w ≡ 0
 unfolding squared square_distance
 spot x y w e f =
     (λ i. square (e i -ℤ (stored w).x) + square (f i -ℤ (stored w).y))

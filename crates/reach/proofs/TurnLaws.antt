@@ -18,10 +18,11 @@ use Rattle.std.proofs.lemmas.List.{get_or-drop, get_or-take, length-drop, length
 use Rattle.std.proofs.lemmas.List.Filters.{length-filter_more}
 use Rattle.std.proofs.lemmas.Bool.Decides.{nat_tests}
 use Rattle.numbers.specs.Steps.{step_of}
-use Rattle.cells.specs.Words.{to_node}
 use Rattle.cells.specs.Lists.{join_to}
 use Rattle.reach.specs.Reach.{stored, only_if, within, nearest_of}
 use Rattle.reach.specs.Parts.{bounded, far, far_from, square_apart, raised_step}
+use Rattle.cells.specs.declared.node_entry.NodeEntry.{NodeEntry}
+use Rattle.cells.specs.Nodes.{no_entry}
 
 -- ---- a distance as far as a limit
 
@@ -111,14 +112,14 @@ module _ (d : ℕ → ℕ) (radius i r limit : ℕ) (e : r ≡ bounded limit (d 
       ∙ ap (λ (p : List ℕ). p ++ drop (k + 1) before) (sym (listed_near h))
 
 -- they are as many as the nodes that pass the test
-module _ (x y radius limit : ℕ) (l : limit ≡ radius * radius + 1) (nodes : List (List ℕ)) where
+module _ (x y radius limit : ℕ) (l : limit ≡ radius * radius + 1) (nodes : List NodeEntry) where
   abbrev d : ℕ → ℕ
   d = far x y nodes
 
-  abbrev pub near : List ℕ → Bool
+  abbrev pub near : NodeEntry → Bool
   near w = ltb (bounded limit (far_from x y w)) limit
 
-  one_counted : (i : ℕ) (b : Bool) → near (get_or nodes i []) ≡ b
+  one_counted : (i : ℕ) (b : Bool) → near (get_or nodes i no_entry) ≡ b
       → length (within d radius i) + cond b 1 0 ≡ length (within d radius (i + 1))
   unfolding far
   one_counted i true t = omega (
@@ -132,13 +133,13 @@ module _ (x y radius limit : ℕ) (l : limit ≡ radius * radius + 1) (nodes : L
   counted_to zero le = ap length (sym (within_none d radius))
   counted_to (suc i) le =
       ap (λ (k : ℕ). length (filter near (take k nodes))) (sym (add-one i))
-      ∙ length-filter_more near nodes i [] (omega arith)
-      ∙ ap (λ (n : ℕ). n + cond (near (get_or nodes i [])) 1 0) (counted_to i (omega arith))
-      ∙ one_counted i (near (get_or nodes i [])) refl
+      ∙ length-filter_more near nodes i no_entry (omega arith)
+      ∙ ap (λ (n : ℕ). n + cond (near (get_or nodes i no_entry)) 1 0) (counted_to i (omega arith))
+      ∙ one_counted i (near (get_or nodes i no_entry)) refl
       ∙ ap (λ (k : ℕ). length (within d radius k)) (add-one i)
 
   pub all_counted : length (filter near nodes) ≡ length (within d radius (length nodes))
-  all_counted = ap (λ (q : List (List ℕ)). length (filter near q)) (sym (take-length nodes))
+  all_counted = ap (λ (q : List NodeEntry). length (filter near q)) (sym (take-length nodes))
       ∙ counted_to (length nodes) (omega arith)
 
 -- ---- the nearest
@@ -157,13 +158,13 @@ module _ (d : ℕ → ℕ) where
   nearest_one = refl
 
 -- a node behind the first
-pub nearest_rest : (x y i : ℕ) (nodes : List (List ℕ)) → i < length (take (length nodes - 1) (drop 1 nodes))
-    → far_from x y (get_or (take (length nodes - 1) (drop 1 nodes)) i []) ≡ far x y nodes (i + 1)
+pub nearest_rest : (x y i : ℕ) (nodes : List NodeEntry) → i < length (take (length nodes - 1) (drop 1 nodes))
+    → far_from x y (get_or (take (length nodes - 1) (drop 1 nodes)) i no_entry) ≡ far x y nodes (i + 1)
 unfolding far
-nearest_rest x y i nodes h = ap (far_from x y) (get_or-take (length nodes - 1) (drop 1 nodes) i []
+nearest_rest x y i nodes h = ap (far_from x y) (get_or-take (length nodes - 1) (drop 1 nodes) i no_entry
     (omega (arith, length-take-le (length nodes - 1) (drop 1 nodes) (omega (arith, length-drop 1 nodes))))
-    ∙ get_or-drop 1 nodes i []
-    ∙ ap (λ (k : ℕ). get_or nodes k []) (swap i))
+    ∙ get_or-drop 1 nodes i no_entry
+    ∙ ap (λ (k : ℕ). get_or nodes k no_entry) (swap i))
   where
     swap : (i : ℕ) → 1 + i ≡ i + 1
     swap i = omega arith
@@ -171,10 +172,10 @@ nearest_rest x y i nodes h = ap (far_from x y) (get_or-take (length nodes - 1) (
 -- ---- the laws that each function goes by, for the check
 
 -- the steps of a node as the code reads them
-pub far_read : (x y : ℕ) (w : List ℕ) → far_from x y w
-    ≡ square_apart x (raised_step (step_of 2 (of_bits binary32 (get_or w 2 0))))
-    + square_apart y (raised_step (step_of 2 (of_bits binary32 (get_or w 3 0))))
-unfolding far_from stored to_node
+pub far_read : (x y : ℕ) (w : NodeEntry) → far_from x y w
+    ≡ square_apart x (raised_step (step_of 2 (of_bits binary32 w.position.x)))
+    + square_apart y (raised_step (step_of 2 (of_bits binary32 w.position.y)))
+unfolding far_from stored
 far_read x y w = refl
 
 pub ruleset bounded_laws = (bounded_under, bounded_over, far_read)

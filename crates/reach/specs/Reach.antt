@@ -8,7 +8,6 @@ use Rattle.numbers.specs.Positions.{quantised}
 use Rattle.numbers.specs.declared.position.Quantised.{Quantised}
 use Rattle.cells.specs.Lists.{join_to}
 use Rattle.cells.specs.Order.{one_if}
-use Rattle.cells.specs.Words.{to_node}
 use Rattle.cells.specs.declared.ynd.Ynd.{Ynd}
 use Rattle.cells.specs.Memory.{nodes_causes}
 use Rattle.reach.specs.Sorted.{sorted}
@@ -17,12 +16,15 @@ use Rattle.numbers.specs.declared.refusal.Refusal.{Refusal}
 use Rattle.numbers.specs.declared.refusal.Refusal.TheVariants.{TooShort}
 use Rattle.numbers.specs.declared.refusal.Lent.TheVariants as lent
 use Rattle.reach.specs.declared.reach.NearestNode.{NearestNode}
+use Rattle.cells.specs.declared.node_entry.NodeEntry.{NodeEntry}
+use Rattle.cells.specs.EntryForms.{metres_in}
+use Rattle.cells.specs.Nodes.{no_entry}
 
 -- ---- distances
 
 -- T-01: a node's stored x and y: the steps that writing would store
-unfoldable pub stored : List ℕ → Quantised
-stored w = quantised (to_node w).position
+unfoldable pub stored : NodeEntry → Quantised
+stored n = quantised (metres_in n.position)
 
 unfoldable pub square : ℤ → ℕ
 square z = nat_abs z * nat_abs z
@@ -32,12 +34,12 @@ unfoldable pub square_distance : ℤ → ℤ → ℤ → ℤ → ℕ
 square_distance x y a b = square (x -ℤ a) + square (y -ℤ b)
 
 -- that of a node from the point x, y
-unfoldable pub squared : ℤ → ℤ → List ℕ → ℕ
-squared x y w = square_distance x y (stored w).x (stored w).y
+unfoldable pub squared : ℤ → ℤ → NodeEntry → ℕ
+squared x y n = square_distance x y (stored n).x (stored n).y
 
 -- the squared distance of the node at a place
-unfoldable pub distances : ℤ → ℤ → List (List ℕ) → ℕ → ℕ
-distances x y nodes p = squared x y (get_or nodes p [])
+unfoldable pub distances : ℤ → ℤ → List NodeEntry → ℕ → ℕ
+distances x y nodes p = squared x y (get_or nodes p no_entry)
 
 -- ---- places, by their squared distances d
 
@@ -86,12 +88,12 @@ unfoldable pub within_causes : Ynd → ℕ → ℕ → ℕ → List Cause
 within_causes ynd nodes count room = nodes_causes ynd nodes ++ (when (ltb room count) (TooShort lent.List) ∷ [])
 
 -- the places to list
-unfoldable pub places_within : Ynd → List (List ℕ) → ℤ → ℤ → ℕ → List ℕ
+unfoldable pub places_within : Ynd → List NodeEntry → ℤ → ℤ → ℕ → List ℕ
 places_within ynd nodes x y radius =
     ordered (distances x y nodes) (within (distances x y nodes) radius ynd.node_count)
 
 -- T-01: they go into the first entries, in T-08's order; later entries stay; a refusal changes nothing
-unfoldable pub within_call : Ynd → List (List ℕ) → ℤ → ℤ → ℕ → List ℕ → Left
+unfoldable pub within_call : Ynd → List NodeEntry → ℤ → ℤ → ℕ → List ℕ → Left
 within_call ynd nodes x y radius places =
     let l = places_within ynd nodes x y radius in
     listed (decided (within_causes ynd (length nodes) (length l) (length places))) l places
@@ -101,7 +103,7 @@ nearest_answer d none = Ok None
 nearest_answer d (some p) = Ok (Some (record { place = p; square = d p }))
 
 -- T-01: the nearest node's place with its squared distance, or none in an empty cell
-unfoldable pub nearest_call : Ynd → List (List ℕ) → ℤ → ℤ → Result (Option NearestNode) Refusal
+unfoldable pub nearest_call : Ynd → List NodeEntry → ℤ → ℤ → Result (Option NearestNode) Refusal
 nearest_call ynd nodes x y =
     unless (decided (nodes_causes ynd (length nodes)))
     (nearest_answer (distances x y nodes) (nearest_of (distances x y nodes) ynd.node_count))
@@ -109,7 +111,7 @@ nearest_call ynd nodes x y =
 -- ---- for the laws
 
 -- there is a node at p, and it lies at most the radius away
-abbrev pub near : Ynd → List (List ℕ) → ℤ → ℤ → ℕ → ℕ → Bool
+abbrev pub near : Ynd → List NodeEntry → ℤ → ℤ → ℕ → ℕ → Bool
 near ynd nodes x y radius p = ltb p ynd.node_count && leb (distances x y nodes p) (radius * radius)
 
 -- T-08: p comes before q: it is less far, or as far and a lower place

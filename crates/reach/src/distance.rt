@@ -7,13 +7,13 @@ ghost use Rattle.reach.specs.Reach.{distances};
 ghost use Rattle.reach.specs.Parts.{raised_step, square_apart, far_from, distances_from, bounded};
 ghost use Rattle.reach.specs.Heap.{key_of, Place};
 
-use cells::node::NodeWords;
+use cells::node_entry::NodeEntry;
 use numbers::steps::steps_xy_of_bits;
 
 // Nodes, and a point whose distance from them is asked, in steps counted from the lowest.
 #[derive(Clone, Copy)]
 pub(crate) struct Point<'a> {
-    pub(crate) nodes: &'a [NodeWords],
+    pub(crate) nodes: &'a [NodeEntry],
     x: u16,
     y: u16,
 }
@@ -46,7 +46,7 @@ fn square_apart(a: u16, bits: u32) -> u64
 
 impl<'a> Point<'a> {
     #[tactic(auto, using(crate::proofs::DistanceLaws::far_of))]
-    pub(crate) fn new(nodes: &'a [NodeWords], x: i16, y: i16) -> Self
+    pub(crate) fn new(nodes: &'a [NodeEntry], x: i16, y: i16) -> Self
         ensures { (result.nodes.now ≡ nodes.now) × (distances_from result ≡ distances x y nodes.now) }
     {
         Point {
@@ -59,22 +59,22 @@ impl<'a> Point<'a> {
     // The squared distance of a node, as far as the limit. Where x alone reaches it, y is not looked at. The sum of
     // two squares passes 32 bits.
     #[tactic(auto, using(crate::proofs::TurnLaws::bounded_laws))]
-    pub(crate) fn distance_up_to(&self, w: &NodeWords, limit: u64) -> u64
-        ensures { result ≡ bounded limit (far_from self.now.x self.now.y w.now) }
+    pub(crate) fn distance_up_to(&self, n: &NodeEntry, limit: u64) -> u64
+        ensures { result ≡ bounded limit (far_from self.now.x self.now.y n.now) }
     {
-        let x = square_apart(self.x, w[2]);
+        let x = square_apart(self.x, n.position.x);
         if limit <= x {
             return limit;
         }
-        limit.min(x + square_apart(self.y, w[3]))
+        limit.min(x + square_apart(self.y, n.position.y))
     }
 
     // The whole squared distance.
-    #[tactic(auto, unfolding(cells::specs::Words::to_node, crate::specs::Reach::stored, crate::specs::Parts::far_from))]
-    pub(crate) fn square_distance(&self, w: &NodeWords) -> u64
-        ensures { (result ≡ far_from self.now.x self.now.y w.now) × (result ≤ 8589672450) }
+    #[tactic(auto, unfolding(crate::specs::Reach::stored, crate::specs::Parts::far_from))]
+    pub(crate) fn square_distance(&self, n: &NodeEntry) -> u64
+        ensures { (result ≡ far_from self.now.x self.now.y n.now) × (result ≤ 8589672450) }
     {
-        square_apart(self.x, w[2]) + square_apart(self.y, w[3])
+        square_apart(self.x, n.position.x) + square_apart(self.y, n.position.y)
     }
 
     // The squared distance of the node at p, with the place below it.

@@ -4,7 +4,7 @@ ghost use Rattle.reach.specs.Reach.{within, nearest_of, left, within_call, neare
 ghost use Rattle.reach.specs.Parts.{distances_from};
 
 use crate::distance::{Point, beyond};
-use cells::node::NodeWords;
+use cells::node_entry::NodeEntry;
 use cells::room::own_nodes;
 use cells::ynd::Ynd;
 use numbers::refusal::{Lent, Refusal};
@@ -24,7 +24,7 @@ impl Point<'_> {
         let limit = beyond(radius);
         self.nodes
             .iter()
-            .filter(|w| self.distance_up_to(*w, limit) < limit)
+            .filter(|n| self.distance_up_to(*n, limit) < limit)
             .count()
     }
 
@@ -47,8 +47,8 @@ impl Point<'_> {
     {
         let limit = beyond(radius);
         let mut count = 0;
-        for (i, w) in self.nodes.iter().enumerate() {
-            if self.distance_up_to(w, limit) < limit {
+        for (i, n) in self.nodes.iter().enumerate() {
+            if self.distance_up_to(n, limit) < limit {
                 places[count] = i as u32;
                 count += 1;
             }
@@ -65,8 +65,8 @@ impl Point<'_> {
     {
         let mut best = 0;
         let mut least = self.square_distance(&self.nodes[0]);
-        for (i, w) in self.nodes[1..].iter().enumerate() {
-            let d = self.distance_up_to(w, least);
+        for (i, n) in self.nodes[1..].iter().enumerate() {
+            let d = self.distance_up_to(n, least);
             if d < least {
                 best = i + 1;
                 least = d;
@@ -84,7 +84,7 @@ impl Point<'_> {
 #[tactic(auto, using(crate::proofs::Answers::within_laws), unfolding(crate::specs::Reach::within_call, crate::specs::Reach::within_causes, cells::specs::Memory::nodes_causes))]
 pub fn within(
     ynd: Ynd,
-    nodes: &[NodeWords],
+    nodes: &[NodeEntry],
     x: i16,
     y: i16,
     radius: u16,
@@ -107,7 +107,7 @@ pub fn within(
 #[tactic(auto, using(crate::proofs::Answers::nearest_laws), unfolding(crate::specs::Reach::nearest_call, crate::specs::Reach::nearest_of))]
 pub fn nearest(
     ynd: Ynd,
-    nodes: &[NodeWords],
+    nodes: &[NodeEntry],
     x: i16,
     y: i16,
 ) -> Result<Option<NearestNode>, Refusal>

@@ -7,3 +7,4 @@ pub mod Puts
 pub mod Laid
 pub mod SectionBack
 pub mod Pairs
+pub mod Whole

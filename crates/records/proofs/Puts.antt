@@ -15,28 +15,12 @@ use Rattle.std.proofs.lemmas.List.{drop_more, set-append_left}
 use lib.Seq.{length-take-le, take_at, drop-append-add, drop-drop, set_split, append_snoc}
 use Rattle.records.proofs.LittleEndian.{bytes_length, le_bytes16, le_bytes32, le_bytes64}
 use Rattle.records.proofs.Shape.{placed, placed_is}
-use Rattle.records.specs.Put.{put, put_in, end_inside, joined}
+use Rattle.records.specs.Put.{put, put_in, joined}
 use Rattle.std.specs.List.{concat}
 use Rattle.std.specs.Prelude.{Ok, Err}
 use Rattle.numbers.specs.declared.refusal.Refusal.{Refusal}
 use Rattle.numbers.specs.declared.refusal.Lent.TheVariants as lent
 use Rattle.numbers.specs.declared.refusal.Refusal.TheVariants.{TooShort}
-
-pub end_found : (at count len end : ℕ) → Ok end ≡ end_inside at count len → (end ≡ at + count) × (at + count ≤ len)
-end_found at count len end e = go (leb (at + count) len) refl e
-  where
-    go : (b : Bool) → leb (at + count) len ≡ b → Ok end ≡ cond b (Ok (at + count)) (Err (TooShort lent.Section))
-        → (end ≡ at + count) × (at + count ≤ len)
-    go true h e = (cc, leb-true (at + count) len h)
-    go false h e = cc
-
-pub end_outside : (at count len : ℕ) (r : Refusal) → Err r ≡ end_inside at count len → len < at + count
-end_outside at count len r e = go (leb (at + count) len) refl e
-  where
-    go : (b : Bool) → leb (at + count) len ≡ b → Err r ≡ cond b (Ok (at + count)) (Err (TooShort lent.Section))
-        → len < at + count
-    go true h e = cc
-    go false h e = leb-false (at + count) len h
 
 module _ {A : Type 0} where
   -- the front of what was put has the length that it should
@@ -160,7 +144,7 @@ pub then : {A : Type 0} (l l' l'' : List A) (at p : ℕ) (x y : List A) → l' �
 then l l' l'' at p x y e f g h = f ∙ (λ i. put (e i) (g i) y) ∙ put_put l at x y h
 
 -- for a function that puts bytes where there is room
-pub ruleset put_laws = (put_fits, put_out, put_part, part_long, end_found, end_outside, length-replicate)
+pub ruleset put_laws = (put_fits, put_out, put_part, part_long, length-replicate)
 
 -- for a function that puts a number's bytes
 pub ruleset number_laws = (bytes_length, le_bytes16, le_bytes32, le_bytes64, put_part)

@@ -1,8 +1,7 @@
 -- Section 4: what is stored in a lent section.
 use Rattle.std.specs.Prelude.{ℕ, ◌+◌, cond, List, [], ◌∷◌, ◌++◌, leb, length, take, drop}
-use Rattle.std.specs.Prelude.{Result, Ok, Err}
+use Rattle.std.specs.Prelude.{Err}
 use Rattle.numbers.specs.Refusals.{Answer, done}
-use Rattle.numbers.specs.declared.refusal.Refusal.{Refusal}
 use Rattle.numbers.specs.declared.refusal.Lent.TheVariants as lent
 use Rattle.numbers.specs.declared.refusal.Refusal.TheVariants.{TooShort}
 
@@ -17,10 +16,6 @@ put_in l at x = cond (leb (at + length x) (length l)) (put l at x) l
 -- What storing up to `end` in so many bytes answers: 7 at 5 where that is not inside.
 abbrev pub stored_to : ℕ → ℕ → Answer
 stored_to end len = cond (leb end len) done (Err (TooShort lent.Section))
-
--- Where so many bytes from a place on end, in a section of so many bytes. No public function's contract cites this.
-abbrev pub end_inside : ℕ → ℕ → ℕ → Result ℕ Refusal
-end_inside at count len = cond (leb (at + count) len) (Ok (at + count)) (Err (TooShort lent.Section))
 
 -- The elements of all the lists, in order.
 unfoldable pub joined : {A B : Type 0} → (A → List B) → List A → List B

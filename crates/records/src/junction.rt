@@ -64,6 +64,28 @@ pub fn junction_at(s: &[u8], at: u32) -> NodeJunction
     stored_at(s, at as usize)
 }
 
+// The heightmap values that a junction's record names: the place of the first, and rows and columns.
+#[derive(Clone, Copy)]
+pub struct ValueRange {
+    pub start: u16,
+    pub width: u8,
+    pub height: u8,
+}
+
+// The range of the junction at a place of a section; its other fields are not read.
+#[tactic(auto, unfolding(crate::specs::Records::junction_at))]
+pub fn value_range_at(s: &[u8], at: u32) -> ValueRange
+    ensures start { result.start ≡ (junction_at s.now at).heightmap_ptr }
+    ensures size { (result.width ≡ (junction_at s.now at).heightmap_dim_x)
+        × (result.height ≡ (junction_at s.now at).heightmap_dim_y) }
+{
+    ValueRange {
+        start: stored_at(s, at as usize + 8),
+        width: stored_at(s, at as usize + 10),
+        height: stored_at(s, at as usize + 11),
+    }
+}
+
 // A junction as written.
 pub fn junction_bytes(j: NodeJunction) -> [u8; 12]
     ensures { result ≡ junction_bytes j }

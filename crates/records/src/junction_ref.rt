@@ -7,6 +7,7 @@ ghost use Rattle.records.specs.StoredLaws.{ref_same, ref_long};
 use crate::layout::REF_SIZE;
 use crate::stored::{Stored, bytes_of, stored_at};
 
+#[repr(C)]
 #[derive(Clone, Copy, Default)]
 pub struct NodeJunctionRef {
     pub area_id: u16,

@@ -8,7 +8,6 @@ pub mod junction_ref;
 pub mod layout;
 pub mod link;
 pub mod node;
-pub mod put;
 pub mod root;
 pub mod section;
 mod stored;

@@ -1,5 +1,5 @@
 // A node record, 40 bytes.
-ghost use Rattle.std.specs.Prelude.{◌≡◌};
+ghost use Rattle.std.specs.Prelude.{◌≡◌, ◌/◌};
 ghost use Rattle.std.proofs.Common.{rules};
 ghost use Rattle.records.specs.Records.{node_at, node_bytes};
 ghost use Rattle.records.specs.StoredLaws.{node_same, node_long};
@@ -95,6 +95,25 @@ pub fn node_at(s: &[u8], at: u32) -> Node
     ensures { result ≡ node_at s.now at }
 {
     stored_at(s, at as usize)
+}
+
+// The range of links that a node's record names: the place of the first, and how many.
+#[derive(Clone, Copy)]
+pub struct LinkRange {
+    pub start: u16,
+    pub count: u8,
+}
+
+// The range of the node at a place of a section; its other fields are not read.
+#[tactic(auto, unfolding(crate::specs::Records::node_at))]
+pub fn link_range_at(s: &[u8], at: u32) -> LinkRange
+    ensures start { result.start ≡ (node_at s.now at).link_id }
+    ensures count { result.count ≡ (node_at s.now at).link_count_flags / 8 }
+{
+    LinkRange {
+        start: stored_at(s, at as usize + 26),
+        count: stored_at::<u8>(s, at as usize + 37) / 8,
+    }
 }
 
 // A node as written.

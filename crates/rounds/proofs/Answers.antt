@@ -1,14 +1,14 @@
 -- Answers at named files and rounds, where a believable slip would give another one, over the definitions that the
 -- contracts cite.
 -- Assumes nothing.
-use Prim.Native.Nat.{ℕ, ◌+◌, ◌*◌}
+use Prim.Native.Nat.{ℕ}
 use mathlib.Core.Path.{◌≡◌, refl}
-use mathlib.Core.List.{List, [], ◌∷◌}
-use lib.ListN.{replicate}
+use mathlib.Core.List.{[], ◌∷◌}
 use Rattle.records.specs.Bytes.{number_at, number_bytes}
 use Rattle.records.specs.Put.{put}
 use Rattle.cells.specs.Memory.{Memory, memory, over_limit, nodes_causes}
-use Rattle.cells.specs.NodeWords.{number_of}
+use Rattle.cells.specs.Nodes.{no_entry}
+use Rattle.cells.specs.declared.node_entry.NodeEntry.{NodeEntry}
 use Rattle.cells.specs.CellOf.{nodes_of}
 use Rattle.cells.specs.Lookup.{first_with, find}
 use Rattle.cells.specs.LookupCall.{numbers_in, find_in, node_call}
@@ -92,26 +92,26 @@ cell n = record {
 }
 
 -- a node of area 5 with this number, without links
-abbrev node : ℕ → List ℕ
-node k = (5 + k * 65536) ∷ replicate 12 0
+abbrev node : ℕ → NodeEntry
+node k = record no_entry { area_id = 5; node_id = k }
 
 abbrev nodes : Memory
 nodes = memory (cell 3) (node 7 ∷ node 4 ∷ node 4 ∷ []) [] [] [] []
 
 -- the start is a number, no place
 pub by_number : follow_round nodes 7 [] (9 ∷ []) ≡ walk_left (Ok (record { end = Done; count = 1 })) (0 ∷ [])
-unfolding follow_round node_call nodes_causes over_limit find_in numbers_in number_of find first_with walk_call route
+unfolding follow_round node_call nodes_causes over_limit find_in numbers_in find first_with walk_call route
     nodes_of
 by_number = refl
 
 -- no node has the number 0, though there is a place 0
 pub no_such_number : follow_round nodes 0 [] (9 ∷ []) ≡ walk_left (Err NoSuchPlace) (9 ∷ [])
-unfolding follow_round node_call nodes_causes over_limit find_in numbers_in number_of find first_with
+unfolding follow_round node_call nodes_causes over_limit find_in numbers_in find first_with
 no_such_number = refl
 
 -- of two nodes with the number, what `node` finds: the first
 pub first_of_two : follow_round nodes 4 [] (9 ∷ []) ≡ walk_left (Ok (record { end = Done; count = 1 })) (1 ∷ [])
-unfolding follow_round node_call nodes_causes over_limit find_in numbers_in number_of find first_with walk_call route
+unfolding follow_round node_call nodes_causes over_limit find_in numbers_in find first_with walk_call route
     nodes_of
 first_of_two = refl
 
@@ -123,5 +123,5 @@ nodes_not_there = refl
 
 -- 13 before 7 at 8
 pub number_before_visited : follow_round nodes 0 [] [] ≡ walk_left (Err NoSuchPlace) []
-unfolding follow_round node_call nodes_causes over_limit find_in numbers_in number_of find first_with
+unfolding follow_round node_call nodes_causes over_limit find_in numbers_in find first_with
 number_before_visited = refl

@@ -1,5 +1,6 @@
 pub mod Answers
 pub mod Files
+pub mod FollowLaws
 pub mod RoundBack
 pub mod RoundsUnnoticed
 pub mod VersionBack

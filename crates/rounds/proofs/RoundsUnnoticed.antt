@@ -4,7 +4,7 @@
 -- A file names a number: one that was written before a renumbering starts at whichever node then has its number.
 use Prim.Native.Nat.{ℕ, ◌<◌}
 use native.Mathlib.Omega.{arith}
-use mathlib.Core.Path.{◌≡◌, sym, ap, ◌∙◌}
+use mathlib.Core.Path.{◌≡◌, subst, sym, ap, ◌∙◌}
 use mathlib.Core.Bool.{true}
 use mathlib.Core.List.{List}
 use lib.ListN.{length, length-map, get_or-map}
@@ -16,7 +16,7 @@ use Rattle.cells.specs.FileCell.{file_cell}
 use Rattle.cells.proofs.Lookups.LookupLaws.{node_held}
 use Rattle.cells.proofs.Reading.FileRead.{read_cell}
 use Rattle.cells.proofs.WritingBack.Kept.{read_kept}
-use Rattle.cells.proofs.WritingBack.KeptCells.{kept}
+use Rattle.cells.proofs.WritingBack.KeptCells.{Kept}
 use Rattle.walks.specs.Sound.{differing, sound}
 use Rattle.walks.specs.Walk.{walk}
 use Rattle.walks.specs.WalkCall.{WalkLeft, walk_call, route}
@@ -75,7 +75,7 @@ module _ (system graphics : List ℕ) (lent : Memory) (e : (read_of system graph
   same = read_cell system graphics lent e
 
   fit : Fit (cell_of first)
-  fit = record { is_sound = ap sound same ∙ s; is_kept = ap kept same ∙ read_kept system graphics }
+  fit = record { is_sound = ap sound same ∙ s; is_kept = subst Kept (sym same) (read_kept system graphics) }
 
   lies : Lies first
   lies = read_lies system graphics lent e

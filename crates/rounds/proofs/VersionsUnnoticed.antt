@@ -2,14 +2,13 @@
 -- before, and what is left is the walk, each place moved. Of every memory that holds a sound cell which storing keeps.
 use Prim.Native.Nat.{ℕ, ◌<◌}
 use native.Mathlib.Omega.{arith}
-use mathlib.Core.Path.{◌≡◌, refl, sym, ap, ◌∙◌}
-use mathlib.Core.List.{List, [], ◌∷◌, map}
-use lib.ListN.{length, take}
-use borrow.Author.Tests.{le-ltb}
-use Rattle.cells.specs.Memory.{Memory, nodes_causes}
-use Rattle.cells.specs.Cell.{Link, first_of}
-use Rattle.cells.specs.CellOf.{link_of, node_with, nodes_of, cell_of}
-use Rattle.cells.specs.LookupCall.{Place, area_of_first, area_id_call}
+use mathlib.Core.Path.{◌≡◌, sym, ap, ◌∙◌}
+use mathlib.Core.List.{List, [], ◌∷◌}
+use lib.ListN.{length}
+use Rattle.cells.specs.Memory.{Memory}
+use Rattle.cells.specs.Cell.{first_of}
+use Rattle.cells.specs.CellOf.{nodes_of, cell_of}
+use Rattle.cells.proofs.Lookups.LookupLaws.{area_held}
 use Rattle.walks.specs.Walk.{Seen, Visit, Trail, walk, walk_in, see}
 use Rattle.walks.specs.WalkCall.{WalkLeft, walk_left, route}
 use Rattle.walks.specs.Calls.{Call, run, moved}
@@ -22,20 +21,7 @@ use Rattle.rounds.specs.Follow.{area_answer, follow_version}
 use Rattle.rounds.specs.Numbers.{number_at, present_number}
 use Rattle.rounds.specs.declared.file.Version.{Version}
 use Rattle.rounds.proofs.RoundsUnnoticed.{follow_own}
-use Rattle.std.specs.Prelude.{Ok, Err, Some}
-
--- where the lists hold a cell with a node, asking for its own area answers it
-own_area_call : (m : Memory) → Lies m → 0 < length (nodes_of m)
-    → area_id_call m.ynd m.nodes ≡ Ok (Some (first_of (nodes_of m)))
-unfolding area_id_call nodes_causes nodes_of
-own_area_call m lies some =
-    rw (lies.within, le-ltb (length m.nodes) m.ynd.node_count lies.nodes_lie)
-    (of_first (map link_of (take m.ynd.link_count m.links)) (take m.ynd.node_count m.nodes) some)
-  where
-    of_first : (ls : List Link) (ws : List (List ℕ)) → 0 < length (map (node_with ls) ws)
-        → ◌≡◌ {A = Place} (Ok (area_of_first ws)) (Ok (Some (first_of (map (node_with ls) ws))))
-    of_first ls [] some = absurd (omega arith)
-    of_first ls (w ∷ ws) some = refl
+use Rattle.std.specs.Prelude.{Err}
 
 abbrev seen_first : Seen → List (Visit ℕ) → Seen
 seen_first s [] = s
@@ -44,7 +30,7 @@ seen_first s (v ∷ vs) = v.seen
 -- What following a round of this version leaves in a cell of this area, where the walk leaves l.
 abbrev pub left_by_area : Version → ℕ → List ℕ → WalkLeft → WalkLeft
 left_by_area v area visited l =
-    unless (area_answer v (Ok (Some area))) (λ cause. walk_left (Err cause) visited) l
+    unless (area_answer v area) (λ cause. walk_left (Err cause) visited) l
 
 module _ (m : Memory) (fit : Fit (cell_of m)) (lies : Lies m) where
   -- a round from a node's number, in the memory
@@ -53,7 +39,7 @@ module _ (m : Memory) (fit : Fit (cell_of m)) (lies : Lies m) where
       ≡ left_by_area v (first_of (nodes_of m)) visited (route_left (route (nodes_of m) choices p) visited)
   unfolding follow_version cell_of
   followed_first v choices p lt visited =
-      (λ i. unless (area_answer v (own_area_call m lies (omega arith) i)) (λ cause. walk_left (Err cause) visited)
+      (λ i. left_by_area v (sym (area_held m) i) visited
       (follow_own m lies fit.is_sound choices p lt visited i))
       ∙ ap (left_by_area v (first_of (nodes_of m)) visited) (walk_left_law m lies choices p visited lt)
 
@@ -95,7 +81,7 @@ module _ (m : Memory) (fit : Fit (cell_of m)) (lies : Lies m) where
         let inside = still_inside p lt in
         let later = run_lies m calls lies in
         let sound_now = (run_fit m calls fit).is_sound in
-        (λ i. unless (area_answer v (own_area_call now later (omega arith) i)) (λ cause. walk_left (Err cause) visited)
+        (λ i. left_by_area v (sym (area_held now) i) visited
         (follow_own now later sound_now choices (f p) inside visited i))
         ∙ (λ i. left_by_area v (area_kept (omega arith) i) visited
         (calls_alike m now f lies later alike choices p lt visited i))

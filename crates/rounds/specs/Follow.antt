@@ -1,9 +1,10 @@
--- T-03, T-11: a round followed in a cell.
-use Rattle.std.specs.Prelude.{ℕ, List, cond, eqb, Ok, Err, Some, None}
+-- A round followed in a cell (docs/FORMAT.md, Following a round).
+use Rattle.std.specs.Prelude.{ℕ, List, cond, eqb, take, Ok, Err, Some, None}
 use Rattle.numbers.specs.Refusals.{Answer, done}
 use Rattle.numbers.specs.declared.refusal.Refusal.TheVariants.{NoSuchPlace, OtherArea}
 use Rattle.cells.specs.Memory.{Memory}
-use Rattle.cells.specs.LookupCall.{Place, node_call, area_id_call}
+use Rattle.cells.specs.LookupCall.{Place, node_call}
+use Rattle.cells.specs.Nodes.{first_area}
 use Rattle.walks.specs.WalkCall.{WalkLeft, walk_left, walk_call}
 use Rattle.rounds.specs.Round.{unless}
 use Rattle.rounds.specs.declared.file.Version.{Version}
@@ -21,16 +22,17 @@ unfoldable pub follow_round : Memory → ℕ → List ℕ → List ℕ → WalkL
 follow_round m start choices visited =
     starting_at (node_call m.ynd m.nodes start) (λ p. walk_call m choices p visited) visited
 
--- T-11: "It refuses with 19 .. when the area isn't the cell's", which is its own area in full, and 0 for an empty
--- cell. "a version 1 round belongs to the cell it is followed in."
-abbrev pub area_answer : Version → Place → Answer
+-- 19 where the round's area isn't the cell's own in full, which is 0 for an empty cell. A version 1 round belongs to
+-- the
+-- cell it is followed in.
+abbrev pub area_answer : Version → ℕ → Answer
 area_answer One own = done
-area_answer (Two area) (Ok (Some a)) = cond (eqb area a) done (Err OtherArea)
-area_answer (Two area) (Ok None) = cond (eqb area 0) done (Err OtherArea)
-area_answer (Two area) (Err cause) = Err cause
+area_answer (Two area) own = cond (eqb area own) done (Err OtherArea)
 
--- 19 "before 13". What asking for the own area refuses comes first: 14, and 7 at 0.
+-- 19 comes first. It is asked of the cell that the list of nodes holds, where that is shorter than its count; then
+-- 14, 7
+-- and 13 as following a round asks them.
 unfoldable pub follow_version : Memory → Version → ℕ → List ℕ → List ℕ → WalkLeft
 follow_version m v start choices visited =
-    unless (area_answer v (area_id_call m.ynd m.nodes)) (λ cause. walk_left (Err cause) visited)
+    unless (area_answer v (first_area (take m.ynd.node_count m.nodes))) (λ cause. walk_left (Err cause) visited)
     (follow_round m start choices visited)

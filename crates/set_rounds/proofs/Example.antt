@@ -4,13 +4,10 @@ use Rattle.std.specs.Prelude.{Ok, Err}
 use Rattle.numbers.specs.declared.refusal.Refusal.TheVariants.{NoSuchPlace, OtherArea}
 use Rattle.cells.specs.Area.{belongs}
 use Rattle.cells.specs.CellOf.{nodes_of, junctions_of, refs_of, cell_of}
-use Rattle.cells.specs.Cell.{body_of}
 use Rattle.cells.specs.Lists.{every}
 use Rattle.cells.specs.Lookup.{first_with, find}
 use Rattle.cells.specs.LookupCall.{node_call, find_in, numbers_in}
 use Rattle.cells.specs.Memory.{over_limit, nodes_causes}
-use Rattle.cells.specs.NodeWords.{area_of, number_of}
-use Rattle.cells.specs.Words.{to_node}
 use Rattle.rounds.specs.declared.file.Version.TheVariants.{One, Two}
 use Rattle.walks.specs.Walk.{next, walk_in}
 use Rattle.walks.specs.declared.walk.End.TheVariants.{Done}
@@ -34,7 +31,7 @@ pub of_area_6 : follow_in_set (two_cells 7) (Two 6) 0 9 (0 ∷ []) lent
 unfolding follow_in_set first_of_area ask_member ask_causes set_causes lack_of node_call nodes_causes find_in
     numbers_in cross_member cross_causes holds_list total words_at every over_set nodes_together any_over over_limit
     no_memory members_of map_from parts_in parts_of ynd_of crossing walk_in next_in next find member_for belongs
-    first_with cell_of nodes_of junctions_of refs_of area_of number_of body_of to_node
+    first_with cell_of nodes_of junctions_of refs_of
 of_area_6 = refl
 
 -- one of version 1 in the member that the caller names
@@ -45,27 +42,26 @@ unfolding follow_in_set ask_member ask_causes set_causes lack_of node_call nodes
     cross_member cross_causes holds_list total words_at every over_set nodes_together any_over over_limit no_memory
     members_of map_from parts_in parts_of ynd_of crossing walk_in next_in next find member_for belongs first_with
     cell_of
-    nodes_of junctions_of refs_of area_of number_of body_of to_node
+    nodes_of junctions_of refs_of
 in_the_named = refl
 
 -- no member has area 7, and no node the number 99: 19 before 13
 pub of_area_7 : follow_in_set (two_cells 7) (Two 7) 0 99 [] lent ≡ crossing_left (Err OtherArea) lent
 unfolding follow_in_set first_of_area over_limit no_memory members_of map_from parts_in parts_of words_at ynd_of
     first_with
-    cell_of nodes_of junctions_of refs_of area_of number_of body_of to_node
+    cell_of nodes_of junctions_of refs_of
 of_area_7 = refl
 
 -- area 6 with the island's bit is another area
 pub of_area_1030 : follow_in_set (two_cells 7) (Two 1030) 0 9 [] lent ≡ crossing_left (Err OtherArea) lent
 unfolding follow_in_set first_of_area over_limit no_memory members_of map_from parts_in parts_of words_at ynd_of
     first_with
-    cell_of nodes_of junctions_of refs_of area_of number_of body_of to_node
+    cell_of nodes_of junctions_of refs_of
 of_area_1030 = refl
 
 -- of two members of area 5 the first joined is meant, which has no node 4
 pub first_of_two : follow_in_set twice (Two 5) 1 4 [] lent ≡ crossing_left (Err NoSuchPlace) lent
 unfolding follow_in_set first_of_area ask_member ask_causes set_causes lack_of node_call nodes_causes find_in
     numbers_in find holds_list total words_at every over_set nodes_together any_over over_limit no_memory members_of
-    map_from parts_in parts_of ynd_of first_with cell_of nodes_of junctions_of refs_of area_of number_of body_of
-    to_node
+    map_from parts_in parts_of ynd_of first_with cell_of nodes_of junctions_of refs_of
 first_of_two = refl

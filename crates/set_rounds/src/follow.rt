@@ -3,10 +3,13 @@ ghost use Rattle.std.specs.Prelude.{◌≡◌, List, ℕ};
 ghost use Rattle.sets.specs.CellSet.{cell_set};
 ghost use Rattle.sets.specs.CrossingCall.{crossing_left};
 ghost use Rattle.sets.specs.Lent.{Unlent};
+ghost use Rattle.cells.specs.declared.link.PathLink.{PathLink};
+ghost use Rattle.cells.specs.declared.junction_entry.JunctionEntry.{JunctionEntry};
+ghost use Rattle.records.specs.declared.junction_ref.NodeJunctionRef.{NodeJunctionRef};
 ghost use Rattle.set_rounds.specs.FollowInSet.{round_member, follow_in_set};
 
-use cells::link::LinkWords;
-use cells::node::NodeWords;
+use cells::link::PathLink;
+use cells::node_entry::NodeEntry;
 use numbers::refusal::Refusal;
 use rounds::file::Version;
 use sets::crossing::{LocationWords, crossing_walk};
@@ -18,11 +21,12 @@ use walks::walk::Walked;
 // The member that a round belongs to: of version 2 that of its area, of version 1 the caller's.
 fn round_member(
     members: &[MemberWords],
-    nodes: &[NodeWords],
+    nodes: &[NodeEntry],
     version: Version,
     member: usize,
 ) -> Result<usize, Refusal>
-    ensures { (links junctions refs : List (List ℕ)) (heights : List ℕ) → result
+    ensures { (links : List PathLink) (junctions : List JunctionEntry) (refs : List NodeJunctionRef)
+        (heights : List ℕ) → result
         ≡ round_member (cell_set members.now nodes.now links junctions heights refs) version member }
 {
     let Version::Two(area) = version else {
@@ -36,8 +40,8 @@ fn round_member(
 #[tactic(auto, unfolding(crate::specs::FollowInSet::follow_in_set))]
 pub fn follow_round_in_set(
     members: &[MemberWords],
-    nodes: &[NodeWords],
-    links: &[LinkWords],
+    nodes: &[NodeEntry],
+    links: &[PathLink],
     version: Version,
     member: usize,
     start: u16,

@@ -10,28 +10,29 @@ use Rattle.std.specs.List.{list_all, range_with_len}
 use Rattle.std.proofs.lemmas.List.Folds.{list_all-append, list_all-map}
 use Rattle.std.proofs.lemmas.List.FromFn.{map-range_with_len_more}
 use mathlib.Core.Option.{Option, none, some}
-use lib.ListN.{length, get_or, take, drop}
-use Rattle.cells.specs.NodeWords.{number_of}
+use lib.ListN.{length, take, drop}
+use Rattle.cells.specs.Nodes.{number_of}
 use borrow.Author.Tests.{eq-eqb, ne_eqb}
 use Rattle.cells.specs.Lists.{every}
 use Rattle.cells.specs.Lookup.{first_with, is_some}
 use Rattle.cells.specs.LookupCall.{numbers_in}
-use Rattle.cells.specs.NodeWords.{link_start, link_count}
 use Rattle.sets.specs.Members.{member_for}
 use Rattle.sets.specs.SetRenumber.{is_member}
 use Rattle.sets.specs.Leave.{start_of}
 use Rattle.sets.specs.SetParts.{named_of, count_of}
 use Rattle.sets.specs.SetSoundParts.{all_below, word_meets, words_meet, numbers_of, part_meets}
 use Rattle.std.specs.Prelude.{Some}
+use Rattle.cells.specs.declared.link.PathLink.{PathLink}
+use Rattle.cells.specs.declared.node_entry.NodeEntry.{NodeEntry}
 
 -- ---- one link
 
-module _ (all : List ℕ) (k : ℕ) (ks : List ℕ) (i : ℕ) (w : List ℕ) where
+module _ (all : List ℕ) (k : ℕ) (ks : List ℕ) (i : ℕ) (w : PathLink) where
   abbrev o : Option ℕ
-  o = member_for all i (get_or w 0 0)
+  o = member_for all i w.area_id
 
   abbrev there : Bool
-  there = is_some (first_with ks (get_or w 1 0))
+  there = is_some (first_with ks w.node_id)
 
   pub meets_it : Some k ≡ named_of o → there ≡ word_meets all k ks i w
   unfolding word_meets
@@ -51,12 +52,12 @@ module _ (all : List ℕ) (k : ℕ) (ks : List ℕ) (i : ℕ) (w : List ℕ) whe
 
 -- ---- a node's links
 
-module _ (all : List ℕ) (k : ℕ) (ks : List ℕ) (i : ℕ) (links : List (List ℕ)) (w : List ℕ) where
-  abbrev f : List ℕ → Bool
+module _ (all : List ℕ) (k : ℕ) (ks : List ℕ) (i : ℕ) (links : List PathLink) (w : NodeEntry) where
+  abbrev f : PathLink → Bool
   f = word_meets all k ks i
 
-  pub its_links : {own : List (List ℕ)} {start count : ℕ} → own ≡ take count (drop start links) → start ≡ link_start w
-      → count ≡ link_count w → every f own ≡ words_meet all k ks i links w
+  pub its_links : {own : List PathLink} {start count : ℕ} → own ≡ take count (drop start links) → start ≡ w.link_id
+      → count ≡ w.link_count → every f own ≡ words_meet all k ks i links w
   unfolding words_meet
   its_links eo es en = rw (eo, es, en)
 
@@ -80,12 +81,13 @@ below_all f (suc n) =
 -- ---- the member that is named, by its own nodes
 
 -- whether the links of each member that name the member k name one of these numbers
-abbrev pub meets_by : List ℕ → List (List ℕ) → List (List ℕ) → List (List ℕ) → ℕ → List ℕ → ℕ → Bool
+abbrev pub meets_by : List ℕ → List (List ℕ) → List NodeEntry → List PathLink → ℕ → List ℕ → ℕ → Bool
 meets_by all ws nodes links k ks i =
     every (words_meet all k ks i (take (count_of 11 ws i) (drop (start_of 16 ws i) links)))
     (take (count_of 10 ws i) (drop (start_of 15 ws i) nodes))
 
-pub meets_all : (all : List ℕ) (ws nodes links : List (List ℕ)) (k : ℕ) (T : List (List ℕ))
+pub meets_all : (all : List ℕ) (ws : List (List ℕ)) (nodes : List NodeEntry) (links : List PathLink) (k : ℕ)
+    (T : List NodeEntry)
     → T ≡ take (count_of 10 ws k) (drop (start_of 15 ws k) nodes)
     → list_all (meets_by all ws nodes links k (map number_of T)) (range_with_len 0 (length ws))
     ≡ all_below (part_meets all ws nodes links k) (length ws)

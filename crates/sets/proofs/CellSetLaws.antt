@@ -11,7 +11,7 @@ use lib.Seq.{ext_get_or}
 use Rattle.cells.specs.Memory.{Memory}
 use Rattle.cells.specs.CellOf.{nodes_of, cell_of}
 use Rattle.cells.specs.Cell.{Cell, first_of}
-use Rattle.cells.specs.NodeWords.{first_area}
+use Rattle.cells.specs.Nodes.{first_area}
 use Rattle.cells.specs.Lookup.{first_with}
 use Rattle.cells.proofs.Lookups.LookupLaws.{area_held}
 use Rattle.sets.specs.Members.{areas, area_of}
@@ -23,6 +23,7 @@ use Rattle.sets.proofs.SetLists.{length_from, from_map}
 use Rattle.sets.proofs.SetMemory.{cell_at_law}
 use Rattle.sets.proofs.MemberLaws.{area_at}
 use Rattle.sets.proofs.PartLaws.{part_of}
+use Rattle.cells.specs.declared.node_entry.NodeEntry.{NodeEntry}
 
 -- ---- members
 
@@ -44,11 +45,11 @@ members_same ms ds e h = ext_get_or no_memory ms ds e h
 
 -- ---- areas
 
-pub areas_many : (ws nodes : List (List ℕ)) → length (areas_of ws nodes) ≡ length ws
+pub areas_many : (ws : List (List ℕ)) (nodes : List NodeEntry) → length (areas_of ws nodes) ≡ length ws
 unfolding areas_of
 areas_many ws nodes = length_from _ 0 ws
 
-pub area_in : (ws nodes : List (List ℕ)) (i : ℕ) → i < length ws
+pub area_in : (ws : List (List ℕ)) (nodes : List NodeEntry) (i : ℕ) → i < length ws
     → get_or (areas_of ws nodes) i 0 ≡ first_area (take (count_of 10 ws i)
     (get_or (parts_of (words_at 15 ws) nodes) i []))
 unfolding areas_of
@@ -57,13 +58,14 @@ area_in ws nodes i lt =
     ∙ ap (λ (k : ℕ). first_area (take (count_of 10 ws i) (get_or (parts_of (words_at 15 ws) nodes) k []))) (zero-add i)
 
 -- what the code looks at: from where the part starts, or the list has ended
-pub area_there : (ws nodes : List (List ℕ)) (i start room n : ℕ) → i < length ws → n ≡ count_of 10 ws i → room
+pub area_there : (ws : List (List ℕ)) (nodes : List NodeEntry) (i start room n : ℕ) → i < length ws
+    → n ≡ count_of 10 ws i → room
     ≡ count_of 15 ws i
     → drop start nodes ≡ drop (start_of 15 ws i) nodes → first_area (take n (take room (drop start nodes)))
     ≡ get_or (areas_of ws nodes) i 0
 area_there ws nodes i start room n lt en er e =
     (λ k. first_area (take (en k) (take (er k) (e k))))
-    ∙ ap (λ (p : List (List ℕ)). first_area (take (count_of 10 ws i) p)) (sym (part_of 15 ws nodes i lt))
+    ∙ ap (λ (p : List NodeEntry). first_area (take (count_of 10 ws i) p)) (sym (part_of 15 ws nodes i lt))
     ∙ sym (area_in ws nodes i lt)
 
 pub areas_held : (y : CellSet) → areas_of y.members y.nodes ≡ areas (cells_of (members_of y))
@@ -83,14 +85,15 @@ areas_held y =
 -- ---- the first with an area
 
 -- the first with an area, by its own part
-pub first_there : (ws nodes : List (List ℕ)) (area i start room n a : ℕ) (own : List (List ℕ)) → i < length ws
+pub first_there : (ws : List (List ℕ)) (nodes : List NodeEntry) (area i start room n a : ℕ) (own : List NodeEntry)
+    → i < length ws
     → n ≡ count_of 10 ws i → room ≡ count_of 15 ws i → drop start nodes ≡ drop (start_of 15 ws i) nodes
     → own ≡ take room (drop start nodes) → a ≡ first_area (take n own) → a ≡ area
     → ((j : ℕ) → j < i → get_or (areas_of ws nodes) j 0 ≡ area → ⊥) → first_with (areas_of ws nodes) area ≡ some i
 first_there ws nodes area i start room n a own lt en er e eo ea is h =
     first_found (areas_of ws nodes) area i (omega (arith, areas_many ws nodes))
     (sym (area_there ws nodes i start room n lt en er e)
-    ∙ ap (λ (p : List (List ℕ)). first_area (take n p)) (sym eo) ∙ sym ea ∙ is) h
+    ∙ ap (λ (p : List NodeEntry). first_area (take n p)) (sym eo) ∙ sym ea ∙ is) h
 
 -- for the check
 pub ruleset place_laws = (first_found, first_none)

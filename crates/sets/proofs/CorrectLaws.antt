@@ -4,7 +4,7 @@ use Prim.Native.Nat.{ℕ, suc, ◌+◌, ◌-◌, ◌≤◌, ◌<◌}
 use native.Mathlib.Omega.{arith}
 use native.Mathlib.Numerals.{add-one}
 use mathlib.Core.Path.{◌≡◌, refl, ap, sym, ◌∙◌}
-use mathlib.Core.Bool.{Bool, true, false, not, ◌&&◌, cond}
+use mathlib.Core.Bool.{Bool, true, false, not, ◌&&◌}
 use mathlib.Core.List.{List, [], ◌∷◌, ◌++◌, map, append_assoc}
 use lib.Dec.{eqb}
 use lib.ListN.{length, get_or, take, drop, length-drop, length-append, drop_of_length-le}
@@ -13,12 +13,11 @@ use Rattle.std.proofs.lemmas.List.{take-append-drop, take-take, drop-append-le}
 use borrow.Author.Tests.{eqb-true}
 use borrow.Rule.Slice.PartMut.{put_mid}
 use Rattle.cells.specs.Area.{belongs}
-use Rattle.cells.specs.Order.{new_number}
 use Rattle.cells.specs.Lookup.{first_with}
-use Rattle.cells.specs.NodeWords.{first_area}
+use Rattle.cells.specs.Nodes.{first_area}
 use Rattle.cells.specs.Renumber.{over}
 use Rattle.cells.proofs.Sequences.Tests.{by_test}
-use Rattle.sets.specs.SetRenumber.{Change, is_member, meant, correct_words}
+use Rattle.sets.specs.SetRenumber.{Change, is_member, meant, corrected, correct_link}
 use Rattle.sets.specs.CellSet.{word}
 use Rattle.sets.specs.Leave.{start_of}
 use Rattle.sets.specs.SetParts.{count_of, Holding, areas_of}
@@ -28,9 +27,12 @@ use Rattle.sets.proofs.SetLists.{over_same, over_long}
 use Rattle.sets.proofs.SetLaws.{not_meant, meant_of_area}
 use Rattle.sets.proofs.PartLaws.{start_next, start_none, part_inside, part_below}
 use Rattle.sets.proofs.CellSetLaws.{area_there}
+use Rattle.cells.specs.declared.node_entry.NodeEntry.{NodeEntry}
+use Rattle.cells.specs.declared.link.PathLink.{PathLink}
 
 -- the area of a member, by where its part starts
-pub area_at_start : {len : ℕ} (ws nodes : List (List ℕ)) (i start n : ℕ) → Holding 10 15 ws len → i < length ws
+pub area_at_start : {len : ℕ} (ws : List (List ℕ)) (nodes : List NodeEntry) (i start n : ℕ) → Holding 10 15 ws len
+    → i < length ws
     → start ≡ start_of 15 ws i → n ≡ count_of 10 ws i
     → first_area (take n (drop start nodes)) ≡ get_or (areas_of ws nodes) i 0
 area_at_start ws nodes i start n h lt es en =
@@ -40,21 +42,21 @@ area_at_start ws nodes i start n h lt es en =
 
 -- ---- one part
 
-module _ (x : Change) (i c : ℕ) (part : List (List ℕ)) where
+module _ (x : Change) (i c : ℕ) (part : List PathLink) where
   pub part_own : eqb i x.member ≡ true → correct_part x i c part ≡ part
   part_own t = rw t
 
-  pub part_other : eqb i x.member ≡ false → correct_part x i c part ≡ over (map (correct_words x i)) c part
+  pub part_other : eqb i x.member ≡ false → correct_part x i c part ≡ over (map (correct_link x i)) c part
   part_other f = rw f
 
   none_meant : eqb i x.member ≡ false → ((a : ℕ) → meant x i a ≡ false) → correct_part x i c part ≡ part
-  unfolding correct_words
-  none_meant f h = part_other f ∙ over_same (correct_words x i) (λ w. rw (h (get_or w 0 0))) c part
+  unfolding corrected
+  none_meant f h = part_other f ∙ over_same (correct_link x i) (λ w. rw (h w.area_id)) c part
 
   pub part_long : length (correct_part x i c part) ≡ length part
   part_long = by_test (eqb i x.member)
       (λ t. ap length (part_own t))
-      (λ f. ap length (part_other f) ∙ over_long (correct_words x i) c part)
+      (λ f. ap length (part_other f) ∙ over_long (correct_link x i) c part)
 
   module _ (area : ℕ) (is : area ≡ get_or x.areas x.member 0)
       (first : is_member x.member (first_with x.areas area) ≡ true)
@@ -70,10 +72,11 @@ module _ (x : Change) (i c : ℕ) (part : List (List ℕ)) where
 
     pub part_named : belongs (get_or x.areas i 0) area ≡ false
         → correct_part x i c part ≡ over (map (relabelled x.old area)) c part
-    unfolding correct_words relabelled
-    part_named u =
-        part_other f ∙ (λ k. over (map (λ w. cond (by_area (get_or w 0 0) false u k)
-        (get_or w 0 0 ∷ new_number x.old (get_or w 1 0) ∷ get_or w 2 0 ∷ get_or w 3 0 ∷ []) w)) c part)
+    unfolding corrected relabelled
+    part_named u = part_other f ∙ (λ k. over (map (λ l. named l k)) c part)
+      where
+        named : (l : PathLink) → correct_link x i l ≡ relabelled x.old area l
+        named l = rw (by_area l.area_id false u) (by_test (eqb l.area_id area) (λ t. rw t) (λ g. rw g))
 
 -- ---- part by part
 
@@ -85,18 +88,18 @@ module _ (x : Change) (ws : List (List ℕ)) where
   z i = count_of 16 ws i
 
   -- what is left, corrected, gives the whole
-  abbrev pub whole : ℕ → List (List ℕ) → List (List ℕ)
+  abbrev pub whole : ℕ → List PathLink → List PathLink
   whole i l = take (s i) l ++ correct_parts x i (drop i ws) (drop (s i) l)
 
-  pub parts_start : (l : List (List ℕ)) → whole 0 l ≡ correct_parts x 0 ws l
+  pub parts_start : (l : List PathLink) → whole 0 l ≡ correct_parts x 0 ws l
   parts_start l = ap (λ (k : ℕ). take k l ++ correct_parts x 0 ws (drop k l)) (start_none 16 ws)
 
-  module _ (l l' : List (List ℕ)) (i : ℕ) (lt : i < length ws)
+  module _ (l l' : List PathLink) (i : ℕ) (lt : i < length ws)
       (fit : s i + z i ≤ length l) (e : l' ≡ part_corrected x ws i l) where
-    abbrev D : List (List ℕ)
+    abbrev D : List PathLink
     D = drop (s i) l
 
-    abbrev P : List (List ℕ)
+    abbrev P : List PathLink
     P = correct_part x i (count_of 11 ws i) (take (z i) D)
 
     long : length P ≡ z i
@@ -119,7 +122,7 @@ module _ (x : Change) (ws : List (List ℕ)) where
 
     pub parts_turn : whole i l ≡ whole (i + 1) l'
     parts_turn =
-        ap (λ (r : List (List ℕ)). take (s i) l ++ r) one
+        ap (λ (r : List PathLink). take (s i) l ++ r) one
         ∙ sym (append_assoc (take (s i) l) P (correct_parts x (i + 1) (drop (i + 1) ws) (drop (z i) D)))
         ∙ (λ k. sym cut k ++ correct_parts x (i + 1) (drop (i + 1) ws) (sym rest k))
       where
@@ -130,15 +133,15 @@ module _ (x : Change) (ws : List (List ℕ)) where
         rest = (λ k. drop (next k) (regrouped k)) ∙ drop_at (take (s i) l ++ P) (drop (z i) D) (s i + z i) front
 
   -- a part that stays
-  pub part_stays : (l : List (List ℕ)) (i : ℕ)
+  pub part_stays : (l : List PathLink) (i : ℕ)
       → correct_part x i (count_of 11 ws i) (take (z i) (drop (s i) l)) ≡ take (z i) (drop (s i) l)
       → l ≡ part_corrected x ws i l
   part_stays l i e =
-      sym (ap (λ (p : List (List ℕ)). take (s i) l ++ (p ++ drop (z i) (drop (s i) l))) e
-      ∙ ap (λ (p : List (List ℕ)). take (s i) l ++ p) (take-append-drop (z i) (drop (s i) l))
+      sym (ap (λ (p : List PathLink). take (s i) l ++ (p ++ drop (z i) (drop (s i) l))) e
+      ∙ ap (λ (p : List PathLink). take (s i) l ++ p) (take-append-drop (z i) (drop (s i) l))
       ∙ take-append-drop (s i) l)
 
-  pub parts_end : (l : List (List ℕ)) (i : ℕ) → length ws ≤ i → whole i l ≡ l
+  pub parts_end : (l : List PathLink) (i : ℕ) → length ws ≤ i → whole i l ≡ l
   unfolding correct_parts
   parts_end l i le =
       ap (λ (r : List (List ℕ)). take (s i) l ++ correct_parts x i r (drop (s i) l)) (drop_of_length-le ws le)
@@ -156,7 +159,7 @@ part_over f c z D le fit =
 
 -- nothing is corrected where the member renumbered is not the first of its area
 pub others_stay : (x : Change) → is_member x.member (first_with x.areas (get_or x.areas x.member 0)) ≡ false
-    → (i : ℕ) (ws l : List (List ℕ)) → correct_parts x i ws l ≡ l
+    → (i : ℕ) (ws : List (List ℕ)) (l : List PathLink) → correct_parts x i ws l ≡ l
 unfolding correct_parts
 others_stay x later i [] l = refl
 others_stay x later i (w ∷ ws) l =
@@ -169,7 +172,7 @@ others_stay x later i (w ∷ ws) l =
 
 -- ---- a member's links, lent
 
-module _ (ws l : List (List ℕ)) (i : ℕ) (h : Holding 11 16 ws (length l)) (lt : i < length ws)
+module _ (ws : List (List ℕ)) (l : List PathLink) (i : ℕ) (h : Holding 11 16 ws (length l)) (lt : i < length ws)
     (start c : ℕ) (es : start ≡ start_of 16 ws i) (ec : c ≡ count_of 11 ws i) where
   pub lent_links : start + c ≤ length l
   lent_links = omega (arith, part_inside h i lt, h.held i lt)
@@ -178,7 +181,7 @@ module _ (ws l : List (List ℕ)) (i : ℕ) (h : Holding 11 16 ws (length l)) (l
   pub member_corrected : (x : Change) (area : ℕ) → area ≡ get_or x.areas x.member 0
       → is_member x.member (first_with x.areas area) ≡ true
       → eqb i x.member ≡ false → belongs (get_or x.areas i 0) area ≡ false
-      → (r : List (List ℕ)) → r ≡ map (relabelled x.old area) (take (start + c - start) (drop start l))
+      → (r : List PathLink) → r ≡ map (relabelled x.old area) (take (start + c - start) (drop start l))
       → put_mid start (start + c - start) l r ≡ part_corrected x ws i l
   member_corrected x area is first f u r er =
       let s = start_of 16 ws i in
@@ -186,12 +189,12 @@ module _ (ws l : List (List ℕ)) (i : ℕ) (h : Holding 11 16 ws (length l)) (l
       let D = drop s l in
       let fit = part_inside h i lt in
       let n : start + c - start ≡ c = omega arith in
-      ap (λ (t : List (List ℕ)). take start l ++ (t ++ drop (start + c - start) (drop start l))) er
+      ap (λ (t : List PathLink). take start l ++ (t ++ drop (start + c - start) (drop start l))) er
       ∙ ap (λ (k : ℕ). take start l ++ over (map (relabelled x.old area)) k (drop start l)) n
       ∙ (λ k. take (es k) l ++ over (map (relabelled x.old area)) (ec k) (drop (es k) l))
-      ∙ ap (λ (t : List (List ℕ)). take s l ++ t)
+      ∙ ap (λ (t : List PathLink). take s l ++ t)
       (part_over (map (relabelled x.old area)) (count_of 11 ws i) z D (h.held i lt) (omega (arith, length-drop s l))
-      ∙ ap (λ (t : List (List ℕ)). t ++ drop z D)
+      ∙ ap (λ (t : List PathLink). t ++ drop z D)
       (sym (part_named x i (count_of 11 ws i) (take z D) area is first f u)))
 
 -- for the check

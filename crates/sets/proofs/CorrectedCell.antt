@@ -7,7 +7,7 @@ use mathlib.Core.List.{List, [], ◌∷◌, map}
 use lib.Dec.{eqb}
 use lib.ListN.{length, get_or, length-map, get_or-map}
 use Rattle.cells.specs.Area.{belongs}
-use Rattle.cells.specs.Cell.{Link, Node, Cell, no_node, node_at, numbers, first_of}
+use Rattle.cells.specs.Cell.{Node, Cell, no_node, node_at, numbers, first_of}
 use Rattle.cells.specs.Lookup.{junction_of}
 use Rattle.cells.proofs.Sequences.Tests.{and_left, and_right, by_test, every_imp, every_map, map_at, map_option}
 use Rattle.walks.specs.Sound.{link_named, ref_named, node_sound, sound}
@@ -16,6 +16,7 @@ use Rattle.walks.proofs.NewSound.{Sound, sound_parts, parts_sound, empty_sound}
 use Rattle.sets.specs.Members.{area_of}
 use Rattle.sets.specs.SetRenumber.{Change, corrected, correct_link, correct_node, correct_cell}
 use Rattle.sets.proofs.MemberLaws.{member_own}
+use Rattle.cells.specs.declared.link.PathLink.{PathLink}
 
 module _ (x : Change) (i : ℕ) where
   pub numbers_same : (ns : List Node) → numbers (map (correct_node x i) ns) ≡ numbers ns
@@ -47,9 +48,9 @@ module _ (x : Change) (i : ℕ) where
     unfolding corrected
     own_stays a k b = rw (member_own x.areas i a (ap (λ (o : ℕ). belongs o a) own ∙ b), other)
 
-    named_same : (l : Link) → link_named (map (correct_node x i) ns) (correct_link x i l) ≡ link_named ns l
-    named_same l = rw (first_same ns, numbers_same ns) (by_test (belongs (first_of ns) l.area)
-        (λ b. rw (own_stays l.area l.number b))
+    named_same : (l : PathLink) → link_named (map (correct_node x i) ns) (correct_link x i l) ≡ link_named ns l
+    named_same l = rw (first_same ns, numbers_same ns) (by_test (belongs (first_of ns) l.area_id)
+        (λ b. rw (own_stays l.area_id l.node_id b))
         (λ f. rw f))
 
     node_sound_law : (n : Node) → node_sound ns n ≡ true

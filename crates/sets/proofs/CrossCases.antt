@@ -38,6 +38,8 @@ use Rattle.numbers.specs.declared.refusal.Refusal.{Refusal}
 use Rattle.numbers.specs.Refusals.{Answer}
 use Rattle.numbers.specs.declared.refusal.Refusal.TheVariants.{TooShort, NoSuchPlace, AtLimit}
 use Rattle.numbers.specs.declared.refusal.Lent.TheVariants as lent
+use Rattle.cells.specs.declared.node_entry.NodeEntry.{NodeEntry}
+use Rattle.cells.specs.declared.link.PathLink.{PathLink}
 
 -- ---- what an accepted start says
 
@@ -49,14 +51,14 @@ each_within ws o i lt = by_test (over_limit (ynd_of (get_or ws i [])))
     ∙ (or_parts (ltb 65536 (nodes_together (bare ws))) _ (or_parts (ltb 9 (length (bare ws))) _ o).1).1))
     (λ f. f)
 
-pub record Starts (ws nodes links : List (List ℕ)) (s : Location) : Type 0 where
+pub record Starts (ws : List (List ℕ)) (nodes : List NodeEntry) (links : List PathLink) (s : Location) : Type 0 where
   pub member : s.member < length ws
   pub place : s.place < count_of 10 ws s.member
   pub over : over_set (bare ws) ≡ false
   pub nodes_hold : Holding 10 15 ws (length nodes)
   pub links_hold : Holding 11 16 ws (length links)
 
-pub starts : (ws nodes links : List (List ℕ)) (s : Location)
+pub starts : (ws : List (List ℕ)) (nodes : List NodeEntry) (links : List PathLink) (s : Location)
     → (Ok tt) ≡ decided (start_causes ws (length nodes) (length links) s) → Starts ws nodes links s
 unfolding start_causes
 starts ws nodes links s e =
@@ -71,7 +73,8 @@ starts ws nodes links s e =
           (not-false (holds_list 11 16 ws (length links)) (passed cs 4 (sym e)));
     }
 
-pub lent_by : (all : List ℕ) (ws nodes links : List (List ℕ)) (s : Location) → Starts ws nodes links s
+pub lent_by : (all : List ℕ) (ws : List (List ℕ)) (nodes : List NodeEntry) (links : List PathLink) (s : Location)
+    → Starts ws nodes links s
     → all ≡ areas_of ws nodes → Lent all ws nodes
 lent_by all ws nodes links s h e = record {
   few = few_members ws h.over;
@@ -80,7 +83,8 @@ lent_by all ws nodes links s h e = record {
   areas_are = e;
 }
 
-pub start_small : {ws nodes links : List (List ℕ)} {s : Location} → Starts ws nodes links s → s.place < 65536
+pub start_small : {ws : List (List ℕ)} {nodes : List NodeEntry} {links : List PathLink} {s : Location}
+    → Starts ws nodes links s → s.place < 65536
 unfolding ynd_of
 start_small {ws} {s = s} h =
     omega (arith, h.place, (limits _ (each_within ws h.over s.member h.member)).0)

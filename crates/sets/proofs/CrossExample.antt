@@ -1,16 +1,13 @@
 -- Crossing walks and soundness at named sets in six lists: what the calls answer, and the lists lent to them.
 -- Computed.
-use Prim.Native.Nat.{ℕ, ◌+◌, ◌*◌}
+use Prim.Native.Nat.{ℕ}
 use mathlib.Core.Path.{◌≡◌, refl}
 use mathlib.Core.List.{List, [], ◌∷◌}
 use lib.ListN.{replicate, get_or}
 use Rattle.cells.specs.Lists.{every}
 use Rattle.cells.specs.Memory.{over_limit}
-use Rattle.cells.specs.Words.{to_node}
 use Rattle.cells.specs.Area.{belongs}
-use Rattle.cells.specs.NodeWords.{area_of, number_of}
 use Rattle.cells.specs.CellOf.{nodes_of, junctions_of, refs_of, cell_of}
-use Rattle.cells.specs.Cell.{body_of}
 use Rattle.cells.specs.Lookup.{first_with, find}
 use Rattle.walks.specs.Sound.{differing, sound}
 use Rattle.walks.specs.SoundCall.{indexed}
@@ -27,19 +24,22 @@ use Rattle.sets.specs.SetSoundCall.{indexed_set, sound_causes, set_sound_call}
 use Rattle.std.specs.Prelude.{true, false, Ok, Err}
 use Rattle.numbers.specs.declared.refusal.Refusal.TheVariants.{TooShort, NoSuchPlace}
 use Rattle.numbers.specs.declared.refusal.Lent.TheVariants as lacking
+use Rattle.cells.specs.declared.node_entry.NodeEntry.{NodeEntry}
+use Rattle.cells.specs.Nodes.{no_entry, no_link}
+use Rattle.cells.specs.declared.link.PathLink.{PathLink}
 
 -- a member of two nodes and two links, in parts of so many entries
 abbrev pub entry : ℕ → ℕ → List ℕ
 entry nodes links = 8 ∷ 0 ∷ 0 ∷ 1 ∷ 2 ∷ 3 ∷ 4 ∷ 5 ∷ 6 ∷ 7 ∷ 2 ∷ 2 ∷ 0 ∷ 0 ∷ 0 ∷ nodes ∷ links ∷ 0 ∷ 0 ∷ 0 ∷ []
 
 -- a node of this area and number, with one link, from here
-abbrev pub node : ℕ → ℕ → ℕ → List ℕ
-node area number start = (area + number * 65536) ∷ 1 ∷ 2 ∷ 3 ∷ 4 ∷ 5 ∷ 65536 ∷ start ∷ []
+abbrev pub node : ℕ → ℕ → ℕ → NodeEntry
+node area number start = record no_entry { area_id = area; node_id = number; link_count = 1; link_id = start }
 
-abbrev pub link : ℕ → ℕ → List ℕ
-link area number = area ∷ number ∷ 5 ∷ 6 ∷ []
+abbrev pub link : ℕ → ℕ → PathLink
+link area number = record no_link { area_id = area; node_id = number; flags0 = 5; flags2 = 6 }
 
-abbrev pub walked : List (List ℕ) → List (List ℕ) → List (List ℕ) → CellSet
+abbrev pub walked : List (List ℕ) → List NodeEntry → List PathLink → CellSet
 walked members nodes links = cell_set members nodes links [] [] []
 
 -- Area 5, with an entry of its nodes to spare: nodes 7 and 3, with links to 9 of area 6 and out of the set. Area 6:
@@ -60,7 +60,7 @@ unfolding cross_member cross_causes holds_list total words_at every over_set nod
     no_memory
     members_of map_from parts_in parts_of ynd_of crossing walk_in next_in next find member_for belongs first_with
     cell_of
-    nodes_of junctions_of refs_of area_of number_of body_of to_node
+    nodes_of junctions_of refs_of
 crosses = refl
 
 -- a link to a number that area 5 lacks
@@ -71,7 +71,7 @@ unfolding cross_member cross_causes holds_list total words_at every over_set nod
     no_memory
     members_of map_from parts_in parts_of ynd_of crossing walk_in next_in next find member_for belongs first_with
     cell_of
-    nodes_of junctions_of refs_of area_of number_of body_of to_node
+    nodes_of junctions_of refs_of
 no_node_there = refl
 
 -- no third member; no third place, though the part has an entry there; a list of two for three nodes
@@ -89,7 +89,7 @@ unfolding cross_member cross_causes holds_list total words_at every over_set nod
     no_memory
     members_of map_from parts_in parts_of ynd_of crossing walk_in next_in next find member_for belongs first_with
     cell_of
-    nodes_of junctions_of refs_of area_of number_of body_of to_node
+    nodes_of junctions_of refs_of
 visited_short = refl
 
 -- made by hand: a part of one entry for two nodes, and parts of more links than the list has
@@ -122,7 +122,7 @@ unfolding cross_member cross_causes holds_list total words_at every over_set nod
     no_memory
     members_of map_from parts_in parts_of ynd_of crossing walk_in next_in next find member_for belongs first_with
     cell_of
-    nodes_of junctions_of refs_of area_of number_of body_of to_node
+    nodes_of junctions_of refs_of
 first_joined = refl
 
 -- the second's own rule has its say first: its link to number 4 of area 5 stays in it, though the first has no such
@@ -133,7 +133,7 @@ unfolding cross_member cross_causes holds_list total words_at every over_set nod
     no_memory
     members_of map_from parts_in parts_of ynd_of crossing walk_in next_in next find member_for belongs first_with
     cell_of
-    nodes_of junctions_of refs_of area_of number_of body_of to_node
+    nodes_of junctions_of refs_of
 own_stays = refl
 
 -- ---- soundness
@@ -146,24 +146,20 @@ unfolding set_sound_call sound_causes holds_list total words_at every over_set n
     members_of
     map_from parts_in parts_of ynd_of set_sound sound every_from member_for belongs first_with cell_of nodes_of
     junctions_of
-    refs_of area_of number_of body_of to_node differing
+    refs_of differing
 is_sound = refl
 
 -- the scratch leads to node 9, the second of area 6; an entry of no number stays
 pub scratch_nine : get_or (set_sound_call (two_cells 7) scratch).scratch 9 0 ≡ 1
 unfolding set_sound_call sound_causes holds_list total words_at every over_set nodes_together any_over over_limit
     members_of
-    map_from parts_in parts_of ynd_of indexed_set indexed cell_of nodes_of junctions_of refs_of area_of number_of
-    body_of
-    to_node
+    map_from parts_in parts_of ynd_of indexed_set indexed cell_of nodes_of junctions_of refs_of
 scratch_nine = refl
 
 pub scratch_ten : get_or (set_sound_call (two_cells 7) scratch).scratch 10 0 ≡ 50
 unfolding set_sound_call sound_causes holds_list total words_at every over_set nodes_together any_over over_limit
     members_of
-    map_from parts_in parts_of ynd_of indexed_set indexed cell_of nodes_of junctions_of refs_of area_of number_of
-    body_of
-    to_node
+    map_from parts_in parts_of ynd_of indexed_set indexed cell_of nodes_of junctions_of refs_of
 scratch_ten = refl
 
 -- a link into area 5 to the number 8, which no node of it has: each member is sound, the set is not
@@ -172,7 +168,7 @@ unfolding set_sound_call sound_causes holds_list total words_at every over_set n
     members_of
     map_from parts_in parts_of ynd_of set_sound sound every_from member_for belongs first_with cell_of nodes_of
     junctions_of
-    refs_of area_of number_of body_of to_node differing
+    refs_of differing
 lost_link = refl
 
 -- a link into area 5, of which the first joined lacks the number 4 and the second has it
@@ -181,7 +177,7 @@ unfolding set_sound_call sound_causes holds_list total words_at every over_set n
     members_of
     map_from parts_in parts_of ynd_of set_sound sound every_from member_for belongs first_with cell_of nodes_of
     junctions_of
-    refs_of area_of number_of body_of to_node differing
+    refs_of differing
 first_lacks = refl
 
 pub scratch_short : set_sound_call (two_cells 7) (50 ∷ [])

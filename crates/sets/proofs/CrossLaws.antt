@@ -6,8 +6,8 @@ use mathlib.Core.List.{List, []}
 use mathlib.Core.Option.{Option, none, some}
 use lib.ListN.{length, get_or, take, drop, length-drop, length-map}
 use borrow.Author.Tests.{le-ltb}
-use Rattle.cells.specs.Cell.{Link, Node, Cell, no_node, numbers}
-use Rattle.cells.specs.CellOf.{link_of, nodes_of, cell_of}
+use Rattle.cells.specs.Cell.{Node, Cell, no_node, numbers}
+use Rattle.cells.specs.CellOf.{nodes_of, cell_of}
 use Rattle.cells.proofs.Forms.Limits.{within as limits}
 use Rattle.std.proofs.lemmas.List.{get_or_past}
 use Rattle.std.specs.declared.option.Option as std
@@ -36,6 +36,9 @@ use Rattle.sets.proofs.CellSetLaws.{members_many, areas_many, areas_held}
 use Rattle.sets.proofs.MemberLaws.{take_in, next_is, member_inside}
 use Rattle.sets.proofs.MemberCells.{from_start, numbers_at, nodes_at}
 use Rattle.std.specs.Prelude.{Result, Ok, Err, Some, None}
+use Rattle.cells.specs.declared.link.PathLink.{PathLink}
+use Rattle.cells.specs.declared.node_entry.NodeEntry.{NodeEntry}
+use Rattle.cells.specs.Nodes.{no_entry}
 
 -- ---- what `node` finds in a member
 
@@ -52,7 +55,7 @@ module _ (x : World) (number : ℕ) {k start : ℕ} {v : Ynd} {o : Place} (lt : 
   abbrev ws : List (List ℕ)
   ws = x.members.now
 
-  abbrev part : List (List ℕ)
+  abbrev part : List NodeEntry
   part = drop (start_of 15 ws k) x.nodes.now
 
   abbrev ks : List ℕ
@@ -71,7 +74,7 @@ module _ (x : World) (number : ℕ) {k start : ℕ} {v : Ynd} {o : Place} (lt : 
   unfolding node_call nodes_causes find_in ynd_of
   told =
       e
-      ∙ ap (λ (l : List (List ℕ)). node_call v l number) (rest x.nodes.now start)
+      ∙ ap (λ (l : List NodeEntry). node_call v l number) (rest x.nodes.now start)
       ∙ (λ i. node_call (ev i) (drop (es i) x.nodes.now) number)
       ∙ rw (x.lent.within k lt, le-ltb (length part) (count_of 10 ws k) part_held)
       (ap (λ (ns : List ℕ). Ok (place_of (find ns number))) (sym numbers_here))
@@ -123,7 +126,8 @@ named_there all i a k lt e = go (member_for all i a) (λ j f. member_inside all 
     go none h e = let z : ◌≡◌ {A = ℕ} 0 1 = cc in absurd (omega arith)
 
 -- the areas are as many as the members
-pub lent_many : (all : List ℕ) (ws nodes : List (List ℕ)) → Lent all ws nodes → length all ≡ length ws
+pub lent_many : (all : List ℕ) (ws : List (List ℕ)) (nodes : List NodeEntry) → Lent all ws nodes
+    → length all ≡ length ws
 lent_many all ws nodes h = ap length h.areas_are ∙ areas_many ws nodes
 
 -- ---- the step
@@ -135,7 +139,7 @@ module _ (x : World) (t : Location) (b : ℕ) where
   abbrev cs : List Cell
   cs = cells_in all x.nodes.now x.links.now
 
-  step_by : (l : Option Link) → link_at (cell_at cs t.member).nodes t.place b ≡ l
+  step_by : (l : Option PathLink) → link_at (cell_at cs t.member).nodes t.place b ≡ l
       → step_of (next_in cs t b) ≡ step_of (take_in cs t.member l)
   step_by l e = ap step_of (next_is cs t b ∙ ap (take_in cs t.member) e)
 
@@ -162,31 +166,31 @@ module _ (x : World) (t : Location) (b : ℕ) where
     areas_here = x.lent.areas_are ∙ areas_held (walked_set all x.nodes.now x.links.now)
 
     -- the member's own nodes and links, and what the choice finds there
-    module _ {own : List (List ℕ)} (eo : own ≡ take (count_of 10 all t.member)
+    module _ {own : List NodeEntry} (eo : own ≡ take (count_of 10 all t.member)
         (drop (start_of 15 all t.member) x.nodes.now))
-        {links : List (List ℕ)} (el : links ≡ take (count_of 11 all t.member)
+        {links : List PathLink} (el : links ≡ take (count_of 11 all t.member)
         (drop (start_of 16 all t.member) x.links.now))
-        {o : std.Option (List ℕ)} (is : o ≡ chosen links (get_or own t.place []) b) where
+        {o : std.Option PathLink} (is : o ≡ chosen links (get_or own t.place no_entry) b) where
       link_is : link_at (cell_at cs t.member).nodes t.place b ≡ linked o
       unfolding ynd_of
       link_is =
           ap (λ (ns : List Node). link_at ns t.place b) nodes_here
           ∙ link_found here t.place b
-          ∙ ap linked (sym (is ∙ (λ i. chosen (el i) (get_or (eo i) t.place []) b)))
+          ∙ ap linked (sym (is ∙ (λ i. chosen (el i) (get_or (eo i) t.place no_entry) b)))
 
       pub no_link : o ≡ None → Err NoLink ≡ step_of (next_in cs t b)
       no_link e = sym (step_by none (link_is ∙ ap linked e))
 
       -- a link that is there: on by what it names
-      pub by_link : (w : List ℕ) → o ≡ Some w → (r : Result Location End)
-          → r ≡ step_of (enter cs (get_or w 0 0) (get_or w 1 0) (member_for x.areas.now t.member (get_or w 0 0)))
+      pub by_link : (w : PathLink) → o ≡ Some w → (r : Result Location End)
+          → r ≡ step_of (enter cs w.area_id w.node_id (member_for x.areas.now t.member w.area_id))
           → r ≡ step_of (next_in cs t b)
       by_link w e r h =
           h
-          ∙ ap (λ (areas : List ℕ). step_of (enter cs (get_or w 0 0) (get_or w 1 0)
-          (member_for areas t.member (get_or w 0 0))))
+          ∙ ap (λ (areas : List ℕ). step_of (enter cs w.area_id w.node_id
+          (member_for areas t.member w.area_id)))
           areas_here
-          ∙ sym (step_by (some (link_of w)) (link_is ∙ ap linked e))
+          ∙ sym (step_by (some w) (link_is ∙ ap linked e))
 
 -- for the check
 pub ruleset arrive_laws = (there, not_there, not_asked)

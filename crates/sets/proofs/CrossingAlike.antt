@@ -23,7 +23,7 @@ use Rattle.sets.specs.Members.{map_from}
 use Rattle.sets.specs.Crossing.{Location, crossing}
 use Rattle.sets.specs.MemberList.{no_memory, member_at, cells_of, node_count, nodes_together, any_over, over_set}
 use Rattle.sets.specs.MemberList.{member_causes, unless}
-use Rattle.sets.specs.SetRenumber.{Change, change_of, correct_words, correct_memory, members_after, renumbered_in}
+use Rattle.sets.specs.SetRenumber.{Change, change_of, correct_link, correct_memory, members_after, renumbered_in}
 use Rattle.sets.specs.SetRenumber.{not_renumbered, renumber_in, both_in, not_written, write_read_in}
 use Rattle.sets.specs.SetCalls.{SetCall, after_in, run_in}
 use Rattle.sets.specs.CrossingCall.{visit_words, nodes_held, links_held, crossing_left, crossing_causes, crossing_call}
@@ -142,7 +142,7 @@ correct_lies x i m h = record {
   within = h.within;
   nodes_lie = h.nodes_lie;
   links_lie = omega
-      (arith, over_long (correct_words x i) m.ynd.link_count m.links, h.links_lie);
+      (arith, over_long (correct_link x i) m.ynd.link_count m.links, h.links_lie);
 }
 
 set_held : (ms : List Memory) (j : ℕ) (m : Memory) → j < length ms → Lies m → Held ms → Held (set ms j m)

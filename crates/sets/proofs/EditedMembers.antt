@@ -25,6 +25,7 @@ use Rattle.std.specs.Prelude.{Ok, Err}
 use Rattle.numbers.specs.declared.refusal.Refusal.{Refusal}
 use Rattle.numbers.specs.Refusals.{Answer}
 use Rattle.numbers.specs.declared.refusal.Refusal.TheVariants.{NoSuchPlace, AtLimit}
+use Rattle.cells.specs.declared.node_entry.NodeEntry.{NodeEntry}
 
 module _ (causes : List Cause) (y : CellSet) (j : ℕ) (edit : Memory → Left) where
   abbrev m⁺ : Left
@@ -90,10 +91,10 @@ module _ (y : CellSet) (j area : ℕ) (at : Vec3) where
   abbrev add : Memory → Left
   add m = add_node m area at
 
-  abbrev more : Memory → List ℕ → Memory
+  abbrev more : Memory → NodeEntry → Memory
   more m w = memory (more_nodes m.ynd) (set m.nodes m.ynd.node_count w) m.links m.junctions m.heights m.refs
 
-  more_fits : (m : Memory) (w : List ℕ) → FitsMember y.members j m
+  more_fits : (m : Memory) (w : NodeEntry) → FitsMember y.members j m
       → FitsMember y.members j (more m w) × (node_count (more m w) ≡ node_count m + 1)
   unfolding with_counts
   more_fits m w f = (
@@ -113,7 +114,7 @@ module _ (y : CellSet) (j area : ℕ) (at : Vec3) where
   unfolding add_node
   added m f e = go _ _ e
     where
-      go : (a : Answer) (w : List ℕ) → (otherwise a m (done (more m w))).answer ≡ (Ok tt)
+      go : (a : Answer) (w : NodeEntry) → (otherwise a m (done (more m w))).answer ≡ (Ok tt)
           → FitsMember y.members j (otherwise a m (done (more m w))).memory
           × (node_count (otherwise a m (done (more m w))).memory ≡ node_count m + 1)
       go (Ok tt) w e = more_fits m w f

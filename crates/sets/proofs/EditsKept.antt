@@ -14,9 +14,11 @@ use Rattle.cells.specs.OwnWords.{with_own, with_vft, with_vehicles, with_peds, w
 use Rattle.cells.specs.Edit.{change_at, put_node, set_position, put_link, put_junction, put_height, put_ref}
 use Rattle.records.specs.declared.junction_ref.NodeJunctionRef.{NodeJunctionRef}
 use Rattle.cells.specs.declared.ynd.Ynd.{Ynd}
-use Rattle.cells.specs.declared.junction.PathJunction.{PathJunction}
+use Rattle.cells.specs.declared.junction_entry.JunctionEntry.{JunctionEntry}
 use Rattle.cells.specs.declared.link.PathLink.{PathLink}
 use Rattle.cells.specs.declared.node.PathNode.{PathNode}
+use Rattle.cells.specs.declared.junction.PathJunction.{PathJunction}
+use Rattle.cells.specs.declared.node_entry.NodeEntry.{NodeEntry}
 use Rattle.sets.specs.MemberEdit.{put_words}
 use Rattle.cells.specs.Edit.{nodes_left, links_left, junctions_left, heights_left, refs_left}
 use Rattle.std.specs.Prelude.{Result, Ok, Err}
@@ -45,14 +47,14 @@ add_node_kept area at m x e = asked_kept _ m _ x e
 pub put_node_kept : (place : ℕ) (n : PathNode) → Kept (λ m. nodes_left m (put_node m.ynd m.nodes place n))
 unfolding put_node
 put_node_kept place n m x e =
-    ap (λ (l : List (List ℕ)). (nodes_left m (record { answer = (Ok tt); list = l })).memory)
+    ap (λ (l : List NodeEntry). (nodes_left m (record { answer = (Ok tt); list = l })).memory)
     (stored_kept _ _ _ m.nodes x e)
 
 pub add_link_kept : (p : ℕ) (l : PathLink) → Kept (λ m. add_link m p l)
 unfolding add_link
 add_link_kept p l m x e = asked_kept _ m _ x e
 
-pub put_links_kept : (p : ℕ) (new : List (List ℕ)) → Kept (λ m. put_links m p new)
+pub put_links_kept : (p : ℕ) (new : List PathLink) → Kept (λ m. put_links m p new)
 unfolding put_links
 put_links_kept p new m x e = asked_kept _ m _ x e
 
@@ -83,19 +85,19 @@ truncate_refs_kept k m x e = asked_kept _ m _ x e
 pub set_position_kept : (p : ℕ) (at : Vec3) → Kept (λ m. nodes_left m (set_position m.ynd m.nodes p at))
 unfolding set_position
 set_position_kept p at m x e =
-    ap (λ (l : List (List ℕ)). (nodes_left m (record { answer = (Ok tt); list = l })).memory)
+    ap (λ (l : List NodeEntry). (nodes_left m (record { answer = (Ok tt); list = l })).memory)
     (stored_kept _ _ _ m.nodes x e)
 
 pub put_link_kept : (p k : ℕ) (l : PathLink) → Kept (λ m. links_left m (put_link m.ynd m.nodes m.links p k l))
 unfolding put_link
 put_link_kept p k l m x e =
-    ap (λ (t : List (List ℕ)). (links_left m (record { answer = (Ok tt); list = t })).memory)
+    ap (λ (t : List PathLink). (links_left m (record { answer = (Ok tt); list = t })).memory)
     (stored_kept _ _ _ m.links x e)
 
 pub put_junction_kept : (p : ℕ) (j : PathJunction) → Kept (λ m. junctions_left m (put_junction m.ynd m.junctions p j))
 unfolding put_junction
 put_junction_kept p j m x e =
-    ap (λ (l : List (List ℕ)). (junctions_left m (record { answer = (Ok tt); list = l })).memory)
+    ap (λ (l : List JunctionEntry). (junctions_left m (record { answer = (Ok tt); list = l })).memory)
     (stored_kept _ _ _ m.junctions x e)
 
 pub put_height_kept : (p k v : ℕ) → Kept (λ m. heights_left m (put_height m.ynd m.junctions m.heights p k v))
@@ -107,7 +109,7 @@ put_height_kept p k v m x e =
 pub put_ref_kept : (p : ℕ) (r : NodeJunctionRef) → Kept (λ m. refs_left m (put_ref m.ynd m.refs p r))
 unfolding put_ref
 put_ref_kept p r m x e =
-    ap (λ (l : List (List ℕ)). (refs_left m (record { answer = (Ok tt); list = l })).memory)
+    ap (λ (l : List NodeJunctionRef). (refs_left m (record { answer = (Ok tt); list = l })).memory)
     (stored_kept _ _ _ m.refs x e)
 
 pub put_words_kept : (vft vehicles peds : ℕ) (u : List ℕ) → Kept (λ m. put_words m vft vehicles peds u)

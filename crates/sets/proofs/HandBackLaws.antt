@@ -14,7 +14,7 @@ use Rattle.std.specs.Result.{IsErrAnd}
 use Rattle.std.proofs.lemmas.Result.{err_from_is_err_and}
 use Rattle.cells.specs.Add.{done}
 use Rattle.cells.specs.Lookup.{first_with}
-use Rattle.cells.specs.CellOf.{link_of, ref_of, node_with, junction_with, nodes_of, junctions_of, refs_of, cell_of}
+use Rattle.cells.specs.CellOf.{node_with, junction_with, nodes_of, junctions_of, refs_of, cell_of}
 use Rattle.cells.specs.declared.ynd.Ynd.{Ynd}
 use Rattle.cells.proofs.Reading.Fits.{Whole, whole}
 use Rattle.sets.specs.CellSet.{CellSet, ynd_of, set_causes}
@@ -38,9 +38,14 @@ use Rattle.std.specs.Prelude.{Result, Ok, Err, Some, None}
 use Rattle.numbers.specs.Refusals.{Answer}
 use Rattle.numbers.specs.declared.refusal.Refusal.{Refusal}
 use Rattle.numbers.specs.declared.refusal.Refusal.TheVariants.{NoSuchPlace}
+use Rattle.cells.specs.declared.node_entry.NodeEntry.{NodeEntry}
+use Rattle.cells.specs.declared.link.PathLink.{PathLink}
+use Rattle.cells.specs.declared.junction_entry.JunctionEntry.{JunctionEntry}
+use Rattle.records.specs.declared.junction_ref.NodeJunctionRef.{NodeJunctionRef}
 
 -- what is asked of the lists lent, by how long they are
-pub lack_told : (y : Ynd) (nodes links junctions refs : List (List ℕ)) (heights : List ℕ) {lent : Counts} {a : Answer}
+pub lack_told : (y : Ynd) (nodes : List NodeEntry) (links : List PathLink) (junctions : List JunctionEntry)
+    (refs : List NodeJunctionRef) (heights : List ℕ) {lent : Counts} {a : Answer}
     → lent ≡ lengths_of nodes links junctions heights refs
     → a ≡ short_of y lent.nodes lent.links lent.junctions lent.heights lent.refs
     → short_of y (length nodes) (length links) (length junctions) (length heights) (length refs) ≡ a
@@ -65,9 +70,9 @@ copied_cell from m w =
     let h = front_copied v.heightmap_count from.heights m.heights w.heights_fit in
     let r = front_copied v.ref_count from.refs m.refs w.refs_fit in
     λ i. record {
-      nodes = map (node_with (map link_of (l i))) (n i);
+      nodes = map (node_with (l i)) (n i);
       junctions = map (junction_with (h i)) (j i);
-      refs = map ref_of (r i);
+      refs = (r i);
       vehicles = v.vehicle_node_count;
       peds = v.ped_node_count;
       vft = v.vft;
@@ -75,7 +80,7 @@ copied_cell from m w =
     }
 
 pub given_part : (p : MemberPart) (y : CellSet) (m : Memory) (k : Counts) → k ≡ counts_of p.ynd
-    → (N L J R : List (List ℕ)) (H : List ℕ)
+    → (N : List NodeEntry) (L : List PathLink) (J : List JunctionEntry) (R : List NodeJunctionRef) (H : List ℕ)
     → N ≡ stored 0 (take k.nodes (between p.a.nodes p.e.nodes y.nodes)) m.nodes
     → L ≡ stored 0 (take k.links (between p.a.links p.e.links y.links)) m.links
     → J ≡ stored 0 (take k.junctions (between p.a.junctions p.e.junctions y.junctions)) m.junctions

@@ -10,7 +10,7 @@ use Rattle.std.proofs.lemmas.List.{length-take, take_min}
 use Rattle.numbers.specs.Refusals.{when, decided}
 use Rattle.cells.specs.Memory.{Memory, over_limit}
 use Rattle.cells.specs.CellOf.{cell_of}
-use Rattle.cells.specs.NodeWords.{first_area}
+use Rattle.cells.specs.Nodes.{first_area}
 use Rattle.cells.specs.Lookup.{first_with, is_some}
 use Rattle.cells.proofs.Lookups.LookupLaws.{area_held}
 use Rattle.sets.specs.Members as members
@@ -33,6 +33,10 @@ use Rattle.numbers.specs.declared.refusal.Refusal.{Refusal}
 use Rattle.numbers.specs.Refusals.{Answer}
 use Rattle.numbers.specs.declared.refusal.Refusal.TheVariants.{TooShort, AtLimit, AreaTaken}
 use Rattle.numbers.specs.declared.refusal.Lent.TheVariants as lent
+use Rattle.cells.specs.declared.node_entry.NodeEntry.{NodeEntry}
+use Rattle.cells.specs.declared.link.PathLink.{PathLink}
+use Rattle.cells.specs.declared.junction_entry.JunctionEntry.{JunctionEntry}
+use Rattle.records.specs.declared.junction_ref.NodeJunctionRef.{NodeJunctionRef}
 
 -- ---- the set's entries
 
@@ -156,7 +160,8 @@ module _ (count : ℕ) (y : CellSet) (m : Memory) (sizes : Counts) where
               (f.refs.in_cell, omega (arith, start (λ c. c.refs) 19 (λ ws i. refl), f.refs.in_part, f.refs.in_list)),
             )
 
-        pub joined : {W : List ℕ} {N L J R : List (List ℕ)} {H : List ℕ} → W ≡ entry_of m.ynd sizes
+        pub joined : {W : List ℕ} {N : List NodeEntry} {L : List PathLink} {J : List JunctionEntry}
+            {R : List NodeJunctionRef} {H : List ℕ} → W ≡ entry_of m.ynd sizes
             → (N ≡ stored s.nodes (take k.nodes m.nodes) y.nodes) × (L ≡ stored s.links (take k.links m.links) y.links)
             × (J ≡ stored s.junctions (take k.junctions m.junctions) y.junctions)
             × (H ≡ stored s.heights (take k.heights m.heights) y.heights)

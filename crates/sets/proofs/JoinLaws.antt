@@ -27,6 +27,7 @@ use Rattle.std.specs.Prelude.{Ok, Err}
 use Rattle.numbers.specs.Refusals.{Answer}
 use Rattle.numbers.specs.declared.refusal.Refusal.TheVariants.{TooShort, AtLimit, AreaTaken}
 use Rattle.numbers.specs.declared.refusal.Lent.TheVariants as lent
+use Rattle.cells.specs.declared.node_entry.NodeEntry.{NodeEntry}
 
 -- ---- a part
 
@@ -180,7 +181,8 @@ module _ (ws : List (List ℕ)) (y : Ynd) where
 
 -- ---- the answer
 
-module _ (ws nodes : List (List ℕ)) (lens haves : Counts) (y : Ynd) (sizes : Counts) (area room : ℕ) where
+module _ (ws : List (List ℕ)) (nodes : List NodeEntry) (lens haves : Counts) (y : Ynd) (sizes : Counts)
+    (area room : ℕ) where
   abbrev found : Option ℕ
   found = first_with (areas_of ws nodes) area
 

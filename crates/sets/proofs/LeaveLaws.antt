@@ -26,6 +26,10 @@ use Rattle.numbers.specs.Refusals.{decided}
 use Rattle.numbers.specs.declared.refusal.Refusal.{Refusal}
 use Rattle.numbers.specs.Refusals.{Answer}
 use Rattle.numbers.specs.declared.refusal.Refusal.TheVariants.{NoSuchPlace}
+use Rattle.cells.specs.declared.node_entry.NodeEntry.{NodeEntry}
+use Rattle.cells.specs.declared.link.PathLink.{PathLink}
+use Rattle.cells.specs.declared.junction_entry.JunctionEntry.{JunctionEntry}
+use Rattle.records.specs.declared.junction_ref.NodeJunctionRef.{NodeJunctionRef}
 
 -- what `ok_or` hands on is what was found
 pub handed_on : {A E : Type 0} {o n : std.Option A} {r : Result A E} {x : A} → o ≡ result_ok r → r ≡ Ok x → o ≡ n
@@ -52,7 +56,8 @@ module _ (y : CellSet) (j : ℕ) where
 
   -- the six lists, closed
   pub taken_out : (a e t : Counts) → a ≡ starts_of ws j → e ≡ starts_of ws (j + 1) → t ≡ starts_of ws (length ws)
-      → (W N L J R : List (List ℕ)) (H : List ℕ)
+      → (W : List (List ℕ)) (N : List NodeEntry) (L : List PathLink) (J : List JunctionEntry)
+      (R : List NodeJunctionRef) (H : List ℕ)
       → W ≡ closed j (j + 1) (length ws) ws
       → N ≡ closed a.nodes e.nodes t.nodes y.nodes → L ≡ closed a.links e.links t.links y.links
       → J ≡ closed a.junctions e.junctions t.junctions y.junctions → H ≡ closed a.heights e.heights t.heights y.heights

@@ -2,7 +2,7 @@
 use Prim.Native.Nat.{ℕ, ◌≤◌, ◌<◌}
 use native.Mathlib.Omega.{arith}
 use mathlib.Core.Path.{◌≡◌, refl, ap, sym, ◌∙◌}
-use mathlib.Core.List.{List, []}
+use mathlib.Core.List.{List}
 use lib.Dec.{leb}
 use lib.ListN.{length, replicate, length-replicate}
 use borrow.Author.Tests.{lt-ltb, le-ltb, le-leb}
@@ -31,25 +31,29 @@ use Rattle.sets.specs.declared.member.MemberPart.{MemberPart}
 use Rattle.sets.proofs.PartLaws.{start_all}
 use Rattle.sets.proofs.RoomLaws.{few_members}
 use Rattle.sets.proofs.MemberPartLaws.{OpenAt, ask_held, open_in, open_refused}
+use Rattle.cells.specs.declared.node_entry.NodeEntry.{NodeEntry}
+use Rattle.cells.specs.declared.link.PathLink.{PathLink}
+use Rattle.cells.specs.declared.junction_entry.JunctionEntry.{JunctionEntry}
+use Rattle.records.specs.declared.junction_ref.NodeJunctionRef.{NodeJunctionRef}
+use Rattle.cells.specs.Nodes.{no_entry, no_link, no_map, no_ref}
 
 -- ---- the lists that aren't lent
 
 -- some that hold the parts are always there, so a contract that speaks of all such lists speaks of every call
 pub some_unlent : (ws : List (List ℕ)) → Unlent ws
 some_unlent ws =
-    let entries : ℕ → List (List ℕ) = λ k. replicate (total (words_at k ws)) [] in
-    let lie = λ (k : ℕ). length-replicate {A = List ℕ} (total (words_at k ws)) [] in
+    let many : ℕ → ℕ = λ k. total (words_at k ws) in
     record {
-      nodes = entries 15;
-      links = entries 16;
-      junctions = entries 17;
+      nodes = replicate (many 15) no_entry;
+      links = replicate (many 16) no_link;
+      junctions = replicate (many 17) no_map;
       heights = replicate (total (words_at 18 ws)) 0;
-      refs = entries 19;
-      nodes_lie = omega (arith, lie 15);
-      links_lie = omega (arith, lie 16);
-      junctions_lie = omega (arith, lie 17);
+      refs = replicate (many 19) no_ref;
+      nodes_lie = omega (arith, length-replicate (many 15) no_entry);
+      links_lie = omega (arith, length-replicate (many 16) no_link);
+      junctions_lie = omega (arith, length-replicate (many 17) no_map);
       heights_lie = omega (arith, length-replicate {A = ℕ} (total (words_at 18 ws)) 0);
-      refs_lie = omega (arith, lie 19);
+      refs_lie = omega (arith, length-replicate (many 19) no_ref);
     }
 
 -- what they count as
@@ -85,7 +89,8 @@ apart {A} {k} {ws} {held} l h = record {
 pub record Asks (lens : Counts) (y : CellSet) : Type 0 where
   pub same : (j : ℕ) → decided (entry_ask y.members lens j) ≡ decided (ask_causes y j)
 
-pub asks : {ws N L J R : List (List ℕ)} {H : List ℕ} {t : Counts} {n l i h r : ℕ} → t ≡ held_by ws
+pub asks : {ws : List (List ℕ)} {N : List NodeEntry} {L : List PathLink} {J : List JunctionEntry}
+    {R : List NodeJunctionRef} {H : List ℕ} {t : Counts} {n l i h r : ℕ} → t ≡ held_by ws
     → Counted 15 ws t.nodes n N → Counted 16 ws t.links l L → Counted 17 ws t.junctions i J
     → Counted 18 ws t.heights h H → Counted 19 ws t.refs r R → Asks (per_list n l i h r) (cell_set ws N L J H R)
 unfolding entry_ask list_causes lack_of holds_list

@@ -6,8 +6,8 @@ use mathlib.Core.List.{List, [], map}
 use lib.ListN.{length, get_or, take, drop}
 use Rattle.cells.specs.Cell.{Cell, numbers}
 use Rattle.cells.specs.Memory.{Memory, memory}
-use Rattle.cells.specs.CellOf.{link_of, ref_of, node_with, nodes_of, refs_of, cell_of}
-use Rattle.cells.specs.NodeWords.{number_of}
+use Rattle.cells.specs.CellOf.{node_with, nodes_of, refs_of, cell_of}
+use Rattle.cells.specs.Nodes.{number_of}
 use Rattle.cells.specs.LookupCall.{numbers_in}
 use Rattle.cells.proofs.Lookups.LookupLaws.{numbers_held}
 use Rattle.sets.specs.Members.{cell_at}
@@ -18,6 +18,7 @@ use Rattle.sets.specs.SetParts.{count_of}
 use Rattle.sets.proofs.SetMemory.{cell_at_law}
 use Rattle.sets.proofs.PartLaws.{part_of}
 use Rattle.sets.proofs.CellSetLaws.{member_at_law}
+use Rattle.cells.specs.declared.node_entry.NodeEntry.{NodeEntry}
 
 module _ (y : CellSet) (i : ℕ) (lt : i < length y.members) where
   abbrev ws : List (List ℕ)
@@ -54,9 +55,9 @@ module _ (y : CellSet) (i : ℕ) (lt : i < length y.members) where
       ∙ take-take (count_of 14 ws i) (count_of 19 ws i) (drop (start_of 19 ws i) y.refs) h
 
   pub refs_at : count_of 14 ws i ≤ count_of 19 ws i → (cell_at (cells_of (members_of y)) i).refs
-      ≡ map ref_of (take (count_of 14 ws i) (drop (start_of 19 ws i) y.refs))
+      ≡ take (count_of 14 ws i) (drop (start_of 19 ws i) y.refs)
   unfolding cell_of refs_of ynd_of
-  refs_at h = ap (λ (c : Cell). c.refs) cell_is ∙ ap (map ref_of) (refs_front h)
+  refs_at h = ap (λ (c : Cell). c.refs) cell_is ∙ refs_front h
 
   pub numbers_at : count_of 10 ws i ≤ count_of 15 ws i → numbers (cell_at (cells_of (members_of y)) i).nodes
       ≡ numbers_in (count_of 10 ws i) (drop (start_of 15 ws i) y.nodes)
@@ -64,11 +65,11 @@ module _ (y : CellSet) (i : ℕ) (lt : i < length y.members) where
   numbers_at h =
       ap (λ (c : Cell). numbers c.nodes) cell_is
       ∙ numbers_held member
-      ∙ ap (λ (l : List (List ℕ)). map number_of l) (nodes_front h)
+      ∙ ap (λ (l : List NodeEntry). map number_of l) (nodes_front h)
 
   pub nodes_at : count_of 10 ws i ≤ count_of 15 ws i → count_of 11 ws i ≤ count_of 16 ws i
       → (cell_at (cells_of (members_of y)) i).nodes ≡ nodes_of from_start
   unfolding cell_of nodes_of ynd_of
   nodes_at h k =
       ap (λ (c : Cell). c.nodes) cell_is
-      ∙ (λ j. map (node_with (map link_of (links_front k j))) (nodes_front h j))
+      ∙ (λ j. map (node_with (links_front k j)) (nodes_front h j))

@@ -34,6 +34,11 @@ use Rattle.std.specs.Prelude.{Result, Ok, Err}
 use Rattle.numbers.specs.Refusals.{Answer}
 use Rattle.numbers.specs.declared.refusal.Refusal.{Refusal}
 use Rattle.numbers.specs.declared.refusal.Refusal.TheVariants.{NoSuchPlace, AtLimit}
+use Rattle.cells.specs.Nodes.{no_entry, no_link, no_map, no_ref}
+use Rattle.cells.specs.declared.node_entry.NodeEntry.{NodeEntry}
+use Rattle.cells.specs.declared.link.PathLink.{PathLink}
+use Rattle.cells.specs.declared.junction_entry.JunctionEntry.{JunctionEntry}
+use Rattle.records.specs.declared.junction_ref.NodeJunctionRef.{NodeJunctionRef}
 
 -- ---- bounds, whatever lists aren't lent
 
@@ -44,12 +49,12 @@ pub lens_lie : (ws : List (List ℕ)) (lens : Counts) (j : ℕ) (p : MemberPart)
     × ((p.a.heights ≤ p.e.heights) × (p.e.heights ≤ lens.heights))
     × ((p.a.refs ≤ p.e.refs) × (p.e.refs ≤ lens.refs))
 lens_lie ws lens j p e =
-    let y = cell_set ws (replicate lens.nodes []) (replicate lens.links []) (replicate lens.junctions [])
-    (replicate {A = ℕ} lens.heights 0) (replicate lens.refs []) in
-    let many = λ (n : ℕ). length-replicate {A = List ℕ} n [] in
+    let y = cell_set ws (replicate lens.nodes no_entry) (replicate lens.links no_link) (replicate lens.junctions no_map)
+    (replicate {A = ℕ} lens.heights 0) (replicate lens.refs no_ref) in
     let same : set_lengths y ≡ lens =
-    λ i. per_list (many lens.nodes i) (many lens.links i) (many lens.junctions i)
-    (length-replicate {A = ℕ} lens.heights 0 i) (many lens.refs i) in
+    λ i. per_list (length-replicate lens.nodes no_entry i) (length-replicate lens.links no_link i)
+    (length-replicate lens.junctions no_map i) (length-replicate {A = ℕ} lens.heights 0 i)
+    (length-replicate lens.refs no_ref i) in
     let k = open_in y j p lens (ap (λ (l : Counts). decided (entry_ask ws l j)) (sym same) ∙ ask_held y j) e in
     let l = rw same at k.lie in (
       k.may.there,
@@ -123,7 +128,8 @@ module _ {y : CellSet} {j : ℕ} {p : MemberPart} (k : OpenAt y j p)
       }
 
   -- a refused edit of a cell leaves its memory; what this one leaves in each list
-  module _ {edit : Memory → Left} (kept : Kept edit) {n l i r N L J R : List (List ℕ)} {h H : List ℕ}
+  module _ {edit : Memory → Left} (kept : Kept edit) {n N : List NodeEntry} {l L : List PathLink}
+      {i J : List JunctionEntry} {r R : List NodeJunctionRef} {h H : List ℕ}
       (wn : Wrote p.a.nodes p.e.nodes y.nodes n N) (wl : Wrote p.a.links p.e.links y.links l L)
       (wj : Wrote p.a.junctions p.e.junctions y.junctions i J) (wh : Wrote p.a.heights p.e.heights y.heights h H)
       (wr : Wrote p.a.refs p.e.refs y.refs r R) where

@@ -9,7 +9,8 @@ use mathlib.Core.Bool.{false}
 use mathlib.Core.List.{List, [], ◌++◌, map, ◌∷◌}
 use lib.ListN.{length, take, drop, length-append, length-drop}
 use lib.Seq.{length-take-le}
-use borrow.Author.Tests.{le-ltb}
+use lib.Dec.{ltb}
+use borrow.Author.Tests.{le-ltb, ltb-false}
 use Rattle.records.specs.Sections.{located, bytes_of}
 use Rattle.records.specs.declared.section.Part.{Part}
 use Rattle.records.specs.declared.root.Root.{Root}
@@ -23,7 +24,8 @@ use Rattle.cells.specs.Read.{if_found, read_arrays, read_of}
 use Rattle.cells.specs.Blocks.{refs_block, heights_block, junctions_block, links_block, nodes_block, written}
 use Rattle.cells.specs.Write.{held, write_call}
 use Rattle.cells.specs.WriteRead.{if_read, if_written, write_read_of}
-use Rattle.cells.specs.NodeWords.{is_ped, number_from, reordered, old_of, relinked}
+use Rattle.cells.specs.Nodes.{is_ped, number_from, reordered, old_of, relinked, rereffed}
+use Rattle.cells.specs.declared.node_entry.NodeEntry.{NodeEntry}
 use Rattle.cells.specs.Order.{parted}
 use Rattle.cells.specs.Renumber.{over, recounted, renumber_lists, new_lists, renumber_memory, answer_of, left_by}
 use Rattle.cells.specs.Renumber.{renumber}
@@ -33,11 +35,12 @@ use Rattle.cells.proofs.Reading.Fits.{Whole}
 use Rattle.cells.proofs.Reading.ReadLaws as laws
 use Rattle.cells.proofs.Reading.ReadLaws.{length_up_to, length_join_to, length_links, length_values}
 use Rattle.cells.proofs.Renumbering.CellRenumbered.{reordered_long, all_relinked_long}
+use Rattle.cells.proofs.Sequences.Tests.{by_test}
 use Rattle.cells.proofs.Writing.BlockLaws.{nodes_length}
 use Rattle.cells.proofs.WritingBack.SectionBack.{long_enough, root_read_law, nodes_here, links_here, junctions_here}
 use Rattle.cells.proofs.WritingBack.SectionBack.{heights_here, refs_here}
-use Rattle.cells.proofs.WritingBack.WrittenBack.{Told, write_told}
-use Rattle.cells.proofs.WritingBack.WrittenFew.{written_few}
+use Rattle.cells.proofs.WritingBack.WrittenBack.{write_wrote}
+use Rattle.sets.proofs.SetLists.{over_long}
 use Rattle.std.specs.Prelude.{Result, Ok, Err, Option}
 use Rattle.numbers.specs.Refusals.{Answer}
 use Rattle.numbers.proofs.Refusing.{not_refused}
@@ -81,7 +84,7 @@ pub renumber_stays : (m : Memory) (ps : List ℕ) (s : ℕ) → Ready m → Stay
 unfolding renumber renumber_memory new_lists renumber_lists recounted reordered over_limit
 renumber_stays m ps s r = go (answer_of (over_limit m.ynd) m.ynd.node_count (short m) s (length ps))
   where
-    ns : List (List ℕ)
+    ns : List NodeEntry
     ns = take m.ynd.node_count m.nodes
 
     nodes_as : length (number_from 0 (parted is_ped ns) ++ drop m.ynd.node_count m.nodes) ≡ length m.nodes
@@ -91,8 +94,8 @@ renumber_stays m ps s r = go (answer_of (over_limit m.ynd) m.ynd.node_count (sho
         ≡ length m.links
     links_as = all_relinked_long (old_of m.ynd.node_count m.nodes) m.ynd.link_count m.links r.whole.links_fit
 
-    refs_as : length (over (map (relinked (old_of m.ynd.node_count m.nodes))) m.ynd.ref_count m.refs) ≡ length m.refs
-    refs_as = all_relinked_long (old_of m.ynd.node_count m.nodes) m.ynd.ref_count m.refs r.whole.refs_fit
+    refs_as : length (over (map (rereffed (old_of m.ynd.node_count m.nodes))) m.ynd.ref_count m.refs) ≡ length m.refs
+    refs_as = over_long (rereffed (old_of m.ynd.node_count m.nodes)) m.ynd.ref_count m.refs
 
     go : (a : Answer) → Stays m (left_by a m ps).memory
     go (Err x) = stays_same m r
@@ -235,8 +238,13 @@ filled_stays root n l j h r m d f e u = subst (Stays m) (sym f.is) (record {
       f.room.refs_fit,
     )
 
+-- an accepted reading is of at most 16,777,216 bytes
+read_few : (b : List ℕ) (m : Memory) → (read_of b [] m).answer ≡ (Ok tt) → length b ≤ 16777216
+unfolding read_of sizes_check
+read_few b m e = by_test (ltb 16777216 (length b)) (λ t. refused (rw t at e)) (λ f. ltb-false 16777216 (length b) f)
+
 -- what was written is found where it was written
-module _ (h m : Memory) (told : Told h) where
+module _ (h m : Memory) (few_refs : length h.refs ≤ 65535) (few_bytes : length (written h) ≤ 16777216) where
   abbrev w : List ℕ
   w = written h
 
@@ -249,7 +257,7 @@ module _ (h m : Memory) (told : Told h) where
 
   read_back : read_of w [] m ≡ found_all
   unfolding read_of sizes_check arrays_found
-  read_back = rw (le-ltb 16777216 (length w) (written_few h told), not_few) (go (written_few h told))
+  read_back = rw (le-ltb 16777216 (length w) few_bytes, not_few) (go few_bytes)
     where
       reading : Part → Part → Part → Part → Part → Left
       reading n l j t r = read_arrays (root_read w) (bytes_of n w []) (bytes_of l w []) (bytes_of j w [])
@@ -269,12 +277,12 @@ module _ (h m : Memory) (told : Told h) where
 
       go : length w ≤ 16777216 → parts (root_read w) ≡ found_all
       go q =
-          let a = nodes_here h told.refs_told q in
-          let b = links_here h told.refs_told q in
-          let c = junctions_here h told.refs_told q in
-          let d = heights_here h told.refs_told q in
-          let f = refs_here h told.refs_told q in
-          ap parts (root_read_law h told.refs_told q)
+          let a = nodes_here h few_refs q in
+          let b = links_here h few_refs q in
+          let c = junctions_here h few_refs q in
+          let d = heights_here h few_refs q in
+          let f = refs_here h few_refs q in
+          ap parts (root_read_law h few_refs q)
           ∙ (λ i. by (a.is_at i) (b.is_at i) (c.is_at i) (d.is_at i) (f.is_at i))
           ∙ (λ i. read_arrays (root_read w) (a.bytes i) (b.bytes i) (c.bytes i) (d.bytes i) (f.bytes i) m)
 
@@ -300,10 +308,12 @@ write_read_stays m s r = go (write_call m s).answer refl
         → Stays m (if_read n t c (read_of (take n t) [] m).memory m s).memory
     reading n d (Err x) e = stays_same m r
     reading n d (Ok tt) e =
-        let p = write_told m s n d in
+        let p = write_wrote m s n d in
+        let back : (read_of (written (held m)) [] m).answer ≡ (Ok tt) =
+        ap (λ (b : List ℕ). (read_of b [] m).answer) (sym p.bytes) ∙ e in
         subst (λ (b : List ℕ). Stays m (read_of b [] m).memory) (sym p.bytes)
-        (back_stays (held m) m p.told (length-take-le m.ynd.node_count m.nodes r.whole.nodes_fit)
-        (ap (λ (b : List ℕ). (read_of b [] m).answer) (sym p.bytes) ∙ e))
+        (back_stays (held m) m p.refs_told (read_few (written (held m)) m back)
+        (length-take-le m.ynd.node_count m.nodes r.whole.nodes_fit) back)
 
     go : (a : Result ℕ Refusal) → (write_call m s).answer ≡ a → Stays m (if_written a t m s).memory
     go (Err x) d = stays_same m r

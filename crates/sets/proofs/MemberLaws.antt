@@ -10,7 +10,7 @@ use lib.ListN.{length, get_or, get_or-map}
 use borrow.Author.Tests.{eqb-true, eq-eqb, ne_eqb}
 use Rattle.cells.specs.Area.{belongs}
 use Rattle.cells.proofs.Lookups.AreaLaws.{belongs_own}
-use Rattle.cells.specs.Cell.{Link, Cell, numbers}
+use Rattle.cells.specs.Cell.{Cell, numbers}
 use Rattle.cells.specs.Lookup.{first_with, or_later, find}
 use Rattle.cells.proofs.Sequences.Tests.{by_test, true_false}
 use Rattle.walks.specs.Walk.{Next, stop, next, link_at, take_link, arrive}
@@ -18,6 +18,7 @@ use Rattle.walks.specs.declared.walk.End.TheVariants.{NoLink}
 use Rattle.sets.specs.Members.{no_cell, cell_at, area_of, areas, member_for}
 use Rattle.sets.specs.Crossing.{Location, arrive_in, enter, on_from, next_in}
 use Rattle.sets.specs.SetRenumber.{is_member}
+use Rattle.cells.specs.declared.link.PathLink.{PathLink}
 
 never : {P : Type 0} {i : ℕ} → ◌≡◌ {A = Option ℕ} none (some i) → P
 never e = let z : ◌≡◌ {A = ℕ} 0 1 = cc in absurd (omega arith)
@@ -68,8 +69,8 @@ module _ (all : List ℕ) (i a : ℕ) where
 -- ---- the step
 
 -- a link leads into the member that it names, and out of the set if it names none
-abbrev pub take_in : List Cell → ℕ → Option Link → Next Location
-take_in cs i (some l) = enter cs l.area l.number (member_for (areas cs) i l.area)
+abbrev pub take_in : List Cell → ℕ → Option PathLink → Next Location
+take_in cs i (some l) = enter cs l.area_id l.node_id (member_for (areas cs) i l.area_id)
 take_in cs i none = stop NoLink
 
 pub area_at : (cs : List Cell) (i : ℕ) → get_or (areas cs) i 0 ≡ area_of (cell_at cs i)
@@ -87,10 +88,10 @@ next_is cs s b = go (link_at (cell_at cs s.member).nodes s.place b)
     arrives j (some q) = refl
     arrives j none = refl
 
-    go : (l : Option Link) → on_from cs i (take_link (cell_at cs i).nodes l) ≡ take_in cs i l
+    go : (l : Option PathLink) → on_from cs i (take_link (cell_at cs i).nodes l) ≡ take_in cs i l
     go none = refl
-    go (some l) = rw (area_at cs i) (by_test (belongs (area_of (cell_at cs i)) l.area)
-        (λ t. rw t (arrives i (find (numbers (cell_at cs i).nodes) l.number)))
+    go (some l) = rw (area_at cs i) (by_test (belongs (area_of (cell_at cs i)) l.area_id)
+        (λ t. rw t (arrives i (find (numbers (cell_at cs i).nodes) l.node_id)))
         (λ f. rw f))
 
 -- for the check

@@ -10,8 +10,8 @@ use lib.ListN.{length, get_or, set, take, drop, length-append, length-drop, take
 use lib.Seq.{length-take-le, take_at, drop_at, get_or-append_seam}
 use borrow.Author.Tests.{ltb-true, ltb-false}
 use Rattle.cells.specs.Memory.{Memory, memory}
-use Rattle.cells.specs.NodeWords.{first_area}
-use Rattle.cells.specs.CellOf.{link_of, ref_of, node_with, junction_with, nodes_of, junctions_of, refs_of, cell_of}
+use Rattle.cells.specs.Nodes.{first_area}
+use Rattle.cells.specs.CellOf.{node_with, junction_with, nodes_of, junctions_of, refs_of, cell_of}
 use Rattle.cells.specs.declared.ynd.Ynd.{Ynd}
 use Rattle.cells.proofs.Sequences.Tests.{by_test}
 use Rattle.sets.specs.MemberList.{no_memory, member_at}
@@ -222,9 +222,9 @@ module _ (count : ℕ) (y : CellSet) (m : Memory) (sizes : Counts) (u : length m
       let r = front_new (sum 19) sizes.refs m.ynd.ref_count m.refs y.refs fit.refs.in_cell fit.refs.in_part
       fit.refs.in_list in
       λ i. record {
-        nodes = map (node_with (map link_of (l i))) (n i);
+        nodes = map (node_with (l i)) (n i);
         junctions = map (junction_with (h i)) (j i);
-        refs = map ref_of (r i);
+        refs = (r i);
         vehicles = m.ynd.vehicle_node_count;
         peds = m.ynd.ped_node_count;
         vft = m.ynd.vft;

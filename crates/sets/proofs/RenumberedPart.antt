@@ -15,10 +15,10 @@ use Rattle.numbers.specs.Refusals.{answered as answer_from}
 use Rattle.numbers.proofs.Refusing.{not_refused}
 use Rattle.records.specs.Put.{put}
 use Rattle.cells.specs.Order.{Old, keep, parted, new_number, new_places}
-use Rattle.cells.specs.NodeWords.{is_ped, is_vehicle, first_area, number_of, reordered, old_of, relinked}
+use Rattle.cells.specs.Nodes.{is_ped, is_vehicle, first_area, number_of, reordered, old_of, relinked, rereffed}
 use Rattle.cells.specs.Memory.{Memory, memory, ynd_after, over_limit, short, short_of}
 use Rattle.cells.specs.Cell.{Cell, old_nodes}
-use Rattle.cells.specs.CellOf.{link_of, nodes_of, cell_of}
+use Rattle.cells.specs.CellOf.{nodes_of, cell_of}
 use Rattle.cells.specs.NewNumbers.{new_numbers, numbers_left, NumbersLeft, numbers_causes, numbers_if, numbers_call}
 use Rattle.cells.specs.Renumber.{Renumbered, renumbered_by, over, vehicles, peds, renumber_lists, recounted}
 use Rattle.cells.specs.Renumber.{answer_of, new_lists, renumber_memory, left_by, renumber, scratch_left}
@@ -52,6 +52,9 @@ use Rattle.numbers.specs.Refusals.{Answer}
 use Rattle.numbers.specs.declared.refusal.Refusal.{Refusal}
 use Rattle.numbers.specs.declared.refusal.Refusal.TheVariants.{TooShort}
 use Rattle.numbers.specs.declared.refusal.Lent.TheVariants as lent
+use Rattle.cells.specs.declared.node_entry.NodeEntry.{NodeEntry}
+use Rattle.cells.specs.declared.link.PathLink.{PathLink}
+use Rattle.records.specs.declared.junction_ref.NodeJunctionRef.{NodeJunctionRef}
 
 -- ---- one list
 
@@ -81,10 +84,10 @@ module _ {A : Type 0} (f : List A → List A) (n z at : ℕ) (l l' : List A) whe
       ∙ sym (append_assoc (take at l) X (drop (at + length X) l))
 
 -- what renumbering goes by is in the nodes that count
-old_cut : (n z : ℕ) (nodes : List (List ℕ)) → n ≤ z → old_of n nodes ≡ old_of n (take z nodes)
+old_cut : (n z : ℕ) (nodes : List NodeEntry) → n ≤ z → old_of n nodes ≡ old_of n (take z nodes)
 unfolding old_of
 old_cut n z nodes le =
-    ap (λ (l : List (List ℕ)). record { area = first_area l; numbers = map number_of l; peds = map is_ped l })
+    ap (λ (l : List NodeEntry). record { area = first_area l; numbers = map number_of l; peds = map is_ped l })
     (sym (take-take n z nodes le))
 
 -- a cell over no limit, in lists that hold it
@@ -127,13 +130,13 @@ module _ (y : CellSet) (j : ℕ) (part : MemberPart) (q : Lent y j part) where
   abbrev room : ℕ → ℕ
   room size = count_of size ws j
 
-  abbrev N : List (List ℕ)
+  abbrev N : List NodeEntry
   N = drop (start 15) y.nodes
 
-  abbrev L : List (List ℕ)
+  abbrev L : List PathLink
   L = drop (start 16) y.links
 
-  abbrev R : List (List ℕ)
+  abbrev R : List NodeJunctionRef
   R = drop (start 19) y.refs
 
   -- the member's memory
@@ -303,7 +306,7 @@ module _ (y : CellSet) (j : ℕ) (part : MemberPart) (q : Lent y j part) where
         change_is : change_in ws y.nodes j o ≡ x
         unfolding cell_of nodes_of ynd_of
         change_is =
-            let ls = map link_of (take m.ynd.link_count m.links) in
+            let ls = take m.ynd.link_count m.links in
             let cut : take n (take (room 15) N) ≡ take n N = take-take n (room 15) N (h.nodes_hold.held j lt) in
             λ i. record {
               areas = areas_held y i;
@@ -314,7 +317,7 @@ module _ (y : CellSet) (j : ℕ) (part : MemberPart) (q : Lent y j part) where
                   ∙ ap (λ (k : Cell). old_nodes k.nodes) (sym (cell_at_law (members_of y) j))) i;
             }
 
-        module _ (Lc : List (List ℕ)) (el : Lc ≡ correct_parts (change_in ws y.nodes j o) 0 ws y.links) where
+        module _ (Lc : List PathLink) (el : Lc ≡ correct_parts (change_in ws y.nodes j o) 0 ws y.links) where
           corrected : Lc ≡ correct_parts x 0 ws y.links
           corrected = el ∙ ap (λ (c : Change). correct_parts c 0 ws y.links) change_is
 
@@ -325,7 +328,7 @@ module _ (y : CellSet) (j : ℕ) (part : MemberPart) (q : Lent y j part) where
           own_part : take (room 16) (drop (start 16) Lc) ≡ take (room 16) L
           own_part =
               sym (part_of 16 ws Lc j lt)
-              ∙ ap (λ (l : List (List ℕ)). get_or (parts_of (words_at 16 ws) l) j []) corrected
+              ∙ ap (λ (l : List PathLink). get_or (parts_of (words_at 16 ws) l) j []) corrected
               ∙ links_parts x 0 ws y.links j lt h.links_hold.fit
               ∙ part_own x (0 + j) (count_of 11 ws j) _ (eq-eqb (0 + j) j (zero-add j))
               ∙ part_of 16 ws y.links j lt
@@ -366,7 +369,8 @@ module _ (y : CellSet) (j : ℕ) (part : MemberPart) (q : Lent y j part) where
           m₁_call = ap (λ (z : Answer). left_by z m₁ p) (asked_part m₁ refl m₁_whole (length t) (length p) ∙ same_room)
 
           -- what the code's call says of the part
-          module _ (r : Result Ynd Refusal) (N' L' R' : List (List ℕ)) (P' : List ℕ)
+          module _ (r : Result Ynd Refusal) (N' : List NodeEntry) (L' : List PathLink) (R' : List NodeJunctionRef)
+              (P' : List ℕ)
               (call : renumbered_by part.ynd r (drop part.a.nodes N') (drop part.a.links L') y.junctions y.heights
               (drop part.a.refs R') P'
               ≡ renumber (memory part.ynd (drop part.a.nodes y.nodes) (drop part.a.links Lc) y.junctions y.heights
@@ -415,7 +419,7 @@ module _ (y : CellSet) (j : ℕ) (part : MemberPart) (q : Lent y j part) where
             unfolding renumber_memory vehicles peds
             ynd_is =
                 ap (λ (z : Renumbered). z.memory.ynd) done
-                ∙ ap (λ (l : List (List ℕ)). recounted v (length (keep is_vehicle l)) (length (keep is_ped l))) cut
+                ∙ ap (λ (l : List NodeEntry). recounted v (length (keep is_vehicle l)) (length (keep is_ped l))) cut
 
             nodes_are : N' ≡ put y.nodes (start 15) (over reordered n (take (room 15) N))
             unfolding renumber_memory new_lists renumber_lists reordered
@@ -439,15 +443,15 @@ module _ (y : CellSet) (j : ℕ) (part : MemberPart) (q : Lent y j part) where
                 ∙ (λ i. put (corrected i) (start 16) (over (map (relinked (old i))) v.link_count (own_part i)))
 
             refs_are : R' ≡ put y.refs (start 19)
-                (over (map (relinked (old_of n (take (room 15) N)))) v.ref_count (take (room 19) R))
+                (over (map (rereffed (old_of n (take (room 15) N)))) v.ref_count (take (room 19) R))
             unfolding renumber_memory new_lists renumber_lists ynd_of
             refs_are =
-                part_put (map (relinked o)) v.ref_count (room 19) (start 19) y.refs R' eR
+                part_put (map (rereffed o)) v.ref_count (room 19) (start 19) y.refs R' eR
                 (ap (λ (z : Renumbered). z.memory.refs) done)
-                (length-map (take v.ref_count R) (relinked o)
+                (length-map (take v.ref_count R) (rereffed o)
                 ∙ length-take-le v.ref_count R (far 14 19 y.refs h.refs_hold))
                 (h.refs_hold.held j lt) (part_inside h.refs_hold j lt)
-                ∙ (λ i. put y.refs (start 19) (over (map (relinked (old i))) v.ref_count (take (room 19) R)))
+                ∙ (λ i. put y.refs (start 19) (over (map (rereffed (old i))) v.ref_count (take (room 19) R)))
 
             places_kept : P' ≡ (new_lists m P).places
             unfolding renumber_memory new_lists renumber_lists
@@ -455,7 +459,7 @@ module _ (y : CellSet) (j : ℕ) (part : MemberPart) (q : Lent y j part) where
                 ap (λ (z : Renumbered). z.places) done
                 ∙ ap (λ (l : List ℕ). new_places (map is_ped (take n N)) ++ l)
                 (ap (drop n) places_are ∙ drop_at (new_places (map is_ped (take n N))) (drop n P) n many)
-                ∙ ap (λ (l : List (List ℕ)). new_places (map is_ped l) ++ drop n P) cut
+                ∙ ap (λ (l : List NodeEntry). new_places (map is_ped l) ++ drop n P) cut
 
             lists_are : (next : Ynd) → r ≡ Ok next
                 → cell_set (set ws j (entry_with next (get_or ws j []))) N' L' y.junctions y.heights R'

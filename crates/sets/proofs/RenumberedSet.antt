@@ -12,16 +12,19 @@ use lib.Dec.{eqb}
 use lib.ListN.{length, set, length-map, length-set}
 use lib.Seq.{get_or-set_same, get_or-set_other, set-get_or}
 use borrow.Author.Tests.{eqb-true, eqb-false}
+use Rattle.std.specs.List.{All}
+use Rattle.std.proofs.lemmas.List.Elements.{All-from_get_or}
 use Rattle.cells.specs.Lists.{every}
 use Rattle.cells.specs.Order.{Old, parted, keep, new_place, new_number, renamed}
-use Rattle.cells.specs.Cell.{Link, Node, Cell, no_node, node_at, numbers, ped_flags, first_of, is_ped_node}
-use Rattle.cells.specs.Cell.{is_vehicle_node, ordered, relink, old_nodes, renumber_cell}
+use Rattle.cells.specs.Cell.{Node, Cell, no_node, node_at, numbers, ped_flags, first_of, is_ped_node}
+use Rattle.cells.specs.Cell.{is_vehicle_node, ordered, old_nodes, renumber_cell}
+use Rattle.cells.specs.Nodes.{relinked}
 use Rattle.cells.specs.Lookup.{first_with, find}
 use Rattle.cells.proofs.Sequences.Tests.{and_left, and_right, by_test, every_at, every_any, every_map, every_keep}
 use Rattle.cells.proofs.Sequences.Tests.{every_append, if_any, map_option}
 use Rattle.cells.proofs.Renumbering.NewCell.{new_at, new_length, new_number_law, number_is, every_number}
 use Rattle.walks.specs.Sound.{differing, sound}
-use Rattle.walks.specs.Walk.{link_at, body_of, see}
+use Rattle.walks.specs.Walk.{link_at, shown_of, see}
 use Rattle.walks.proofs.Numbers.{Has, named_has, first_is, find_is, new_is}
 use Rattle.walks.proofs.NewSound.{Sound, sound_parts, sound_new, new_area, new_differ}
 use Rattle.walks.proofs.NewWalks.{move, move_next, AllNext, Simulates, walk_alike, see_new, link_new}
@@ -35,6 +38,7 @@ use Rattle.sets.specs.SetClaim.{Stands}
 use Rattle.sets.proofs.SetLists.{every_all, from_at, from_all, length_from, from_map, map_from_same}
 use Rattle.sets.proofs.MemberLaws.{member_inside, names_own, take_in, area_at, next_is}
 use Rattle.sets.proofs.CorrectedCell.{numbers_same, first_same, node_same, link_same, see_same, correct_sound}
+use Rattle.cells.specs.declared.link.PathLink.{PathLink}
 
 -- an empty cell's area is 0
 no_area : (ns : List Node) → length ns ≡ 0 → first_of ns ≡ 0
@@ -55,7 +59,7 @@ Numbered cs i = (q : ℕ) → q < length (cell_at cs i).nodes → (node_at (cell
 
 -- What is to be known of a member i of the set ds, where a node at place p of it stood before, and the number k was
 -- the number n k.
-pub record View (c d : Cell) (g : Link → Link) (f : ℕ → ℕ) (n : ℕ → ℕ) : Type 0 where
+pub record View (c d : Cell) (g : PathLink → PathLink) (f : ℕ → ℕ) (n : ℕ → ℕ) : Type 0 where
   pub same_count : length d.nodes ≡ length c.nodes
   pub inside : (p : ℕ) → p < length c.nodes → f p < length c.nodes
   pub see_same : (p : ℕ) → p < length c.nodes → see d (f p) ≡ see c p
@@ -119,9 +123,9 @@ module _ (cs : List Cell) (j : ℕ) (lj : j < length cs) (s : set_sound cs ≡ t
       ∙ set-get_or (areas cs) j 0
 
   -- the own links of the member renumbered are those that name it
-  relink_own : (l : Link) → relink o l ≡ correct_link x j l
+  relink_own : (l : PathLink) → relinked o l ≡ correct_link x j l
   unfolding renamed corrected
-  relink_own l = rw (names_own (areas cs) j l.area, area_at cs j)
+  relink_own l = rw (names_own (areas cs) j l.area_id, area_at cs j)
 
   -- ---- each member
 
@@ -146,8 +150,8 @@ module _ (cs : List Cell) (j : ℕ) (lj : j < length cs) (s : set_sound cs ≡ t
       part : (p : ℕ) → p < length cj.nodes → Sound cj
       part p lt = sound_parts cj (omega arith) (sound_at j lj)
 
-      same : (l : Option Link) → map_option (relink o) l ≡ map_option (correct_link x j) l
-      same (some l) = ap {B = Option Link} some (relink_own l)
+      same : (l : Option PathLink) → map_option (relinked o) l ≡ map_option (correct_link x j) l
+      same (some l) = ap {B = Option PathLink} some (relink_own l)
       same none = refl
 
   view_other : (i : ℕ) → i < length cs
@@ -192,21 +196,22 @@ module _ (cs : List Cell) (j : ℕ) (lj : j < length cs) (s : set_sound cs ≡ t
   -- ---- the walk
 
   -- a link leads to the node that it led to
-  leads_same : (i : ℕ) → i < length cs → (l : Option Link) → if_any (link_arrives cs i) l
+  leads_same : (i : ℕ) → i < length cs → (l : Option PathLink) → if_any (link_arrives cs i) l
       → (take_in ds i (map_option (correct_link x i) l) ≡ move_next (moves_to cs j) (take_in cs i l))
       × AllNext (Stands cs) (take_in cs i l)
   unfolding corrected
   leads_same i li none h = (refl, tt)
-  leads_same i li (some l) h = rw areas_same (go (member_for (areas cs) i l.area) (λ k e. there i l.area k li e) h)
+  leads_same i li (some l) h = rw areas_same (go (member_for (areas cs) i l.area_id)
+      (λ k e. there i l.area_id k li e) h)
     where
-      go : (r : Option ℕ) → ((k : ℕ) → r ≡ some k → k < length cs) → has_node cs l.number r ≡ true
-          → (enter ds l.area (cond (is_member j r) (new_number o l.number) l.number) r
-          ≡ move_next (moves_to cs j) (enter cs l.area l.number r))
-          × AllNext (Stands cs) (enter cs l.area l.number r)
+      go : (r : Option ℕ) → ((k : ℕ) → r ≡ some k → k < length cs) → has_node cs l.node_id r ≡ true
+          → (enter ds l.area_id (cond (is_member j r) (new_number o l.node_id) l.node_id) r
+          ≡ move_next (moves_to cs j) (enter cs l.area_id l.node_id r))
+          × AllNext (Stands cs) (enter cs l.area_id l.node_id r)
       go none m h = (refl, tt)
       go (some k) m h =
-          let w = named_has (numbers (cell_at cs k).nodes) l.number h in
-          let g = found k l.number w.0 (m k refl) w.1 in
+          let w = named_has (numbers (cell_at cs k).nodes) l.node_id h in
+          let g = found k l.node_id w.0 (m k refl) w.1 in
           rw (g.0, g.1) (refl, record { in_set = m k refl; in_cell = g.3 })
 
   -- the links of a node arrive
@@ -217,7 +222,7 @@ module _ (cs : List Cell) (j : ℕ) (lj : j < length cs) (s : set_sound cs ≡ t
       (every_at (node_arrives cs t.member) (cell_at cs t.member).nodes t.place no_node
       (arrives_at t.member h.in_set) h.in_cell)
 
-  body_same : (i : ℕ) (l : Option Link) → body_of (map_option (correct_link x i) l) ≡ body_of l
+  body_same : (i : ℕ) (l : Option PathLink) → shown_of (map_option (correct_link x i) l) ≡ shown_of l
   body_same i (some l) = refl
   body_same i none = refl
 
@@ -233,7 +238,7 @@ module _ (cs : List Cell) (j : ℕ) (lj : j < length cs) (s : set_sound cs ≡ t
     next_ok = λ t b h. rw (next_is cs t b)
         (leads_same t.member h.in_set (link_at (cell_at cs t.member).nodes t.place b) (chosen t b h)).1;
     see_same = λ t h. (view t.member h.in_set).see_same t.place h.in_cell;
-    link_same = λ t b h. ap body_of ((view t.member h.in_set).link_same t.place b h.in_cell)
+    link_same = λ t b h. ap shown_of ((view t.member h.in_set).link_same t.place b h.in_cell)
         ∙ body_same t.member (link_at (cell_at cs t.member).nodes t.place b);
   }
 
@@ -256,24 +261,24 @@ module _ (cs : List Cell) (j : ℕ) (lj : j < length cs) (s : set_sound cs ≡ t
 
   -- ---- soundness
 
-  link_arrives_law : (i : ℕ) → i < length cs → (l : Link) → link_arrives cs i l ≡ true
+  link_arrives_law : (i : ℕ) → i < length cs → (l : PathLink) → link_arrives cs i l ≡ true
       → link_arrives ds i (correct_link x i l) ≡ true
   unfolding corrected
-  link_arrives_law i li l h = rw areas_same (go (member_for (areas cs) i l.area) (λ k e. there i l.area k li e) h)
+  link_arrives_law i li l h = rw areas_same (go (member_for (areas cs) i l.area_id) (λ k e. there i l.area_id k li e) h)
     where
-      go : (r : Option ℕ) → ((k : ℕ) → r ≡ some k → k < length cs) → has_node cs l.number r ≡ true
-          → has_node ds (cond (is_member j r) (new_number o l.number) l.number) r ≡ true
+      go : (r : Option ℕ) → ((k : ℕ) → r ≡ some k → k < length cs) → has_node cs l.node_id r ≡ true
+          → has_node ds (cond (is_member j r) (new_number o l.node_id) l.node_id) r ≡ true
       go none m h = refl
       go (some k) m h =
-          let w = named_has (numbers (cell_at cs k).nodes) l.number h in
-          rw (found k l.number w.0 (m k refl) w.1).2
+          let w = named_has (numbers (cell_at cs k).nodes) l.node_id h in
+          rw (found k l.node_id w.0 (m k refl) w.1).2
 
   own_arrives : member_arrives ds j (renumber_cell cj) ≡ true
   unfolding renumber_cell parted
   own_arrives =
       let all = arrives_at j lj in
       every_number o (node_arrives ds j) (node_arrives cs j)
-      (λ k m h. every_map (link_arrives ds j) (relink o) (link_arrives cs j)
+      (λ k m h. every_map (link_arrives ds j) (relinked o) (link_arrives cs j)
       (λ l t. ap (link_arrives ds j) (relink_own l) ∙ link_arrives_law j lj l t) m.links h)
       0 (ordered cj.nodes)
       (every_append (node_arrives cs j) (keep is_vehicle_node cj.nodes) (keep is_ped_node cj.nodes)
@@ -316,9 +321,9 @@ module _ (cs : List Cell) (j : ℕ) (lj : j < length cs) (s : set_sound cs ≡ t
 
   -- ---- what holds of each member
 
-  pub members_hold : (P : Cell → Bool) → P (renumber_cell cj) ≡ true
-      → ((i : ℕ) → i < length cs → P (correct_cell x i (cell_at cs i)) ≡ true) → every P ds ≡ true
-  members_hold P own other = every_all P ds no_cell (λ i lt.
+  pub members_hold : (P : Cell → Type 0) → P (renumber_cell cj)
+      → ((i : ℕ) → i < length cs → P (correct_cell x i (cell_at cs i))) → All P ds
+  members_hold P own other = All-from_get_or P ds no_cell (λ i lt.
       by_test (eqb i j)
       (λ t. let e : i ≡ j = eqb-true i j t in rw (e, at_own) own)
       (λ t. let li : i < length cs = rw (← same_length) lt in rw (at_other i li t) (other i li)))

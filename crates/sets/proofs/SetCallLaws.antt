@@ -40,6 +40,7 @@ use Rattle.sets.proofs.SetCalled.{renumbered_as, written_as, run_as}
 use Rattle.std.specs.Prelude.{Result, Ok, Err}
 use Rattle.numbers.specs.Refusals.{Answer}
 use Rattle.numbers.specs.declared.refusal.Refusal.{Refusal}
+use Rattle.cells.specs.declared.link.PathLink.{PathLink}
 
 pub calls_follow : CallsFollowTheorem
 calls_follow y e =
@@ -131,7 +132,7 @@ none_corrected y j first f other =
     let cs = cells_of (members_of y) in
     let at : first_with (areas cs) (get_or (areas cs) j 0) ≡ some first =
     ap (first_with (areas cs)) (area_at cs j ∙ ap (λ (c : Cell). area_of c) (cell_at_law (members_of y) j)) ∙ f in
-    ap (λ (l : List (List ℕ)). cell_set y.members y.nodes l y.junctions y.heights y.refs)
+    ap (λ (l : List PathLink). cell_set y.members y.nodes l y.junctions y.heights y.refs)
     (others_stay (change_of cs j) (ap (is_member j) at ∙ other) 0 y.members y.links)
 
 pub later_corrects_none : LaterCorrectsNone

@@ -23,12 +23,13 @@ use Rattle.sets.proofs.CellSetLaws.{members_many, member_at_law, members_same}
 use Rattle.sets.proofs.RoomLaws.{members_over}
 use Rattle.sets.proofs.CorrectLaws.{part_long}
 use Rattle.sets.proofs.SetKept.{Usable}
+use Rattle.cells.specs.declared.link.PathLink.{PathLink}
 
 module _ (x : Change) where
-  two_lengths : (c : ℕ) (l : List (List ℕ)) → length (take c l) + length (drop c l) ≡ length l
+  two_lengths : (c : ℕ) (l : List PathLink) → length (take c l) + length (drop c l) ≡ length l
   two_lengths c l = sym (length-append (take c l) (drop c l)) ∙ ap length (take-append-drop c l)
 
-  pub links_long : (i : ℕ) (ws l : List (List ℕ)) → length (correct_parts x i ws l) ≡ length l
+  pub links_long : (i : ℕ) (ws : List (List ℕ)) (l : List PathLink) → length (correct_parts x i ws l) ≡ length l
   unfolding correct_parts
   links_long i [] l = refl
   links_long i (w ∷ ws) l =
@@ -44,7 +45,8 @@ module _ (x : Change) where
       )
 
   -- each part is corrected where it stands
-  pub links_parts : (i : ℕ) (ws l : List (List ℕ)) (k : ℕ) → k < length ws → total (words_at 16 ws) ≤ length l
+  pub links_parts : (i : ℕ) (ws : List (List ℕ)) (l : List PathLink) (k : ℕ) → k < length ws
+      → total (words_at 16 ws) ≤ length l
       → get_or (parts_of (words_at 16 ws) (correct_parts x i ws l)) k []
       ≡ correct_part x (i + k) (count_of 11 ws k) (get_or (parts_of (words_at 16 ws) l) k [])
   unfolding correct_parts words_at parts_of total
@@ -60,7 +62,7 @@ module _ (x : Change) where
       let p = correct_part x i (word 11 w) (take c l) in
       let far : length p ≡ c = part_long x i (word 11 w) (take c l) ∙ length-take-le c l (omega arith) in
       let next : suc i + k ≡ i + suc k = omega arith in
-      ap (λ (t : List (List ℕ)). get_or (parts_of (words_at 16 ws) t) k [])
+      ap (λ (t : List PathLink). get_or (parts_of (words_at 16 ws) t) k [])
       (drop_at p (correct_parts x (suc i) ws (drop c l)) c far)
       ∙ links_parts (suc i) ws (drop c l) k (omega arith) (omega (arith, length-drop c l))
       ∙ ap (λ (q : ℕ). correct_part x q (count_of 11 ws k) (get_or (parts_of (words_at 16 ws) (drop c l)) k [])) next
@@ -101,7 +103,7 @@ module _ (y : CellSet) (j : ℕ) (u : Usable y) where
   unfolding parts_in
   own_as_was lt =
       member_at_law z j lt
-      ∙ ap (λ (l : List (List ℕ)). memory (ynd_of (get_or y.members j []))
+      ∙ ap (λ (l : List PathLink). memory (ynd_of (get_or y.members j []))
       (get_or (parts_of (words_at 15 y.members) y.nodes) j []) l
       (get_or (parts_of (words_at 17 y.members) y.junctions) j [])
       (get_or (parts_of (words_at 18 y.members) y.heights) j [])
@@ -115,7 +117,7 @@ module _ (y : CellSet) (j : ℕ) (u : Usable y) where
   unfolding parts_in correct_memory ynd_of
   other_corrected i li ne =
       member_at_law z i li
-      ∙ ap (λ (l : List (List ℕ)). memory (ynd_of (get_or y.members i []))
+      ∙ ap (λ (l : List PathLink). memory (ynd_of (get_or y.members i []))
       (get_or (parts_of (words_at 15 y.members) y.nodes) i []) l
       (get_or (parts_of (words_at 17 y.members) y.junctions) i [])
       (get_or (parts_of (words_at 18 y.members) y.heights) i [])

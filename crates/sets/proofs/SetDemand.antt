@@ -1,12 +1,12 @@
 -- The claim of T-09: a sound set, each of its members a cell as read.
 use Prim.Native.Nat.{ℕ}
-use mathlib.Core.Path.{◌≡◌, ap, sym, ◌∙◌}
+use mathlib.Core.Path.{◌≡◌, sym, subst, ◌∙◌}
 use mathlib.Core.List.{List}
 use lib.ListN.{length, length-map}
 use Rattle.cells.specs.Memory.{Memory}
 use Rattle.cells.specs.Read.{read_of}
 use Rattle.cells.specs.CellOf.{cell_of}
-use Rattle.cells.proofs.WritingBack.KeptCells.{kept}
+use Rattle.cells.proofs.WritingBack.KeptCells.{Kept}
 use Rattle.cells.proofs.Reading.FileRead.{read_cell}
 use Rattle.cells.proofs.WritingBack.Kept.{read_kept}
 use Rattle.walks.proofs.Routes.{same_walk}
@@ -16,7 +16,7 @@ use Rattle.sets.specs.Crossing.{crossing}
 use Rattle.sets.specs.MemberList.{member_at, cells_of, over_set}
 use Rattle.sets.specs.SetCalls.{SetCall, run_in, moved_in}
 use Rattle.sets.specs.SetClaim.{CellAsRead, SetUnnoticed, SetUnnoticedTheorem}
-use Rattle.sets.proofs.SetLists.{every_all}
+use Rattle.std.proofs.lemmas.List.Elements.{All-from_get_or}
 use Rattle.sets.proofs.SetMemory.{cell_at_law}
 use Rattle.sets.proofs.SetRuns.{Alike, Fit, run_alike, run_fit, run_numbers}
 use Rattle.sets.proofs.CrossingAlike.{Held, same_over, answers_alike, run_held}
@@ -54,9 +54,9 @@ set_unnoticed ms r s calls =
     unnoticed ms
     (record {
       is_sound = s;
-      is_kept = every_all kept (cells_of ms) no_cell (λ i lt.
+      is_kept = All-from_get_or Kept (cells_of ms) no_cell (λ i lt.
           let w = r i (rw length-map at lt) in
-          ap kept (cell_at_law ms i ∙ w.same_cell) ∙ read_kept w.system w.graphics);
+          subst Kept (sym (cell_at_law ms i ∙ w.same_cell)) (read_kept w.system w.graphics));
     })
     (λ i lt. let w = r i lt in record { within = w.within; nodes_lie = w.nodes_lie; links_lie = w.links_lie })
     calls

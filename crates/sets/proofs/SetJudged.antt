@@ -4,14 +4,13 @@ use native.Mathlib.Omega.{arith}
 use native.Mathlib.Nat.{zero-add}
 use mathlib.Core.Path.{◌≡◌, refl, ap, sym, ◌∙◌}
 use mathlib.Core.Bool.{Bool, true, not, ◌||◌}
-use mathlib.Core.List.{List, []}
+use mathlib.Core.List.{List}
 use mathlib.Core.Option.{Option, none, some}
 use lib.Dec.{eqb, ltb}
 use lib.ListN.{length, get_or, length-map}
 use borrow.Author.Tests.{eqb-true, eq-eqb, ltb-true, ltb-false}
 use Rattle.cells.specs.Lists.{every}
-use Rattle.cells.specs.Cell.{Link, Cell, no_node, numbers}
-use Rattle.cells.specs.CellOf.{link_of}
+use Rattle.cells.specs.Cell.{Cell, no_node, numbers}
 use Rattle.cells.specs.Lookup.{first_with, is_some}
 use Rattle.cells.proofs.Sequences.Tests.{and_left, and_right, by_test, true_false, every_at, every_imp}
 use Rattle.walks.specs.Sound.{sound}
@@ -22,6 +21,8 @@ use Rattle.sets.specs.SetSoundParts.{all_below, link_meets, node_meets, member_m
 use Rattle.sets.proofs.SetLists.{every_all, from_at, from_all}
 use Rattle.sets.proofs.MemberLaws.{member_inside}
 use Rattle.sets.proofs.ArrivalLaws.{below_yes}
+use Rattle.cells.specs.declared.link.PathLink.{PathLink}
+use Rattle.cells.specs.Nodes.{no_link}
 
 pub below_at : (f : ℕ → Bool) (n j : ℕ) → j < n → all_below f n ≡ true → f j ≡ true
 unfolding all_below
@@ -33,32 +34,32 @@ below_at f (suc n) j lt t = by_test (ltb j n)
 module _ (cs : List Cell) where
   -- ---- a link
 
-  arrives_meets : (k i : ℕ) (l : Link) → link_arrives cs i l ≡ true → link_meets cs k i l ≡ true
-  arrives_meets k i l = go (member_for (areas cs) i l.area)
+  arrives_meets : (k i : ℕ) (l : PathLink) → link_arrives cs i l ≡ true → link_meets cs k i l ≡ true
+  arrives_meets k i l = go (member_for (areas cs) i l.area_id)
     where
-      go : (o : Option ℕ) → has_node cs l.number o ≡ true
-          → (not (is_member k o) || is_some (first_with (numbers (cell_at cs k).nodes) l.number)) ≡ true
+      go : (o : Option ℕ) → has_node cs l.node_id o ≡ true
+          → (not (is_member k o) || is_some (first_with (numbers (cell_at cs k).nodes) l.node_id)) ≡ true
       go none h = refl
       go (some j) h = by_test (eqb j k)
-          (λ t. rw t (ap (λ (q : ℕ). is_some (first_with (numbers (cell_at cs q).nodes) l.number))
+          (λ t. rw t (ap (λ (q : ℕ). is_some (first_with (numbers (cell_at cs q).nodes) l.node_id))
           (sym (eqb-true j k t)) ∙ h))
           (λ f. rw f)
 
-  meets_arrives : (i : ℕ) (l : Link) → i < length cs → ((k : ℕ) → k < length cs → link_meets cs k i l ≡ true)
+  meets_arrives : (i : ℕ) (l : PathLink) → i < length cs → ((k : ℕ) → k < length cs → link_meets cs k i l ≡ true)
       → link_arrives cs i l ≡ true
-  meets_arrives i l lt h = go (member_for (areas cs) i l.area) refl
+  meets_arrives i l lt h = go (member_for (areas cs) i l.area_id) refl
     where
       met : (j : ℕ) (o : Option ℕ) → o ≡ some j
-          → (not (is_member j o) || is_some (first_with (numbers (cell_at cs j).nodes) l.number)) ≡ true
-          → is_some (first_with (numbers (cell_at cs j).nodes) l.number) ≡ true
+          → (not (is_member j o) || is_some (first_with (numbers (cell_at cs j).nodes) l.node_id)) ≡ true
+          → is_some (first_with (numbers (cell_at cs j).nodes) l.node_id) ≡ true
       met j none e t = let z : ◌≡◌ {A = ℕ} 0 1 = cc in absurd (omega arith)
       met j (some q) e t = let z : q ≡ j = cc in rw (eq-eqb q j z) at t
 
-      go : (o : Option ℕ) → member_for (areas cs) i l.area ≡ o → has_node cs l.number o ≡ true
+      go : (o : Option ℕ) → member_for (areas cs) i l.area_id ≡ o → has_node cs l.node_id o ≡ true
       go none e = refl
       go (some j) e =
-          let inside : j < length cs = rw length-map at (member_inside (areas cs) i l.area j (rw length-map lt) e) in
-          met j (member_for (areas cs) i l.area) e (h j inside)
+          let inside : j < length cs = rw length-map at (member_inside (areas cs) i l.area_id j (rw length-map lt) e) in
+          met j (member_for (areas cs) i l.area_id) e (h j inside)
 
   -- ---- a member
 
@@ -71,9 +72,9 @@ module _ (cs : List Cell) where
   all_arrive i lt h =
       every_all (node_arrives cs i) (cell_at cs i).nodes no_node (λ p lp.
       let n = get_or (cell_at cs i).nodes p no_node in
-      every_all (link_arrives cs i) n.links (link_of []) (λ b lb.
-      meets_arrives i (get_or n.links b (link_of [])) lt (λ k lk.
-      every_at (link_meets cs k i) n.links b (link_of [])
+      every_all (link_arrives cs i) n.links no_link (λ b lb.
+      meets_arrives i (get_or n.links b no_link) lt (λ k lk.
+      every_at (link_meets cs k i) n.links b no_link
       (every_at (node_meets cs k i) (cell_at cs i).nodes p no_node (h k lk) lp) lb)))
 
   -- ---- the set

@@ -21,7 +21,7 @@ use Rattle.cells.specs.WriteRead.{if_read, if_written, write_read_of}
 use Rattle.cells.proofs.Sequences.Tests.{by_test, true_false}
 use Rattle.sets.specs.Members.{cell_at, area_of, areas, member_for}
 use Rattle.sets.specs.MemberList.{member_at, member_causes, unless}
-use Rattle.sets.specs.SetRenumber.{Change, is_member, meant, change_of, correct_words, correct_memory}
+use Rattle.sets.specs.SetRenumber.{Change, is_member, meant, corrected, change_of, correct_link, correct_memory}
 use Rattle.sets.specs.SetRenumber.{members_after, SetRenumbered, renumbered_in, not_renumbered, renumber_in}
 use Rattle.sets.specs.SetRenumber.{SetBoth, both_in, not_written, write_read_in}
 use Rattle.sets.proofs.SetLists.{over_same}
@@ -29,6 +29,7 @@ use Rattle.sets.proofs.MemberLaws.{first_has, area_at}
 use Rattle.std.specs.Prelude.{Result, Ok, Err}
 use Rattle.numbers.specs.Refusals.{Answer}
 use Rattle.numbers.specs.declared.refusal.Refusal.{Refusal}
+use Rattle.cells.specs.declared.link.PathLink.{PathLink}
 
 -- ---- "A write refused in one member changes none", and so a renumbering
 
@@ -120,10 +121,10 @@ module _ (cs : List Cell) (j k : ℕ) (first : first_with (areas cs) (area_of (c
   later = ap (is_member j) (ap (first_with (areas cs)) (area_at cs j) ∙ first) ∙ other
 
   pub other_corrects_none : (i : ℕ) (m : Memory) → eqb i j ≡ false → correct_memory (change_of cs j) i m ≡ m
-  unfolding correct_memory correct_words
+  unfolding correct_memory corrected
   other_corrects_none i m ne =
-      ap (λ (l : List (List ℕ)). memory m.ynd m.nodes l m.junctions m.heights m.refs)
-      (over_same (correct_words (change_of cs j) i) (λ w. rw (not_meant (change_of cs j) later i (get_or w 0 0) ne))
+      ap (λ (l : List PathLink). memory m.ynd m.nodes l m.junctions m.heights m.refs)
+      (over_same (correct_link (change_of cs j) i) (λ w. rw (not_meant (change_of cs j) later i w.area_id ne))
       m.ynd.link_count m.links)
 
 -- ---- the same by one area: what a fast correction tests

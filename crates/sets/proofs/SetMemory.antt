@@ -8,37 +8,29 @@ use lib.Seq.{map-set_same}
 use borrow.Author.Tests.{leb-false}
 use Rattle.numbers.specs.Refusals.{decided}
 use Rattle.numbers.proofs.Refusing.{passed}
-use Rattle.cells.specs.NodeWords.{link_start, link_count}
 use Rattle.cells.specs.Memory.{Memory}
-use Rattle.cells.specs.Cell.{Link, Cell, renumber_cell}
-use Rattle.cells.specs.CellOf.{link_of, node_with, nodes_of, junctions_of, refs_of, cell_of}
+use Rattle.cells.specs.Cell.{Cell, renumber_cell}
+use Rattle.cells.specs.CellOf.{node_with, nodes_of, junctions_of, refs_of, cell_of}
 use Rattle.cells.specs.Renumber.{over, renumber}
-use Rattle.cells.proofs.Sequences.Tests.{by_test}
 use Rattle.cells.proofs.Renumbering.CellRenumbered.{done_call}
 use Rattle.sets.specs.Members.{no_cell, cell_at, map_from}
 use Rattle.sets.specs.MemberList.{no_memory, member_at, cells_of, member_causes}
-use Rattle.sets.specs.SetRenumber.{Change, meant, corrected, correct_link, correct_node, correct_cell, change_of}
-use Rattle.sets.specs.SetRenumber.{renumber_cells, correct_words, correct_memory, members_after}
+use Rattle.sets.specs.SetRenumber.{Change, correct_link, correct_node, correct_cell, change_of}
+use Rattle.sets.specs.SetRenumber.{renumber_cells, correct_memory, members_after}
 use Rattle.sets.proofs.SetLists.{front_over, map_from_law}
 use Rattle.std.specs.Prelude.{Ok}
+use Rattle.cells.specs.declared.link.PathLink.{PathLink}
+use Rattle.cells.specs.declared.node_entry.NodeEntry.{NodeEntry}
 
 module _ (x : Change) (i : ℕ) where
-  link_new : (w : List ℕ) → link_of (correct_words x i w) ≡ correct_link x i (link_of w)
-  unfolding correct_words corrected
-  link_new w = by_test (meant x i (get_or w 0 0)) (λ t. rw t) (λ f. rw f)
-
-  links_new : (l : List (List ℕ)) → map link_of (map (correct_words x i) l) ≡ map (correct_link x i) (map link_of l)
-  links_new [] = refl
-  links_new (w ∷ ws) = λ k. link_new w k ∷ links_new ws k
-
-  node_new : (ls : List Link) (w : List ℕ) → node_with (map (correct_link x i) ls) w
+  node_new : (ls : List PathLink) (w : NodeEntry) → node_with (map (correct_link x i) ls) w
       ≡ correct_node x i (node_with ls w)
-  node_new ls w = ap (λ (l : List Link). record
+  node_new ls w = ap (λ (l : List PathLink). record
       { area = (node_with ls w).area; number = (node_with ls w).number; links = l; body = (node_with ls w).body })
-      (ap (take (link_count w)) (drop-map (correct_link x i) (link_start w) ls)
-      ∙ take-map (correct_link x i) (link_count w) (drop (link_start w) ls))
+      (ap (take w.link_count) (drop-map (correct_link x i) w.link_id ls)
+      ∙ take-map (correct_link x i) w.link_count (drop w.link_id ls))
 
-  nodes_new : (ls : List Link) (ws : List (List ℕ)) → map (node_with (map (correct_link x i) ls)) ws
+  nodes_new : (ls : List PathLink) (ws : List NodeEntry) → map (node_with (map (correct_link x i) ls)) ws
       ≡ map (correct_node x i) (map (node_with ls) ws)
   nodes_new ls [] = refl
   nodes_new ls (w ∷ ws) = λ k. node_new ls w k ∷ nodes_new ls ws k
@@ -48,13 +40,10 @@ module _ (x : Change) (i : ℕ) where
   correct_memory_law m =
       let n = m.ynd.node_count in
       let l = m.ynd.link_count in
-      let e : map link_of (take l (over (map (correct_words x i)) l m.links))
-      ≡ map (correct_link x i) (map link_of (take l m.links)) = ap (map link_of)
-      (front_over (correct_words x i) l m.links) ∙ links_new (take l m.links) in
-      let f : map (node_with (map link_of (take l (over (map (correct_words x i)) l m.links)))) (take n m.nodes)
-      ≡ map (correct_node x i) (map (node_with (map link_of (take l m.links))) (take n m.nodes)) =
-      ap (λ (ls : List Link). map (node_with ls) (take n m.nodes)) e
-      ∙ nodes_new (map link_of (take l m.links)) (take n m.nodes) in
+      let f : map (node_with (take l (over (map (correct_link x i)) l m.links))) (take n m.nodes)
+      ≡ map (correct_node x i) (map (node_with (take l m.links)) (take n m.nodes)) =
+      ap (λ (ls : List PathLink). map (node_with ls) (take n m.nodes)) (front_over (correct_link x i) l m.links)
+      ∙ nodes_new (take l m.links) (take n m.nodes) in
       λ k. record {
         nodes = f k;
         junctions = junctions_of m;

@@ -12,14 +12,13 @@ use Rattle.records.specs.Sections.{located, extent, bytes_of}
 use Rattle.records.specs.Root.{unknowns_of, root_of, root_bytes}
 use Rattle.records.specs.Records.{node_at, node_bytes, link_at, link_bytes, junction_at}
 use Rattle.cells.specs.Lists.{up_to, join_to, sum_to, every}
-use Rattle.cells.specs.Words.{path_node, path_link, node_words, link_words}
+use Rattle.cells.specs.Paths.{path_node, path_link}
 use Rattle.cells.specs.Checks.{sizes_check, arrays_found, scan, arrays_check}
 use Rattle.cells.specs.Memory.{Memory, memory}
 use Rattle.cells.specs.Read.{links_from, node_in, links_in, room_check, cell_read, filled, read_arrays, read_of}
 use Rattle.cells.specs.Area.{belongs}
-use Rattle.cells.specs.NodeWords.{area_of, number_of}
+use Rattle.cells.specs.Nodes.{no_entry, no_link}
 use Rattle.cells.specs.CellOf.{nodes_of, junctions_of, refs_of, cell_of}
-use Rattle.cells.specs.Cell.{body_of}
 use Rattle.cells.specs.Lookup.{first_with}
 use Rattle.walks.specs.Sound.{differing, sound}
 use Rattle.sets.specs.Members.{member_for, every_from}
@@ -99,7 +98,7 @@ room =
       heightmap_count = 0;
       ref_count = 0;
     })
-    ([] ∷ [] ∷ []) ([] ∷ [] ∷ []) [] [] []
+    (no_entry ∷ no_entry ∷ []) (no_link ∷ no_link ∷ []) [] [] []
 
 pub reads_5 : (read_of (file_of 5 6) [] room).answer ≡ (Ok tt)
 unfolding file_of room root_bytes node_bytes link_bytes number_bytes bits16 read_of sizes_check arrays_found located
@@ -117,9 +116,8 @@ members = (read_of (file_of 5 6) [] room).memory ∷ (read_of (file_of 6 5) [] r
 pub members_sound : set_sound (cells_of members) ≡ true
 unfolding file_of room root_bytes node_bytes link_bytes number_bytes bits16 read_of sizes_check arrays_found located
     root_of unknowns_of number_at bytes_of extent read_arrays arrays_check scan node_at link_at junction_at sum_to
-    up_to join_to room_check filled cell_read node_in links_in links_from link_words path_link path_node node_words
-    set_sound sound every every_from member_for belongs first_with cell_of nodes_of junctions_of refs_of area_of
-    number_of body_of differing
+    up_to join_to room_check filled cell_read node_in links_in links_from path_link path_node set_sound sound every
+    every_from member_for belongs first_with cell_of nodes_of junctions_of refs_of differing
 members_sound = refl
 
 each : (i : ℕ) → i < length members → CellAsRead (member_at members i)

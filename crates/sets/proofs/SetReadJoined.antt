@@ -9,14 +9,13 @@ use Rattle.records.specs.Sections.{located, extent, bytes_of}
 use Rattle.records.specs.Root.{unknowns_of, root_of, root_bytes}
 use Rattle.records.specs.Records.{node_at, node_bytes, link_at, link_bytes, junction_at}
 use Rattle.cells.specs.Lists.{up_to, join_to, sum_to, every}
-use Rattle.cells.specs.Words.{path_node, path_link, node_words, link_words}
+use Rattle.cells.specs.Paths.{path_node, path_link}
 use Rattle.cells.specs.Checks.{sizes_check, arrays_found, scan, arrays_check}
 use Rattle.cells.specs.Memory.{Memory, over_limit}
 use Rattle.cells.specs.Read.{links_from, node_in, links_in, room_check, cell_read, filled, read_arrays, read_of}
-use Rattle.cells.specs.NodeWords.{area_of, number_of}
+use Rattle.cells.specs.Nodes.{no_entry, no_link}
 use Rattle.cells.specs.Cell.{Cell}
 use Rattle.cells.specs.CellOf.{nodes_of, junctions_of, refs_of, cell_of}
-use Rattle.cells.specs.Cell.{body_of}
 use Rattle.cells.specs.Lookup.{first_with}
 use Rattle.sets.specs.Members.{map_from}
 use Rattle.sets.specs.SetSound.{set_sound}
@@ -40,7 +39,8 @@ use Rattle.std.specs.Prelude.{Ok}
 
 -- six lists with room for two members of two nodes and two links
 abbrev empty : CellSet
-empty = cell_set ([] ∷ [] ∷ []) ([] ∷ [] ∷ [] ∷ [] ∷ []) ([] ∷ [] ∷ [] ∷ [] ∷ []) [] [] []
+empty = cell_set ([] ∷ [] ∷ []) (no_entry ∷ no_entry ∷ no_entry ∷ no_entry ∷ [])
+    (no_link ∷ no_link ∷ no_link ∷ no_link ∷ []) [] [] []
 
 abbrev two : Counts
 two = per_list 2 2 0 0 0
@@ -56,12 +56,10 @@ unfolding file_of room root_bytes node_bytes link_bytes number_bytes bits16 read
     root_of
     unknowns_of number_at bytes_of extent read_arrays arrays_check scan node_at link_at junction_at sum_to up_to
     join_to
-    room_check filled cell_read node_in links_in links_from link_words path_link path_node node_words join_cell
+    room_check filled cell_read node_in links_in links_from path_link path_node join_cell
     join_causes
     lack_for part_fits first_of_area members_of map_from parts_in parts_of words_at total ynd_of over_set
-    nodes_together any_over over_limit holds_list every cell_of nodes_of junctions_of refs_of first_with area_of
-    number_of
-    body_of
+    nodes_together any_over over_limit holds_list every cell_of nodes_of junctions_of refs_of first_with
 first_joins = refl
 
 abbrev one_set : CellSet
@@ -72,12 +70,10 @@ unfolding file_of room root_bytes node_bytes link_bytes number_bytes bits16 read
     root_of
     unknowns_of number_at bytes_of extent read_arrays arrays_check scan node_at link_at junction_at sum_to up_to
     join_to
-    room_check filled cell_read node_in links_in links_from link_words path_link path_node node_words join_cell
+    room_check filled cell_read node_in links_in links_from path_link path_node join_cell
     join_causes
     with_cell stored lack_for part_fits first_of_area members_of map_from parts_in parts_of words_at total ynd_of
     over_set nodes_together any_over over_limit holds_list every cell_of nodes_of junctions_of refs_of first_with
-    area_of
-    number_of body_of
 second_joins = refl
 
 -- ---- what joining stored

@@ -8,14 +8,14 @@ use lib.Dec.{eqb}
 use lib.ListN.{length, length-map}
 use borrow.Author.Tests.{eqb-true}
 use Rattle.numbers.specs.Refusals.{decided}
-use Rattle.cells.specs.Lists.{every}
+use Rattle.std.specs.List.{All}
 use Rattle.cells.specs.Cell.{Cell}
 use Rattle.cells.specs.Memory.{Memory}
 use Rattle.cells.specs.CellOf.{cell_of}
 use Rattle.cells.specs.Renumber.{renumber}
 use Rattle.cells.specs.WriteRead.{write_read_of}
-use Rattle.cells.proofs.WritingBack.KeptCells.{kept}
-use Rattle.cells.proofs.Sequences.Tests.{by_test, true_false, every_at}
+use Rattle.cells.proofs.WritingBack.KeptCells.{Kept}
+use Rattle.cells.proofs.Sequences.Tests.{by_test, true_false}
 use Rattle.cells.proofs.Renumbering.CellRenumbered.{done_few}
 use Rattle.cells.proofs.WritingBack.WrittenBack.{write_read_same}
 use Rattle.walks.specs.Calls.{Call, renumbering, write_read, is_done}
@@ -76,7 +76,7 @@ alike_trans {cs} {ds} {es} {f} {g} a b = record {
 -- a sound set whose cells storing keeps
 pub record Fit (cs : List Cell) : Type 0 where
   pub is_sound : set_sound cs ≡ true
-  pub is_kept : every kept cs ≡ true
+  pub is_kept : All Kept cs
 
 -- one call on the member j: the set cs before, ds after, each node moved by f
 pub record Step (cs ds : List Cell) (f : Location → Location) (j : ℕ) (renumbered : Bool) : Type 0 where
@@ -113,8 +113,8 @@ renumbered cs j lj few h = record {
 abbrev At : List Memory → List Memory → ℕ → Bool → Type 0
 At ms after j b = Step (cells_of ms) (cells_of after) (λ t. cond b (moves_to (cells_of ms) j t) t) j b
 
-member_kept : (ms : List Memory) (j : ℕ) → Fit (cells_of ms) → j < length ms → kept (cell_of (member_at ms j)) ≡ true
-member_kept ms j h lj = rw (cell_at_law ms j) at (every_at kept (cells_of ms) j no_cell h.is_kept (rw length-map lj))
+member_kept : (ms : List Memory) (j : ℕ) → Fit (cells_of ms) → j < length ms → Kept (cell_of (member_at ms j))
+member_kept ms j h lj = rw (cell_at_law ms j) at (h.is_kept j no_cell (rw length-map lj))
 
 step : (ms : List Memory) (k : SetCall) → Fit (cells_of ms) → At ms (after_in ms k) k.member (renumbers_in ms k)
 unfolding after_in renumbers_in renumber_in write_read_in

@@ -8,7 +8,7 @@ use lib.ListN.{length}
 use Rattle.numbers.specs.Refusals.{decided}
 use Rattle.cells.specs.Lists.{every}
 use Rattle.cells.specs.Area.{belongs}
-use Rattle.cells.specs.Cell.{Link, Node, Cell}
+use Rattle.cells.specs.Cell.{Node, Cell}
 use Rattle.cells.proofs.Sequences.Tests.{by_test, and_right, every_imp}
 use Rattle.walks.specs.Sound.{link_named, node_sound, sound}
 use Rattle.walks.specs.SoundCall.{verdict, sound_left}
@@ -21,6 +21,7 @@ use Rattle.sets.specs.SetSoundCall.{indexed_set, sound_causes, set_sound_call}
 use Rattle.sets.proofs.OneMember.{none_named}
 use Rattle.std.specs.Prelude.{Ok, Err}
 use Rattle.numbers.specs.Refusals.{Answer}
+use Rattle.cells.specs.declared.link.PathLink.{PathLink}
 
 module _ (y : CellSet) (scratch : List ℕ) where
   abbrev holds : Bool
@@ -52,11 +53,11 @@ module _ (y : CellSet) (scratch : List ℕ) where
 -- ---- one member
 
 module _ (c : Cell) where
-  named_arrives : (l : Link) → link_named c.nodes l ≡ true → link_arrives (c ∷ []) 0 l ≡ true
+  named_arrives : (l : PathLink) → link_named c.nodes l ≡ true → link_arrives (c ∷ []) 0 l ≡ true
   unfolding member_for
-  named_arrives l h = by_test (belongs (area_of c) l.area)
+  named_arrives l h = by_test (belongs (area_of c) l.area_id)
       (λ t. rw t (rw t at h))
-      (λ f. rw (f, none_named c l.area f))
+      (λ f. rw (f, none_named c l.area_id f))
 
   all_arrive : sound c ≡ true → member_arrives (c ∷ []) 0 c ≡ true
   unfolding every

@@ -6,7 +6,7 @@ use mathlib.Core.Path.{◌≡◌, refl, ap, sym, subst, ◌∙◌}
 use mathlib.Core.List.{List, [], ◌∷◌}
 use lib.ListN.{length, get_or, set, length-set}
 use Rattle.cells.specs.Cell.{Cell, numbers}
-use Rattle.cells.specs.NodeWords.{number_of}
+use Rattle.cells.specs.Nodes.{no_entry, number_of, number_at}
 use Rattle.cells.specs.LookupCall.{numbers_in}
 use Rattle.cells.specs.RenumberParts.{Indexed}
 use Rattle.walks.specs.SoundCall.{indexed}
@@ -14,6 +14,7 @@ use Rattle.walks.proofs.ScratchLaws.{index_starts, index_turn, indexed_turn}
 use Rattle.sets.specs.Members.{cell_at}
 use Rattle.sets.specs.SetSoundCall.{indexed_set}
 use Rattle.sets.specs.SetSoundParts.{indexed_to, numbers_of}
+use Rattle.cells.specs.declared.node_entry.NodeEntry.{NodeEntry}
 
 pub indexed_long : (ks : List ℕ) (i : ℕ) (s : List ℕ) → length (indexed ks i s) ≡ length s
 unfolding indexed
@@ -21,17 +22,17 @@ indexed_long [] i s = refl
 indexed_long (k ∷ ks) i s = indexed_long ks (suc i) (set s k i) ∙ length-set s k i
 
 -- it leads to the last node that has a number
-pub indexed_leads : (n : ℕ) (nodes : List (List ℕ)) (s : List ℕ) → n ≤ length nodes → 65536 ≤ length s
-    → Indexed (numbers_in n nodes) (indexed (numbers_in n nodes) 0 s)
-unfolding number_of
-indexed_leads zero nodes s h room = index_starts nodes (indexed (numbers_in 0 nodes) 0 s)
-indexed_leads (suc n) nodes s h room =
-    let k = number_of (get_or nodes n []) in
+pub indexed_leads : (n : ℕ) (nodes : List NodeEntry) (s : List ℕ) → n ≤ length nodes → 65536 ≤ length s
+    → ((j : ℕ) → j < n → number_at nodes j < 65536) → Indexed (numbers_in n nodes) (indexed (numbers_in n nodes) 0 s)
+indexed_leads zero nodes s h room short = index_starts nodes (indexed (numbers_in 0 nodes) 0 s)
+indexed_leads (suc n) nodes s h room short =
+    let k = number_of (get_or nodes n no_entry) in
     let now = indexed (numbers_in n nodes) 0 s in
     let lt : n < length nodes = omega arith in
-    let small : k < length now = omega (arith, indexed_long (numbers_in n nodes) 0 s) in
+    let small : k < length now = omega (arith, indexed_long (numbers_in n nodes) 0 s, short n (omega arith)) in
     let turned : Indexed (numbers_in (n + 1) nodes) (set now k n) =
-    index_turn nodes n k now lt refl small (indexed_leads n nodes s (omega arith) room) in
+    index_turn nodes n k now lt refl small
+    (indexed_leads n nodes s (omega arith) room (λ j lj. short j (omega arith))) in
     let e : set now k n ≡ indexed (numbers_in (n + 1) nodes) 0 s = indexed_turn nodes n k s now lt refl refl in
     let there : Indexed (numbers_in (n + 1) nodes) (indexed (numbers_in (n + 1) nodes) 0 s) =
     subst (λ (t : List ℕ). Indexed (numbers_in (n + 1) nodes) t) e turned in
@@ -43,7 +44,8 @@ pub to_start : (f : ℕ → List ℕ) (s : List ℕ) → s ≡ indexed_to f 0 s
 unfolding indexed_to
 to_start f s = refl
 
-pub to_next : (ws nodes : List (List ℕ)) (k : ℕ) (s : List ℕ) → indexed_to (numbers_of ws nodes) (k + 1) s
+pub to_next : (ws : List (List ℕ)) (nodes : List NodeEntry) (k : ℕ) (s : List ℕ)
+    → indexed_to (numbers_of ws nodes) (k + 1) s
     ≡ indexed (numbers_of ws nodes k) 0 (indexed_to (numbers_of ws nodes) k s)
 unfolding indexed_to
 to_next ws nodes k s = ap (λ (j : ℕ). indexed_to (numbers_of ws nodes) j s) (add-one k)

@@ -1,22 +1,23 @@
--- What the call `set_sound` answers: each member's soundness by its parts, each link by its words, and the causes.
+-- What the call `set_sound` answers: each member's soundness by its parts, each link by its entry, and the causes.
 use Rattle.std.proofs.lemmas.Bool.{not-false}
 use Prim.Native.Nat.{ℕ, zero, suc, ◌+◌, ◌-◌, ◌≤◌, ◌<◌}
 use native.Mathlib.Omega.{arith}
 use native.Mathlib.Numerals.{add-one}
 use mathlib.Core.Path.{◌≡◌, refl, ap, sym, subst, ◌∙◌}
 use mathlib.Core.Bool.{Bool, true, false, not, ◌&&◌, ◌||◌}
-use mathlib.Core.List.{List, [], map}
+use mathlib.Core.List.{List, []}
 use lib.ListN.{length, get_or, take, drop, length-map, length-drop}
+use lib.Seq.{get_or-take, length-take-le}
 use borrow.Author.Tests.{ltb-false}
 use Rattle.numbers.specs.Refusals.{Cause, decided}
 use Rattle.numbers.proofs.Refusing.{passed}
 use Rattle.cells.specs.Lists.{every}
 use Rattle.cells.specs.Memory.{Memory, memory}
+use Rattle.cells.specs.Nodes.{no_entry, number_at}
 use Rattle.cells.specs.Cell.{Cell, numbers}
-use Rattle.cells.specs.CellOf.{link_of, node_with, nodes_of, refs_of, cell_of}
+use Rattle.cells.specs.CellOf.{node_with, nodes_of, refs_of, cell_of}
 use Rattle.cells.specs.Lookup.{first_with, is_some}
 use Rattle.cells.specs.LookupCall.{numbers_in}
-use Rattle.cells.specs.NodeWords.{link_start, link_count}
 use Rattle.cells.specs.RenumberParts.{Indexed, Leads}
 use Rattle.cells.specs.declared.ynd.Ynd.{Ynd}
 use Rattle.walks.specs.Sound.{differing, node_sound, ref_named, is_empty, sound}
@@ -34,7 +35,7 @@ use Rattle.sets.specs.SetSoundCall.{indexed_set, sound_causes, set_sound_call}
 use Rattle.sets.specs.SetParts.{Holding, count_of, bare, areas_of}
 use Rattle.sets.specs.SetSoundParts.{all_below, link_meets, node_meets, member_meets, judged_at, word_meets}
 use Rattle.sets.specs.SetSoundParts.{words_meet}
-use Rattle.sets.specs.SetSoundParts.{numbers_of, part_meets, SetHeld, indexed_to, entries_causes}
+use Rattle.sets.specs.SetSoundParts.{ShortNumbers, numbers_of, part_meets, SetHeld, indexed_to, entries_causes}
 use Rattle.sets.specs.CellSet.{cells_in}
 use Rattle.sets.proofs.PartLaws.{rest}
 use Rattle.sets.proofs.CellSetLaws.{members_many, areas_held}
@@ -48,9 +49,13 @@ use Rattle.std.specs.Prelude.{Result, Ok, Err}
 use Rattle.sets.specs.declared.world.World.{World}
 use Rattle.sets.specs.WorldParts.{set_of}
 use Rattle.std.specs.Result.{result_unwrap_or}
-use Rattle.std.proofs.lemmas.List.{take-map, drop-map}
 use Rattle.numbers.specs.Refusals.{Answer}
 use Rattle.numbers.specs.declared.refusal.Refusal.{Refusal}
+use Rattle.cells.specs.declared.junction_entry.JunctionEntry.{JunctionEntry}
+use Rattle.records.specs.declared.junction_ref.NodeJunctionRef.{NodeJunctionRef}
+use Rattle.cells.specs.declared.node_entry.NodeEntry.{NodeEntry}
+use Rattle.cells.specs.declared.link.PathLink.{PathLink}
+use Rattle.walks.proofs.Ranges.{every_same}
 
 -- ---- one member's soundness
 
@@ -64,7 +69,7 @@ module _ (y : CellSet) (h : SetHeld y.members y.nodes y.links y.refs) (k : ℕ) 
   abbrev ws : List (List ℕ)
   ws = y.members
 
-  abbrev whole : List (List ℕ) → List ℕ → Memory
+  abbrev whole : List JunctionEntry → List ℕ → Memory
   whole js hs = memory (ynd_of (get_or ws k [])) (drop (start_of 15 ws k) y.nodes) (drop (start_of 16 ws k) y.links) js
       hs (drop (start_of 19 ws k) y.refs)
 
@@ -72,7 +77,7 @@ module _ (y : CellSet) (h : SetHeld y.members y.nodes y.links y.refs) (k : ℕ) 
   unfolding numbers_of
   numbers_are = numbers_at y k lt (h.nodes_hold.held k lt)
 
-  module _ (js : List (List ℕ)) (hs : List ℕ) where
+  module _ (js : List JunctionEntry) (hs : List ℕ) where
     sound_whole : sound (cell_of (whole js hs)) ≡ sound (cell_at (cells_in y) k)
     unfolding cell_of nodes_of refs_of ynd_of
     sound_whole = sound_same (cell_of (whole js hs)) (cell_at (cells_in y) k)
@@ -124,10 +129,11 @@ module _ (y : CellSet) (h : SetHeld y.members y.nodes y.links y.refs) (k : ℕ) 
         ∙ called_whole s room
 
   -- the scratch after it leads to the member's nodes
-  ready_of : (s now : List ℕ) → 65536 ≤ length s → now ≡ indexed (numbers_of ws y.nodes k) 0 s
+  ready_of : (s now : List ℕ) → ShortNumbers (take (count_of 10 ws k) (drop (start_of 15 ws k) y.nodes))
+      → 65536 ≤ length s → now ≡ indexed (numbers_of ws y.nodes k) 0 s
       → Leads (numbers_in (count_of 10 ws k) (drop (start_of 15 ws k) y.nodes)) now
   unfolding numbers_of
-  ready_of s now room e =
+  ready_of s now all room e =
       let d = drop (start_of 15 ws k) y.nodes in
       let n = count_of 10 ws k in
       let fits : n ≤ length d = omega (
@@ -136,9 +142,11 @@ module _ (y : CellSet) (h : SetHeld y.members y.nodes y.links y.refs) (k : ℕ) 
         part_inside h.nodes_hold k lt,
         h.nodes_hold.held k lt,
       ) in
+      let each : (j : ℕ) → j < n → number_at d j < 65536 = λ j lj.
+      rw (get_or-take n d j no_entry lj) at (all.short j (omega (arith, length-take-le n d fits))) in
       record {
         fits = omega (arith, ap length e, indexed_long (numbers_in n d) 0 s);
-        indexed = subst (λ (t : List ℕ). Indexed (numbers_in n d) t) (sym e) (indexed_leads n d s fits room);
+        indexed = subst (λ (t : List ℕ). Indexed (numbers_in n d) t) (sym e) (indexed_leads n d s fits room each);
       }
 
   -- ---- the links of the member i that name it
@@ -150,27 +158,24 @@ module _ (y : CellSet) (h : SetHeld y.members y.nodes y.links y.refs) (k : ℕ) 
     abbrev ks : List ℕ
     ks = numbers_of ws y.nodes k
 
-    abbrev pool : List (List ℕ)
+    abbrev pool : List PathLink
     pool = take (count_of 11 ws i) (drop (start_of 16 ws i) y.links)
 
-    link_same : (w : List ℕ) → link_meets cs k i (link_of w) ≡ word_meets all k ks i w
+    link_same : (w : PathLink) → link_meets cs k i w ≡ word_meets all k ks i w
     unfolding word_meets
-    link_same w = λ j. not (is_member k (member_for (sym ea j) i (get_or w 0 0))) || is_some
-        (first_with (numbers_are j) (get_or w 1 0))
+    link_same w = λ j. not (is_member k (member_for (sym ea j) i w.area_id)) || is_some
+        (first_with (numbers_are j) w.node_id)
 
-    node_same : (w : List ℕ) → node_meets cs k i (node_with (map link_of pool) w) ≡ words_meet all k ks i pool w
+    node_same : (w : NodeEntry) → node_meets cs k i (node_with pool w) ≡ words_meet all k ks i pool w
     unfolding words_meet
     node_same w =
-        ap (every (link_meets cs k i)) (ap (take (link_count w)) (drop-map link_of (link_start w) pool)
-        ∙ take-map link_of (link_count w) (drop (link_start w) pool))
-        ∙ every_mapped (link_meets cs k i) link_of (word_meets all k ks i) link_same
-        (take (link_count w) (drop (link_start w) pool))
+        every_same (link_meets cs k i) (word_meets all k ks i) link_same (take w.link_count (drop w.link_id pool))
 
     pub part_same : part_meets all ws y.nodes y.links k i ≡ member_meets cs k i
     unfolding part_meets nodes_of ynd_of
     part_same = sym (
         ap (every (node_meets cs k i)) (nodes_at y i li (h.nodes_hold.held i li) (h.links_hold.held i li))
-        ∙ every_mapped (node_meets cs k i) (node_with (map link_of pool)) (words_meet all k ks i pool) node_same
+        ∙ every_mapped (node_meets cs k i) (node_with pool) (words_meet all k ks i pool) node_same
         (take (count_of 10 ws i) (drop (start_of 15 ws i) y.nodes)))
 
 -- ---- all members
@@ -216,7 +221,7 @@ judged_next ds n k = ap (all_below (judged_at ds n)) (add-one k)
 
 -- ---- a set that links lead through, with refs that hold its members
 
-module _ (x : World) (refs : List (List ℕ)) (hr : Holding 14 19 x.members.now (length refs)) where
+module _ (x : World) (refs : List NodeJunctionRef) (hr : Holding 14 19 x.members.now (length refs)) where
   held : SetHeld x.members.now x.nodes.now x.links.now refs
   held = record {
     few = x.lent.few;
@@ -226,7 +231,7 @@ module _ (x : World) (refs : List (List ℕ)) (hr : Holding 14 19 x.members.now 
     refs_hold = hr;
   }
 
-  pub all_told : {n : ℕ} {b : Bool} (js : List (List ℕ)) (hs : List ℕ) → n ≡ length x.members.now
+  pub all_told : {n : ℕ} {b : Bool} (js : List JunctionEntry) (hs : List ℕ) → n ≡ length x.members.now
       → b ≡ all_below (judged_at (cells_in (set_of x js hs refs)) (length x.members.now)) n → b
       ≡ set_sound (cells_in (set_of x js hs refs))
   all_told js hs en e =
@@ -239,37 +244,42 @@ module _ (x : World) (refs : List (List ℕ)) (hr : Holding 14 19 x.members.now 
         → v ≡ ynd_of (get_or x.members.now k []) → a ≡ start_of 15 x.members.now k → c ≡ start_of 16 x.members.now k
         → e ≡ start_of 19 x.members.now k
         → 65536 ≤ length s
-        → ((js : List (List ℕ)) (hs : List ℕ) → sound_left r now
+        → ((js : List JunctionEntry) (hs : List ℕ) → sound_left r now
         ≡ sound_call (memory v (take (length x.nodes.now - a) (drop a x.nodes.now))
         (take (length x.links.now - c) (drop c x.links.now)) js hs (take (length refs - e) (drop e refs))) s)
         → b ≡ result_unwrap_or r false
-        → ((js : List (List ℕ)) (hs : List ℕ) → b ≡ sound (cell_at (cells_in (set_of x js hs refs)) k))
+        → ((js : List JunctionEntry) (hs : List ℕ) → b ≡ sound (cell_at (cells_in (set_of x js hs refs)) k))
         × (now ≡ indexed (numbers_of x.members.now x.nodes.now k) 0 s)
     member_told r s ev ea ec ee room call eb =
-        let told = λ (js : List (List ℕ)) (hs : List ℕ).
+        let told = λ (js : List JunctionEntry) (hs : List ℕ).
         call js hs ∙ member_called (set_of x js hs refs) held k lt js hs s ev ea ec ee room in (
           λ js hs. eb ∙ ap (λ (l : SoundLeft). result_unwrap_or l.answer false) (told js hs),
           ap (λ (l : SoundLeft). l.scratch) (told [] []),
         )
 
-    pub ready_at : (s now : List ℕ) → 65536 ≤ length s → now ≡ indexed (numbers_of x.members.now x.nodes.now k) 0 s
+    pub ready_at : (s now : List ℕ)
+        → ShortNumbers (take (count_of 10 x.members.now k) (drop (start_of 15 x.members.now k) x.nodes.now))
+        → 65536 ≤ length s → now ≡ indexed (numbers_of x.members.now x.nodes.now k) 0 s
         → Leads (numbers_in (count_of 10 x.members.now k) (drop (start_of 15 x.members.now k) x.nodes.now)) now
     ready_at = ready_of (set_of x [] [] refs) held k lt
 
     -- it is not sound, or else its links decide
-    pub unsound_at : (js : List (List ℕ)) (hs : List ℕ) → sound (cell_at (cells_in (set_of x js hs refs)) k) ≡ false
+    pub unsound_at : (js : List JunctionEntry) (hs : List ℕ)
+        → sound (cell_at (cells_in (set_of x js hs refs)) k) ≡ false
         → judged_at (cells_in (set_of x js hs refs)) (length x.members.now) k ≡ false
     unfolding judged_at
     unsound_at js hs e = rw e
 
-    pub judged_told : (js : List (List ℕ)) (hs : List ℕ) → sound (cell_at (cells_in (set_of x js hs refs)) k) ≡ true
+    pub judged_told : (js : List JunctionEntry) (hs : List ℕ)
+        → sound (cell_at (cells_in (set_of x js hs refs)) k) ≡ true
         → judged_at (cells_in (set_of x js hs refs)) (length x.members.now) k
         ≡ all_below (part_meets x.areas.now x.members.now x.nodes.now x.links.now k) (length x.members.now)
     judged_told js hs e = sym (judged_by (set_of x js hs refs) held x.areas.now x.lent.areas_are k lt (sym e))
 
 -- ---- the call
 
-module _ (ws nodes links refs : List (List ℕ)) (room : ℕ) (done : (Ok tt)
+module _ (ws : List (List ℕ)) (nodes : List NodeEntry) (links : List PathLink) (refs : List NodeJunctionRef)
+    (room : ℕ) (done : (Ok tt)
     ≡ decided (entries_causes ws (length nodes) (length links) (length refs) room)) where
   abbrev causes : List Cause
   causes = entries_causes ws (length nodes) (length links) (length refs) room

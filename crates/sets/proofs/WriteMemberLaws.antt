@@ -21,6 +21,10 @@ use Rattle.std.specs.Result.{IsErrAnd}
 use Rattle.std.proofs.lemmas.Result.{err_from_is_err_and}
 use Rattle.std.specs.Prelude.{Result, Ok, Err}
 use Rattle.numbers.specs.declared.refusal.Refusal.{Refusal}
+use Rattle.cells.specs.declared.node_entry.NodeEntry.{NodeEntry}
+use Rattle.cells.specs.declared.link.PathLink.{PathLink}
+use Rattle.cells.specs.declared.junction_entry.JunctionEntry.{JunctionEntry}
+use Rattle.records.specs.declared.junction_ref.NodeJunctionRef.{NodeJunctionRef}
 
 module _ {y : CellSet} {j : ℕ} (section : List ℕ) {p : MemberPart} (k : OpenAt y j p) where
   abbrev ws : List (List ℕ)
@@ -37,7 +41,8 @@ module _ {y : CellSet} {j : ℕ} (section : List ℕ) {p : MemberPart} (k : Open
   wrote = called (λ x. set_written (Err x) y section) (λ (m : Memory). wrote_in y j (write_read_of m section)) k refl
 
   -- what the call on its part leaves
-  module _ {r : Result WroteRead Refusal} {N L J R : List (List ℕ)} {H S : List ℕ}
+  module _ {r : Result WroteRead Refusal} {N : List NodeEntry} {L : List PathLink} {J : List JunctionEntry}
+      {R : List NodeJunctionRef} {H S : List ℕ}
       (q : (written_of r ≡ b.answer) × (ynd_after p.ynd r ≡ b.memory.ynd)
       × (N ≡ put y.nodes p.a.nodes b.memory.nodes) × (L ≡ put y.links p.a.links b.memory.links)
       × (J ≡ put y.junctions p.a.junctions b.memory.junctions) × (H ≡ put y.heights p.a.heights b.memory.heights)

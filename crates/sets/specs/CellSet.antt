@@ -12,16 +12,22 @@ use Rattle.cells.specs.Cell.{Cell}
 use Rattle.sets.specs.MemberList.{cells_of, over_set}
 use Rattle.numbers.specs.declared.refusal.Refusal.TheVariants.{TooShort, AtLimit}
 use Rattle.numbers.specs.declared.refusal.Lent.TheVariants as lent
+use Rattle.cells.specs.declared.node_entry.NodeEntry.{NodeEntry}
+use Rattle.cells.specs.declared.link.PathLink.{PathLink}
+use Rattle.cells.specs.declared.junction_entry.JunctionEntry.{JunctionEntry}
+use Rattle.records.specs.declared.junction_ref.NodeJunctionRef.{NodeJunctionRef}
 
 pub record CellSet : Type 0 where
   pub members : List (List ℕ)
-  pub nodes : List (List ℕ)
-  pub links : List (List ℕ)
-  pub junctions : List (List ℕ)
+  pub nodes : List NodeEntry
+  pub links : List PathLink
+  pub junctions : List JunctionEntry
   pub heights : List ℕ
-  pub refs : List (List ℕ)
+  pub refs : List NodeJunctionRef
 
-abbrev pub cell_set : List (List ℕ) → List (List ℕ) → List (List ℕ) → List (List ℕ) → List ℕ → List (List ℕ) → CellSet
+abbrev pub cell_set : List (List ℕ) → List NodeEntry → List PathLink → List JunctionEntry → List ℕ
+    → List NodeJunctionRef
+    → CellSet
 cell_set members nodes links junctions heights refs =
     record { members = members; nodes = nodes; links = links; junctions = junctions; heights = heights; refs = refs }
 
@@ -62,11 +68,11 @@ parts_of (c ∷ cs) l = take c l ∷ parts_of cs (drop c l)
 
 -- the five lists, each in its parts
 pub record Parts : Type 0 where
-  pub nodes : List (List (List ℕ))
-  pub links : List (List (List ℕ))
-  pub junctions : List (List (List ℕ))
+  pub nodes : List (List NodeEntry)
+  pub links : List (List PathLink)
+  pub junctions : List (List JunctionEntry)
   pub heights : List (List ℕ)
-  pub refs : List (List (List ℕ))
+  pub refs : List (List NodeJunctionRef)
 
 unfoldable pub parts_in : CellSet → Parts
 parts_in y = record {

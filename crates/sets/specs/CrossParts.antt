@@ -9,16 +9,18 @@ use Rattle.sets.specs.CellSet.{CellSet, cell_set, ynd_of, members_of, holds_list
 use Rattle.sets.specs.SetParts.{count_of, Holding, bare, areas_of}
 use Rattle.numbers.specs.declared.refusal.Refusal.TheVariants.{TooShort, NoSuchPlace, AtLimit}
 use Rattle.numbers.specs.declared.refusal.Lent.TheVariants as lent
+use Rattle.cells.specs.declared.node_entry.NodeEntry.{NodeEntry}
+use Rattle.cells.specs.declared.link.PathLink.{PathLink}
 
 -- a crossing walk looks at no other list
-abbrev pub walked_set : List (List ℕ) → List (List ℕ) → List (List ℕ) → CellSet
+abbrev pub walked_set : List (List ℕ) → List NodeEntry → List PathLink → CellSet
 walked_set ws nodes links = cell_set ws nodes links [] [] []
 
-unfoldable pub cells_in : List (List ℕ) → List (List ℕ) → List (List ℕ) → List Cell
+unfoldable pub cells_in : List (List ℕ) → List NodeEntry → List PathLink → List Cell
 cells_in ws nodes links = cells_of (members_of (walked_set ws nodes links))
 
 -- what the walk is lent: the members, within the limits, their nodes, and their areas
-pub record Lent (areas : List ℕ) (ws nodes : List (List ℕ)) : Type 0 where
+pub record Lent (areas : List ℕ) (ws : List (List ℕ)) (nodes : List NodeEntry) : Type 0 where
   pub few : length ws ≤ 9
   pub within : (i : ℕ) → i < length ws → over_limit (ynd_of (get_or ws i [])) ≡ false
   pub nodes_hold : Holding 10 15 ws (length nodes)

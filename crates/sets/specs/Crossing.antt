@@ -3,7 +3,7 @@ use Rattle.std.specs.Prelude.{ℕ, List}
 use Rattle.std.proofs.Math.Option.{Option, none, some}
 use Rattle.cells.specs.Cell.{Cell, numbers}
 use Rattle.cells.specs.Lookup.{first_with, find}
-use Rattle.walks.specs.Walk.{Next, to, stop, next, see, link_at, body_of, World, Trail, walk_in}
+use Rattle.walks.specs.Walk.{Next, to, stop, next, see, link_at, shown_of, World, Trail, walk_in}
 use Rattle.walks.specs.declared.walk.End.TheVariants.{Done, NoLink, Left, NoNode}
 use Rattle.sets.specs.Members.{cell_at, areas}
 use Rattle.sets.specs.declared.cross.Location as at
@@ -44,7 +44,7 @@ abbrev pub world_in : List Cell → World Location
 world_in cs = record {
   next = next_in cs;
   see = λ s. see (cell_at cs s.member) s.place;
-  link = λ s b. body_of (link_at (cell_at cs s.member).nodes s.place b);
+  link = λ s b. shown_of (link_at (cell_at cs s.member).nodes s.place b);
 }
 
 -- the crossing walk, over a list of choices, from a member and a place

@@ -3,8 +3,9 @@
 use Rattle.std.specs.Prelude.{ℕ, List, length}
 use Rattle.numbers.specs.Refusals.{decided}
 use Rattle.cells.specs.Memory.{Memory}
-use Rattle.cells.specs.Edit.{node_entry, link_entry, ref_entry, junction_entry, height_entry, got_node, got_link}
-use Rattle.cells.specs.Edit.{got_ref, got_junction, got_height}
+use Rattle.cells.specs.Edit.{node_entry, link_entry, ref_entry, junction_entry, height_entry, got, got_as}
+use Rattle.cells.specs.EntryForms.{entry_as_node, entry_as_junction}
+use Rattle.cells.specs.Nodes.{no_entry, no_link, no_map, no_ref}
 use Rattle.cells.specs.LookupCall.{Place, area_id_call, node_call, junction_of_call}
 use Rattle.cells.specs.declared.ynd.Ynd.{Ynd}
 use Rattle.cells.specs.declared.node.PathNode.{PathNode}
@@ -52,22 +53,22 @@ abbrev pub ynd_member : CellSet → ℕ → Result Ynd Refusal
 ynd_member y j = ask_member y j Err (λ m. Ok m.ynd)
 
 abbrev pub get_node_member : CellSet → ℕ → ℕ → Result PathNode Refusal
-get_node_member y j p = ask_member y j Err (λ m. got_node (node_entry m.ynd m.nodes p) m.nodes)
+get_node_member y j p = ask_member y j Err (λ m. got_as entry_as_node no_entry (node_entry m.ynd m.nodes p) m.nodes)
 
 abbrev pub get_link_member : CellSet → ℕ → ℕ → ℕ → Result PathLink Refusal
 get_link_member y j p k =
-    ask_member y j Err (λ m. got_link (link_entry m.ynd m.nodes (length m.links) p k) m.links)
+    ask_member y j Err (λ m. got no_link (link_entry m.ynd m.nodes (length m.links) p k) m.links)
 
 abbrev pub get_ref_member : CellSet → ℕ → ℕ → Result NodeJunctionRef Refusal
-get_ref_member y j p = ask_member y j Err (λ m. got_ref (ref_entry m.ynd m.refs p) m.refs)
+get_ref_member y j p = ask_member y j Err (λ m. got no_ref (ref_entry m.ynd m.refs p) m.refs)
 
 abbrev pub get_junction_member : CellSet → ℕ → ℕ → Result PathJunction Refusal
 get_junction_member y j p =
-    ask_member y j Err (λ m. got_junction (junction_entry m.ynd m.junctions p) m.junctions)
+    ask_member y j Err (λ m. got_as entry_as_junction no_map (junction_entry m.ynd m.junctions p) m.junctions)
 
 abbrev pub get_height_member : CellSet → ℕ → ℕ → ℕ → Result ℕ Refusal
 get_height_member y j p k =
-    ask_member y j Err (λ m. got_height (height_entry m.ynd m.junctions (length m.heights) p k)
+    ask_member y j Err (λ m. got 0 (height_entry m.ynd m.junctions (length m.heights) p k)
     m.heights)
 
 -- ---- what a walk shows

@@ -5,10 +5,11 @@ use Rattle.numbers.specs.Refusals.{Answer, decided}
 use Rattle.cells.specs.Memory.{Memory}
 use Rattle.cells.specs.Renumber.{Renumbered, over, renumber}
 use Rattle.sets.specs.MemberList.{cells_of, unless}
-use Rattle.sets.specs.SetRenumber.{Change, change_of, correct_words}
+use Rattle.sets.specs.SetRenumber.{Change, change_of, correct_link}
 use Rattle.sets.specs.CellSet.{CellSet, cell_set, word, members_of}
 use Rattle.sets.specs.SetStored.{member_in, ask_causes, with_member}
 use Rattle.std.specs.Prelude.{Ok, Err}
+use Rattle.cells.specs.declared.link.PathLink.{PathLink}
 
 -- what the call answers, and the six lists and the list of new places after it
 pub record MemberRenumbered : Type 0 where
@@ -23,11 +24,11 @@ member_renumbered a y places = record { answer = a; lists = y; places = places }
 
 -- The part of the member i: each of the links that its count says, once. Entries behind them stay, and so does the
 -- part of the member that is renumbered.
-abbrev pub correct_part : Change → ℕ → ℕ → List (List ℕ) → List (List ℕ)
-correct_part x i count part = cond (eqb i x.member) part (over (map (correct_words x i)) count part)
+abbrev pub correct_part : Change → ℕ → ℕ → List PathLink → List PathLink
+correct_part x i count part = cond (eqb i x.member) part (over (map (correct_link x i)) count part)
 
 -- the parts of the members with these entries, the first of which is the member i; what is behind all parts stays
-unfoldable pub correct_parts : Change → ℕ → List (List ℕ) → List (List ℕ) → List (List ℕ)
+unfoldable pub correct_parts : Change → ℕ → List (List ℕ) → List PathLink → List PathLink
 correct_parts x i [] l = l
 correct_parts x i (w ∷ ws) l =
     correct_part x i (word 11 w) (take (word 16 w) l) ++ correct_parts x (suc i) ws (drop (word 16 w) l)

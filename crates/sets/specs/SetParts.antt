@@ -4,7 +4,7 @@ use Rattle.std.specs.Prelude.{length, get_or, take}
 use Rattle.std.proofs.Math.Option.{Option as Found}
 use Rattle.numbers.specs.Refusals.{Cause, when}
 use Rattle.cells.specs.Memory.{Memory, memory}
-use Rattle.cells.specs.NodeWords.{first_area}
+use Rattle.cells.specs.Nodes.{first_area}
 use Rattle.cells.specs.Lookup.{first_with, is_some}
 use Rattle.cells.specs.LookupCall.{place_of}
 use Rattle.cells.specs.declared.ynd.Ynd.{Ynd}
@@ -19,6 +19,7 @@ use Rattle.numbers.specs.declared.refusal.Refusal.TheVariants.{TooShort, AtLimit
 use Rattle.numbers.specs.declared.refusal.Lent.TheVariants as lent
 use Rattle.numbers.specs.declared.refusal.Array.{Array}
 use Rattle.numbers.specs.declared.refusal.Array.TheVariants as array
+use Rattle.cells.specs.declared.node_entry.NodeEntry.{NodeEntry}
 
 abbrev pub named_of : Found ℕ → Option ℕ
 named_of o = place_of o
@@ -78,8 +79,8 @@ pub record Holds (y : CellSet) : Type 0 where
 unfoldable pub bare : List (List ℕ) → List Memory
 bare ws = map (λ w. memory (ynd_of w) [] [] [] [] []) ws
 
--- the members' areas, by their nodes' words
-unfoldable pub areas_of : List (List ℕ) → List (List ℕ) → List ℕ
+-- the members' areas, by their nodes
+unfoldable pub areas_of : List (List ℕ) → List NodeEntry → List ℕ
 areas_of ws nodes =
     map_from (λ i w. first_area (take (word 10 w) (get_or (parts_of (words_at 15 ws) nodes) i []))) 0 ws
 
@@ -87,7 +88,7 @@ abbrev pub bare_cell : Ynd → Memory
 bare_cell y = memory y [] [] [] [] []
 
 -- what joining is refused for, by the entries and the lists' lengths
-unfoldable pub entry_causes : List (List ℕ) → List (List ℕ) → Counts → Counts → Ynd → Counts → ℕ → ℕ → List Cause
+unfoldable pub entry_causes : List (List ℕ) → List NodeEntry → Counts → Counts → Ynd → Counts → ℕ → ℕ → List Cause
 entry_causes ws nodes lens haves y sizes area room =
     when (is_some (first_with (areas_of ws nodes) area)) AreaTaken
     ∷ when (over_set (bare ws ++ (bare_cell y ∷ []))) AtLimit

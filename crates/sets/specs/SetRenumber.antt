@@ -1,17 +1,18 @@
 -- T-09: renumbering one member, with the correction of the others' links, and write-then-read of one member.
 use Rattle.cells.specs.EditedCell.{with_nodes, node_linked}
-use Rattle.std.specs.Prelude.{ℕ, Bool, false, cond, List, [], ◌∷◌, map, eqb, get_or, set}
+use Rattle.std.specs.Prelude.{ℕ, Bool, false, cond, List, map, eqb, set}
 use Rattle.std.proofs.Math.Option.{Option, none, some}
 use Rattle.numbers.specs.Refusals.{Answer, decided}
 use Rattle.cells.specs.Order.{Old, new_number}
 use Rattle.cells.specs.Memory.{Memory, memory}
-use Rattle.cells.specs.Cell.{Link, Node, Cell, old_nodes, renumber_cell}
+use Rattle.cells.specs.Cell.{Node, Cell, old_nodes, renumber_cell}
 use Rattle.cells.specs.Renumber.{Renumbered, over, renumber}
 use Rattle.cells.specs.WriteRead.{Both, write_read_of}
 use Rattle.sets.specs.Members.{cell_at, areas, member_for, map_from}
 use Rattle.sets.specs.MemberList.{member_at, cells_of, member_causes, unless}
 use Rattle.std.specs.Prelude.{Result, Ok, Err}
 use Rattle.numbers.specs.declared.refusal.Refusal.{Refusal}
+use Rattle.cells.specs.declared.link.PathLink.{PathLink}
 
 -- ---- which links are corrected
 
@@ -37,8 +38,8 @@ corrected x i a k = cond (meant x i a) (new_number x.old k) k
 
 -- ---- of a cell
 
-abbrev pub correct_link : Change → ℕ → Link → Link
-correct_link x i l = record { area = l.area; number = corrected x i l.area l.number; body = l.body }
+abbrev pub correct_link : Change → ℕ → PathLink → PathLink
+correct_link x i l = record l { node_id = corrected x i l.area_id l.node_id }
 
 abbrev pub correct_node : Change → ℕ → Node → Node
 correct_node x i n = node_linked (map (correct_link x i) n.links) n
@@ -56,16 +57,10 @@ renumber_cells cs j = set (map_from (correct_cell (change_of cs j)) 0 cs) j (ren
 
 -- ---- in memory
 
--- a link's words: a link that is not meant stays as it is
-unfoldable pub correct_words : Change → ℕ → List ℕ → List ℕ
-correct_words x i w =
-    cond (meant x i (get_or w 0 0)) (get_or w 0 0 ∷ new_number x.old (get_or w 1 0) ∷ get_or w 2 0
-    ∷ get_or w 3 0 ∷ []) w
-
 -- each of the links that the count says, once; all else stays
 unfoldable pub correct_memory : Change → ℕ → Memory → Memory
 correct_memory x i m =
-    memory m.ynd m.nodes (over (map (correct_words x i)) m.ynd.link_count m.links) m.junctions m.heights
+    memory m.ynd m.nodes (over (map (correct_link x i)) m.ynd.link_count m.links) m.junctions m.heights
     m.refs
 
 -- what a renumbering answers, and the members and the list of new places after it

@@ -3,11 +3,11 @@ use Rattle.std.specs.Prelude.{ℕ, zero, suc, ◌≤◌, ◌<◌, ◌≡◌, Boo
 use Rattle.std.specs.Prelude.{length, get_or, take, drop}
 use Rattle.numbers.specs.Refusals.{Cause, when}
 use Rattle.cells.specs.Lists.{every}
-use Rattle.cells.specs.Cell.{Link, Node, Cell, numbers}
+use Rattle.cells.specs.Cell.{Node, Cell, numbers}
 use Rattle.cells.specs.Lookup.{first_with, is_some}
 use Rattle.cells.specs.LookupCall.{numbers_in}
 use Rattle.cells.specs.Memory.{over_limit}
-use Rattle.cells.specs.NodeWords.{link_start, link_count}
+use Rattle.cells.specs.Nodes.{number_at}
 use Rattle.walks.specs.Sound.{sound}
 use Rattle.walks.specs.SoundCall.{indexed}
 use Rattle.sets.specs.Members.{cell_at, areas, member_for}
@@ -18,6 +18,9 @@ use Rattle.sets.specs.Leave.{start_of}
 use Rattle.sets.specs.SetParts.{count_of, Holding, bare}
 use Rattle.numbers.specs.declared.refusal.Refusal.TheVariants.{TooShort, AtLimit}
 use Rattle.numbers.specs.declared.refusal.Lent.TheVariants as lent
+use Rattle.cells.specs.declared.link.PathLink.{PathLink}
+use Rattle.cells.specs.declared.node_entry.NodeEntry.{NodeEntry}
+use Rattle.records.specs.declared.junction_ref.NodeJunctionRef.{NodeJunctionRef}
 
 -- all of the first n
 unfoldable pub all_below : (ℕ → Bool) → ℕ → Bool
@@ -26,9 +29,9 @@ all_below f (suc n) = all_below f n && f n
 
 -- ---- by cells: the links of all members that name the member k
 
-abbrev pub link_meets : List Cell → ℕ → ℕ → Link → Bool
-link_meets cs k i l = not (is_member k (member_for (areas cs) i l.area)) || is_some
-    (first_with (numbers (cell_at cs k).nodes) l.number)
+abbrev pub link_meets : List Cell → ℕ → ℕ → PathLink → Bool
+link_meets cs k i l = not (is_member k (member_for (areas cs) i l.area_id)) || is_some
+    (first_with (numbers (cell_at cs k).nodes) l.node_id)
 
 abbrev pub node_meets : List Cell → ℕ → ℕ → Node → Bool
 node_meets cs k i n = every (link_meets cs k i) n.links
@@ -40,31 +43,36 @@ member_meets cs k i = every (node_meets cs k i) (cell_at cs i).nodes
 unfoldable pub judged_at : List Cell → ℕ → ℕ → Bool
 judged_at cs n k = sound (cell_at cs k) && all_below (member_meets cs k) n
 
--- ---- by words
+-- ---- by entries
 
 -- a link of the member i: the member k has the numbers ks
-unfoldable pub word_meets : List ℕ → ℕ → List ℕ → ℕ → List ℕ → Bool
-word_meets all k ks i w = not (is_member k (member_for all i (get_or w 0 0))) || is_some (first_with ks (get_or w 1 0))
+unfoldable pub word_meets : List ℕ → ℕ → List ℕ → ℕ → PathLink → Bool
+word_meets all k ks i l = not (is_member k (member_for all i l.area_id)) || is_some (first_with ks l.node_id)
 
-unfoldable pub words_meet : List ℕ → ℕ → List ℕ → ℕ → List (List ℕ) → List ℕ → Bool
-words_meet all k ks i links w = every (word_meets all k ks i) (take (link_count w) (drop (link_start w) links))
+unfoldable pub words_meet : List ℕ → ℕ → List ℕ → ℕ → List PathLink → NodeEntry → Bool
+words_meet all k ks i links n = every (word_meets all k ks i) (take n.link_count (drop n.link_id links))
 
 -- the numbers of the member k
-unfoldable pub numbers_of : List (List ℕ) → List (List ℕ) → ℕ → List ℕ
+unfoldable pub numbers_of : List (List ℕ) → List NodeEntry → ℕ → List ℕ
 numbers_of ws nodes k = numbers_in (count_of 10 ws k) (drop (start_of 15 ws k) nodes)
 
-unfoldable pub part_meets : List ℕ → List (List ℕ) → List (List ℕ) → List (List ℕ) → ℕ → ℕ → Bool
+unfoldable pub part_meets : List ℕ → List (List ℕ) → List NodeEntry → List PathLink → ℕ → ℕ → Bool
 part_meets all ws nodes links k i =
     every (words_meet all k (numbers_of ws nodes k) i (take (count_of 11 ws i) (drop (start_of 16 ws i) links)))
     (take (count_of 10 ws i) (drop (start_of 15 ws i) nodes))
 
 -- lists that hold the members, none over a limit
-pub record SetHeld (ws nodes links refs : List (List ℕ)) : Type 0 where
+pub record SetHeld (ws : List (List ℕ)) (nodes : List NodeEntry) (links : List PathLink)
+    (refs : List NodeJunctionRef) : Type 0 where
   pub few : length ws ≤ 9
   pub within : (i : ℕ) → i < length ws → over_limit (ynd_of (get_or ws i [])) ≡ false
   pub nodes_hold : Holding 10 15 ws (length nodes)
   pub links_hold : Holding 11 16 ws (length links)
   pub refs_hold : Holding 14 19 ws (length refs)
+
+-- every number fits 16 bits, as its type in memory says
+pub record ShortNumbers (nodes : List NodeEntry) : Type 0 where
+  pub short : (j : ℕ) → j < length nodes → number_at nodes j < 65536
 
 -- the scratch after the numbers of the first members were stored in it
 unfoldable pub indexed_to : (ℕ → List ℕ) → ℕ → List ℕ → List ℕ

@@ -6,12 +6,12 @@ ghost use Rattle.sets.specs.SetParts.{named_of, Holding, areas_of};
 
 use crate::entry::{MemberWords, count_in, size_in};
 use cells::area::{belongs_to, own_area};
-use cells::node::NodeWords;
+use cells::node_entry::NodeEntry;
 use numbers::refusal::Array;
 
 // Stores the members' areas, in the order of joining.
 #[tactic(auto, using(crate::proofs::AreasFilled::areas_stored))]
-pub(crate) fn fill_areas(members: &[MemberWords], nodes: &[NodeWords], areas: &mut [u16])
+pub(crate) fn fill_areas(members: &[MemberWords], nodes: &[NodeEntry], areas: &mut [u16])
     requires { (length members.now ≤ length areas.old) × Holding 10 15 members.now (length nodes.now) }
     ensures { take (length members.now) areas.new ≡ areas_of members.now nodes.now }
 {

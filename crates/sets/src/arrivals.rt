@@ -2,7 +2,7 @@
 ghost use Rattle.std.specs.Prelude.{◌≡◌, ◌≤◌, ◌<◌, ◌+◌, length, map, take, drop};
 ghost use Rattle.cells.specs.Lists.{every};
 ghost use Rattle.cells.specs.LookupCall.{numbers_in};
-ghost use Rattle.cells.specs.NodeWords.{number_of};
+ghost use Rattle.cells.specs.Nodes.{number_of};
 ghost use Rattle.cells.specs.RenumberParts.{Leads};
 ghost use Rattle.sets.specs.Leave.{start_of};
 ghost use Rattle.sets.specs.SetParts.{count_of};
@@ -11,10 +11,10 @@ ghost use Rattle.sets.specs.SetSoundParts.{all_below, word_meets, words_meet, pa
 use crate::areas::member_named;
 use crate::parts::own_entries;
 use crate::world::World;
-use cells::link::LinkWords;
-use cells::node::NodeWords;
+use cells::link::PathLink;
+use cells::node_entry::NodeEntry;
 use cells::number_index::Numbers;
-use cells::range::{link_count, link_start, part};
+use cells::range::part;
 use numbers::refusal::Array;
 
 // A member that links may name: its set, its number there, and its nodes, found by their numbers.
@@ -28,23 +28,24 @@ pub(crate) struct Target<'a> {
 impl Target<'_> {
     // Whether a link of the member i, if it names this one, names a node here.
     #[tactic(auto, using(crate::proofs::Rules::meet_laws))]
-    fn link_meets(&self, i: usize, w: LinkWords) -> bool
+    fn link_meets(&self, i: usize, l: PathLink) -> bool
         requires { i < length self.now.set.members.now }
         ensures { result ≡ word_meets self.now.set.areas.now self.now.member
-            (map number_of self.now.numbers.nodes.now) i w }
+            (map number_of self.now.numbers.nodes.now) i l }
     {
-        member_named(self.set.areas, i, w[0]) != Some(self.member) || self.numbers.has(w[1])
+        member_named(self.set.areas, i, l.area_id) != Some(self.member)
+            || self.numbers.has(l.node_id)
     }
 
     // The same of a node's links.
-    fn node_meets(&self, i: usize, links: &[LinkWords], w: NodeWords) -> bool
+    fn node_meets(&self, i: usize, links: &[PathLink], n: &NodeEntry) -> bool
         requires { i < length self.now.set.members.now }
         ensures { result ≡ words_meet self.now.set.areas.now self.now.member
-            (map number_of self.now.numbers.nodes.now) i links.now w }
+            (map number_of self.now.numbers.nodes.now) i links.now n.now }
     {
-        part(links, link_start(w) as usize, link_count(w) as usize)
+        part(links, n.link_id as usize, n.link_count as usize)
             .iter()
-            .all(|w| self.link_meets(i, *w))
+            .all(|l| self.link_meets(i, *l))
     }
 
     // The same of all links of the member i.
@@ -61,7 +62,7 @@ impl Target<'_> {
         let links = own_entries(set.members, Array::Links, i, set.links);
         own_entries(set.members, Array::Nodes, i, set.nodes)
             .iter()
-            .all(|w| self.node_meets(i, links, *w))
+            .all(|n| self.node_meets(i, links, n))
     }
 }
 

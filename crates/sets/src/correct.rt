@@ -12,8 +12,8 @@ use crate::entry::{MemberWords, count_in};
 use crate::named::member_of_area;
 use crate::parts::{count_before, own_entries};
 use cells::area::{belongs_to, own_area};
-use cells::link::LinkWords;
-use cells::node::NodeWords;
+use cells::link::PathLink;
+use cells::node_entry::NodeEntry;
 use numbers::refusal::Array;
 
 // The new numbers of an area's nodes, in a table.
@@ -28,29 +28,32 @@ struct Renamed<'a> {
 impl<'a> Renamed<'a> {
     // A link, as it is after the numbers in the table became the new ones: it is changed if it names the area.
     #[tactic(auto, unfolding(crate::specs::CorrectParts::relabelled))]
-    fn relabel(self, w: LinkWords) -> LinkWords
-        ensures { (o : Old) → Tells o self.entry.table.now → result ≡ relabelled o self.entry.area w }
+    fn relabel(self, l: PathLink) -> PathLink
+        ensures { (o : Old) → Tells o self.entry.table.now → result ≡ relabelled o self.entry.area l }
     {
-        if w[0] == self.area {
-            return [w[0], self.table[w[1] as usize] as u16, w[2], w[3]];
+        if l.area_id == self.area {
+            return PathLink {
+                node_id: self.table[l.node_id as usize] as u16,
+                ..l
+            };
         }
-        w
+        l
     }
 
     // All these links.
     #[tactic(auto, using(crate::proofs::Rules::map_laws))]
-    fn relabel_all(self, links: &mut [LinkWords])
+    fn relabel_all(self, links: &mut [PathLink])
         ensures { (o : Old) → Tells o self.entry.table.now
             → links.new ≡ map (relabelled o self.entry.area) links.old }
     {
-        for w in links.iter_mut() {
-            *w = self.relabel(*w);
+        for l in links.iter_mut() {
+            *l = self.relabel(*l);
         }
     }
 }
 
 // The area of the member i.
-fn area_of_member(members: &[MemberWords], nodes: &[NodeWords], i: usize) -> u16
+fn area_of_member(members: &[MemberWords], nodes: &[NodeEntry], i: usize) -> u16
     requires { (i < length members.now) × (length members.now ≤ 9) × Holding 10 15 members.now (length nodes.now) }
     ensures { result ≡ get_or (areas_of members.now nodes.now) i 0 }
 {
@@ -69,8 +72,8 @@ fn is_member(n: Option<usize>, j: usize) -> bool
 #[tactic(auto, using(crate::proofs::CorrectLaws::lent_links))]
 fn correct_member(
     members: &[MemberWords],
-    nodes: &[NodeWords],
-    links: &mut [LinkWords],
+    nodes: &[NodeEntry],
+    links: &mut [PathLink],
     renamed: Renamed,
     i: usize,
     j: usize,
@@ -98,8 +101,8 @@ fn correct_member(
 #[tactic(auto, using(crate::proofs::CorrectLaws::turn_laws))]
 pub(crate) fn correct_others(
     members: &[MemberWords],
-    nodes: &[NodeWords],
-    links: &mut [LinkWords],
+    nodes: &[NodeEntry],
+    links: &mut [PathLink],
     table: &[u32],
     j: usize,
 )

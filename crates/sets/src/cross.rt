@@ -66,6 +66,6 @@ impl World<'_> {
         let nodes = own_entries(self.members, Array::Nodes, i, self.nodes);
         let links = own_entries(self.members, Array::Links, i, self.links);
         let l = link_at(nodes, links, at.place as usize, choice).ok_or(End::NoLink)?;
-        self.enter_by(i, l[0], l[1])
+        self.enter_by(i, l.area_id, l.node_id)
     }
 }

@@ -6,13 +6,15 @@ ghost use Rattle.sets.specs.Crossing.{location, world_in};
 ghost use Rattle.sets.specs.CrossingCall.{location_words, crossing_left};
 ghost use Rattle.sets.specs.CrossMember.{cross_member};
 ghost use Rattle.sets.specs.CrossParts.{cells_in, start_causes};
+ghost use Rattle.cells.specs.declared.junction_entry.JunctionEntry.{JunctionEntry};
+ghost use Rattle.records.specs.declared.junction_ref.NodeJunctionRef.{NodeJunctionRef};
 
 use crate::cross::Location;
 use crate::entry::{MemberWords, count_in};
 use crate::room::{check_list, over_set};
 use crate::world::World;
-use cells::link::LinkWords;
-use cells::node::NodeWords;
+use cells::link::PathLink;
+use cells::node_entry::NodeEntry;
 use numbers::refusal::{Array, Refusal};
 use walks::walk::{End, Steps, Walked, walk_from};
 
@@ -65,8 +67,8 @@ fn start_answer(
 #[tactic(auto, using(crate::proofs::Rules::start_laws))]
 fn walk_started(
     members: &[MemberWords],
-    nodes: &[NodeWords],
-    links: &[LinkWords],
+    nodes: &[NodeEntry],
+    links: &[PathLink],
     member: usize,
     place: usize,
     choices: &[u8],
@@ -74,7 +76,7 @@ fn walk_started(
 ) -> Result<Walked, Refusal>
     requires { done ≡ decided (start_causes members.now (length nodes.now) (length links.now)
         (location member place)) }
-    ensures { (junctions : List (List ℕ)) (heights : List ℕ) (refs : List (List ℕ))
+    ensures { (junctions : List JunctionEntry) (heights : List ℕ) (refs : List NodeJunctionRef)
         → crossing_left result visited.new
         ≡ cross_member (cell_set members.now nodes.now links.now junctions heights refs) choices.now
         (location member place) visited.old }
@@ -93,14 +95,14 @@ fn walk_started(
 #[tactic(auto, using(crate::proofs::CrossCases::call_split))]
 pub fn crossing_walk(
     members: &[MemberWords],
-    nodes: &[NodeWords],
-    links: &[LinkWords],
+    nodes: &[NodeEntry],
+    links: &[PathLink],
     member: usize,
     place: usize,
     choices: &[u8],
     visited: &mut [LocationWords],
 ) -> Result<Walked, Refusal>
-    ensures { (junctions : List (List ℕ)) (heights : List ℕ) (refs : List (List ℕ))
+    ensures { (junctions : List JunctionEntry) (heights : List ℕ) (refs : List NodeJunctionRef)
         → crossing_left result visited.new
         ≡ cross_member (cell_set members.now nodes.now links.now junctions heights refs) choices.now
         (location member place) visited.old }

@@ -11,7 +11,8 @@ ghost use Rattle.cells.specs.Edit.{heights_left, junctions_left};
 use crate::entry::MemberWords;
 use crate::member::{held, open_member, store_ynd};
 use cells::add_junction::add_junction;
-use cells::junction::{JunctionWords, PathJunction};
+use cells::junction::PathJunction;
+use cells::junction_entry::JunctionEntry;
 use cells::put::{put_height, put_junction};
 use cells::put_heightmap::put_heightmap;
 use numbers::refusal::Refusal;
@@ -19,7 +20,7 @@ use numbers::refusal::Refusal;
 // A junction more in the member, with its heightmap.
 pub fn add_junction_member(
     members: &mut [MemberWords],
-    junctions: &mut [JunctionWords],
+    junctions: &mut [JunctionEntry],
     heights: &mut [u8],
     member: usize,
     junction: PathJunction,
@@ -48,7 +49,7 @@ pub fn add_junction_member(
 // The heightmap of a junction of the member.
 pub fn put_heightmap_member(
     members: &mut [MemberWords],
-    junctions: &mut [JunctionWords],
+    junctions: &mut [JunctionEntry],
     heights: &mut [u8],
     member: usize,
     place: usize,
@@ -81,7 +82,7 @@ pub fn put_heightmap_member(
 // A junction of the member stored at its place.
 pub fn put_junction_member(
     members: &[MemberWords],
-    junctions: &mut [JunctionWords],
+    junctions: &mut [JunctionEntry],
     member: usize,
     place: usize,
     junction: PathJunction,
@@ -105,7 +106,7 @@ pub fn put_junction_member(
 // Value k of a junction of the member stored.
 pub fn put_height_member(
     members: &[MemberWords],
-    junctions: &[JunctionWords],
+    junctions: &[JunctionEntry],
     heights: &mut [u8],
     member: usize,
     place: usize,

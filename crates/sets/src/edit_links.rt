@@ -11,8 +11,8 @@ ghost use Rattle.cells.specs.Edit.{links_left};
 use crate::entry::MemberWords;
 use crate::member::{held, open_member, store_ynd};
 use cells::add_link::add_link;
-use cells::link::{LinkWords, PathLink};
-use cells::node::NodeWords;
+use cells::link::PathLink;
+use cells::node_entry::NodeEntry;
 use cells::put::put_link;
 use cells::put_links::put_links;
 use numbers::refusal::Refusal;
@@ -20,8 +20,8 @@ use numbers::refusal::Refusal;
 // A link more of a node of the member, the last of the node's links.
 pub fn add_link_member(
     members: &mut [MemberWords],
-    nodes: &mut [NodeWords],
-    links: &mut [LinkWords],
+    nodes: &mut [NodeEntry],
+    links: &mut [PathLink],
     member: usize,
     place: usize,
     link: PathLink,
@@ -49,11 +49,11 @@ pub fn add_link_member(
 // All links of a node of the member.
 pub fn put_links_member(
     members: &mut [MemberWords],
-    nodes: &mut [NodeWords],
-    links: &mut [LinkWords],
+    nodes: &mut [NodeEntry],
+    links: &mut [PathLink],
     member: usize,
     place: usize,
-    new: &[LinkWords],
+    new: &[PathLink],
 ) -> Result<(), Refusal>
     ensures { (u : Unlent members.old)
         → set_edited result (cell_set members.new nodes.new links.new u.junctions u.heights u.refs)
@@ -78,8 +78,8 @@ pub fn put_links_member(
 // Link k of a node of the member stored.
 pub fn put_link_member(
     members: &[MemberWords],
-    nodes: &[NodeWords],
-    links: &mut [LinkWords],
+    nodes: &[NodeEntry],
+    links: &mut [PathLink],
     member: usize,
     place: usize,
     k: usize,

@@ -10,7 +10,8 @@ use crate::entry::MemberWords;
 use crate::member::{held, open_member, store_ynd};
 use crate::parts::nodes_together;
 use cells::add_node::add_node;
-use cells::node::{NodeWords, PathNode};
+use cells::node::PathNode;
+use cells::node_entry::NodeEntry;
 use cells::put::{put_node, set_position};
 use numbers::math::Vec3;
 use numbers::refusal::Refusal;
@@ -28,7 +29,7 @@ fn set_full(members: &[MemberWords]) -> bool
 // A node more in the member, at the end of its nodes.
 pub fn add_node_member(
     members: &mut [MemberWords],
-    nodes: &mut [NodeWords],
+    nodes: &mut [NodeEntry],
     member: usize,
     area_id: u16,
     position: Vec3,
@@ -55,7 +56,7 @@ pub fn add_node_member(
 // A node of the member stored at its place.
 pub fn put_node_member(
     members: &[MemberWords],
-    nodes: &mut [NodeWords],
+    nodes: &mut [NodeEntry],
     member: usize,
     place: usize,
     n: PathNode,
@@ -74,7 +75,7 @@ pub fn put_node_member(
 // A node of the member with another position.
 pub fn set_position_member(
     members: &[MemberWords],
-    nodes: &mut [NodeWords],
+    nodes: &mut [NodeEntry],
     member: usize,
     place: usize,
     position: Vec3,

@@ -10,7 +10,6 @@ ghost use Rattle.cells.specs.Edit.{refs_left};
 use crate::entry::MemberWords;
 use crate::member::{held, open_member, store_ynd};
 use cells::add_ref::add_ref;
-use cells::link::LinkWords;
 use cells::put::put_ref;
 use numbers::refusal::Refusal;
 use records::junction_ref::NodeJunctionRef;
@@ -18,7 +17,7 @@ use records::junction_ref::NodeJunctionRef;
 // A ref more in the member.
 pub fn add_ref_member(
     members: &mut [MemberWords],
-    refs: &mut [LinkWords],
+    refs: &mut [NodeJunctionRef],
     member: usize,
     r: NodeJunctionRef,
 ) -> Result<(), Refusal>
@@ -38,7 +37,7 @@ pub fn add_ref_member(
 // A ref of the member stored at its place.
 pub fn put_ref_member(
     members: &[MemberWords],
-    refs: &mut [LinkWords],
+    refs: &mut [NodeJunctionRef],
     member: usize,
     place: usize,
     r: NodeJunctionRef,

@@ -8,10 +8,11 @@ ghost use Rattle.sets.specs.MemberLookup.{get_ref_member, get_junction_member, g
 use crate::entry::MemberWords;
 use crate::member::{held, open_member};
 use cells::get::{get_height, get_junction, get_link, get_node, get_ref};
-use cells::junction::{JunctionWords, PathJunction};
-use cells::junction_ref::RefWords;
-use cells::link::{LinkWords, PathLink};
-use cells::node::{NodeWords, PathNode};
+use cells::junction::PathJunction;
+use cells::junction_entry::JunctionEntry;
+use cells::link::PathLink;
+use cells::node::PathNode;
+use cells::node_entry::NodeEntry;
 use cells::ynd::Ynd;
 use numbers::refusal::Refusal;
 use records::junction_ref::NodeJunctionRef;
@@ -29,7 +30,7 @@ pub fn ynd_member(members: &[MemberWords], member: usize) -> Result<Ynd, Refusal
 // A node of the member.
 pub fn get_node_member(
     members: &[MemberWords],
-    nodes: &[NodeWords],
+    nodes: &[NodeEntry],
     member: usize,
     place: usize,
 ) -> Result<PathNode, Refusal>
@@ -46,8 +47,8 @@ pub fn get_node_member(
 // Link k of a node of the member.
 pub fn get_link_member(
     members: &[MemberWords],
-    nodes: &[NodeWords],
-    links: &[LinkWords],
+    nodes: &[NodeEntry],
+    links: &[PathLink],
     member: usize,
     place: usize,
     k: usize,
@@ -72,7 +73,7 @@ pub fn get_link_member(
 // A ref of the member.
 pub fn get_ref_member(
     members: &[MemberWords],
-    refs: &[RefWords],
+    refs: &[NodeJunctionRef],
     member: usize,
     place: usize,
 ) -> Result<NodeJunctionRef, Refusal>
@@ -89,7 +90,7 @@ pub fn get_ref_member(
 // A junction of the member.
 pub fn get_junction_member(
     members: &[MemberWords],
-    junctions: &[JunctionWords],
+    junctions: &[JunctionEntry],
     member: usize,
     place: usize,
 ) -> Result<PathJunction, Refusal>
@@ -106,7 +107,7 @@ pub fn get_junction_member(
 // Value k of a junction of the member.
 pub fn get_height_member(
     members: &[MemberWords],
-    junctions: &[JunctionWords],
+    junctions: &[JunctionEntry],
     heights: &[u8],
     member: usize,
     place: usize,

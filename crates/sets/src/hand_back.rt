@@ -11,12 +11,13 @@ use crate::lists::{Given, Lists};
 use crate::member::{MemberPart, open_member};
 use crate::named::member_of_area;
 use cells::counts::{Counts, lengths};
-use cells::junction::JunctionWords;
-use cells::link::LinkWords;
-use cells::node::NodeWords;
+use cells::junction_entry::JunctionEntry;
+use cells::link::PathLink;
+use cells::node_entry::NodeEntry;
 use cells::room::check_lent;
 use cells::ynd::Ynd;
 use numbers::refusal::Refusal;
+use records::junction_ref::NodeJunctionRef;
 
 // The cell whose lists are the parts of p, into lists that have room for it.
 fn give_part(p: MemberPart, from: Given, to: &mut Lists)
@@ -34,18 +35,18 @@ fn give_part(p: MemberPart, from: Given, to: &mut Lists)
 #[tactic(auto, using(crate::proofs::HandBackLaws::hand_nobody))]
 pub fn hand_back(
     members: &[MemberWords],
-    nodes: &[NodeWords],
-    links: &[LinkWords],
-    junctions: &[JunctionWords],
+    nodes: &[NodeEntry],
+    links: &[PathLink],
+    junctions: &[JunctionEntry],
     heights: &[u8],
-    refs: &[LinkWords],
+    refs: &[NodeJunctionRef],
     area: u16,
     ynd: Ynd,
-    to_nodes: &mut [NodeWords],
-    to_links: &mut [LinkWords],
-    to_junctions: &mut [JunctionWords],
+    to_nodes: &mut [NodeEntry],
+    to_links: &mut [PathLink],
+    to_junctions: &mut [JunctionEntry],
     to_heights: &mut [u8],
-    to_refs: &mut [LinkWords],
+    to_refs: &mut [NodeJunctionRef],
 ) -> Result<Ynd, Refusal>
     ensures { left ynd result to_nodes.new to_links.new to_junctions.new to_heights.new to_refs.new
         ≡ hand_back (cell_set members.now nodes.now links.now junctions.now heights.now refs.now)

@@ -19,12 +19,13 @@ use crate::parts::{count_all, nodes_together, number_in, starts_of};
 use crate::room::{any_over, holds_list};
 use cells::area::own_area;
 use cells::counts::{Counts, lengths};
-use cells::junction::JunctionWords;
-use cells::link::LinkWords;
-use cells::node::NodeWords;
+use cells::junction_entry::JunctionEntry;
+use cells::link::PathLink;
+use cells::node_entry::NodeEntry;
 use cells::room::over_limit;
 use cells::ynd::Ynd;
 use numbers::refusal::{Array, Lent, Refusal};
+use records::junction_ref::NodeJunctionRef;
 
 // A cell that is to join, with what its own lists and the set's have, and the sizes of its parts.
 #[derive(Clone, Copy)]
@@ -108,7 +109,7 @@ fn over_with(members: &[MemberWords], ynd: Ynd) -> bool
 }
 
 // Whether a member has the area.
-fn has_area(members: &[MemberWords], nodes: &[NodeWords], area: u16) -> bool
+fn has_area(members: &[MemberWords], nodes: &[NodeEntry], area: u16) -> bool
     ensures { result ≡ is_some (first_with (areas_of members.now nodes.now) area) }
 {
     member_of_area(members, nodes, area).is_some()
@@ -118,7 +119,7 @@ fn has_area(members: &[MemberWords], nodes: &[NodeWords], area: u16) -> bool
 #[tactic(auto, using(crate::proofs::Rules::join_laws), unfolding(crate::specs::SetParts::entry_causes))]
 fn join_answer(
     members: &[MemberWords],
-    nodes: &[NodeWords],
+    nodes: &[NodeEntry],
     cell: Joining,
     area: u16,
     room: usize,
@@ -146,17 +147,17 @@ fn join_answer(
 pub fn join(
     count: usize,
     members: &mut [MemberWords],
-    nodes: &mut [NodeWords],
-    links: &mut [LinkWords],
-    junctions: &mut [JunctionWords],
+    nodes: &mut [NodeEntry],
+    links: &mut [PathLink],
+    junctions: &mut [JunctionEntry],
     heights: &mut [u8],
-    refs: &mut [LinkWords],
+    refs: &mut [NodeJunctionRef],
     ynd: Ynd,
-    new_nodes: &[NodeWords],
-    new_links: &[LinkWords],
-    new_junctions: &[JunctionWords],
+    new_nodes: &[NodeEntry],
+    new_links: &[PathLink],
+    new_junctions: &[JunctionEntry],
     new_heights: &[u8],
-    new_refs: &[LinkWords],
+    new_refs: &[NodeJunctionRef],
     sizes: Counts,
 ) -> Result<usize, Refusal>
     ensures { left_after (length (take count members.old)) result (cell_set members.new nodes.new links.new

@@ -12,10 +12,11 @@ use crate::named::member_of_area;
 use crate::parts::starts_of;
 use crate::room::check_set;
 use cells::counts::lengths;
-use cells::junction::JunctionWords;
-use cells::link::LinkWords;
-use cells::node::NodeWords;
+use cells::junction_entry::JunctionEntry;
+use cells::link::PathLink;
+use cells::node_entry::NodeEntry;
 use numbers::refusal::Refusal;
+use records::junction_ref::NodeJunctionRef;
 
 // Closes the gap that the member j leaves in each list.
 fn take_out(members: &mut [MemberWords], lists: &mut Lists, j: usize)
@@ -41,11 +42,11 @@ fn take_out(members: &mut [MemberWords], lists: &mut Lists, j: usize)
 #[tactic(auto, using(crate::proofs::LeaveLaws::nobody))]
 pub fn leave(
     members: &mut [MemberWords],
-    nodes: &mut [NodeWords],
-    links: &mut [LinkWords],
-    junctions: &mut [JunctionWords],
+    nodes: &mut [NodeEntry],
+    links: &mut [PathLink],
+    junctions: &mut [JunctionEntry],
     heights: &mut [u8],
-    refs: &mut [LinkWords],
+    refs: &mut [NodeJunctionRef],
     area: u16,
 ) -> Result<usize, Refusal>
     ensures { left_after (length members.old) result (cell_set members.new nodes.new links.new

@@ -5,10 +5,11 @@ ghost use Rattle.sets.specs.ListParts.{Same, lengths_given};
 ghost use Rattle.sets.specs.MemberParts.{PartsLie, between};
 
 use cells::counts::Counts;
-use cells::junction::JunctionWords;
-use cells::link::LinkWords;
-use cells::node::NodeWords;
+use cells::junction_entry::JunctionEntry;
+use cells::link::PathLink;
+use cells::node_entry::NodeEntry;
 use cells::replace::put_at;
+use records::junction_ref::NodeJunctionRef;
 
 // The part of a list from a up to e.
 fn part<T>(list: &[T], a: usize, e: usize) -> &[T]
@@ -21,21 +22,21 @@ fn part<T>(list: &[T], a: usize, e: usize) -> &[T]
 // To be read.
 #[derive(Clone, Copy)]
 pub(crate) struct Given<'a> {
-    pub nodes: &'a [NodeWords],
-    pub links: &'a [LinkWords],
-    pub junctions: &'a [JunctionWords],
+    pub nodes: &'a [NodeEntry],
+    pub links: &'a [PathLink],
+    pub junctions: &'a [JunctionEntry],
     pub heights: &'a [u8],
-    pub refs: &'a [LinkWords],
+    pub refs: &'a [NodeJunctionRef],
 }
 
 // To be written.
 #[derive(Drop)]
 pub(crate) struct Lists<'a> {
-    pub nodes: &'a mut [NodeWords],
-    pub links: &'a mut [LinkWords],
-    pub junctions: &'a mut [JunctionWords],
+    pub nodes: &'a mut [NodeEntry],
+    pub links: &'a mut [PathLink],
+    pub junctions: &'a mut [JunctionEntry],
     pub heights: &'a mut [u8],
-    pub refs: &'a mut [LinkWords],
+    pub refs: &'a mut [NodeJunctionRef],
 }
 
 impl<'a> Given<'a> {

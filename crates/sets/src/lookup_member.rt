@@ -6,15 +6,16 @@ ghost use Rattle.sets.specs.MemberLookup.{area_id_member, node_member, junction_
 
 use crate::entry::MemberWords;
 use crate::member::{held, open_member};
-use cells::link::LinkWords;
+use cells::link::PathLink;
 use cells::lookup::{area_id, junction_of, node};
-use cells::node::NodeWords;
+use cells::node_entry::NodeEntry;
 use numbers::refusal::Refusal;
+use records::junction_ref::NodeJunctionRef;
 
 // The member's area, its first node's.
 pub fn area_id_member(
     members: &[MemberWords],
-    nodes: &[NodeWords],
+    nodes: &[NodeEntry],
     member: usize,
 ) -> Result<Option<u32>, Refusal>
     ensures { (u : Unlent members.now)
@@ -30,7 +31,7 @@ pub fn area_id_member(
 // The place of a number in the member.
 pub fn node_member(
     members: &[MemberWords],
-    nodes: &[NodeWords],
+    nodes: &[NodeEntry],
     member: usize,
     node_id: u16,
 ) -> Result<Option<usize>, Refusal>
@@ -47,8 +48,8 @@ pub fn node_member(
 // The member's junction of a node.
 pub fn junction_of_member(
     members: &[MemberWords],
-    nodes: &[NodeWords],
-    refs: &[LinkWords],
+    nodes: &[NodeEntry],
+    refs: &[NodeJunctionRef],
     member: usize,
     area_id: u16,
     node_id: u16,
@@ -73,8 +74,8 @@ pub fn junction_of_member(
 // Where a walk starts in the member that names its start by a number: 13 if no node has it.
 pub fn start_in_member(
     members: &[MemberWords],
-    nodes: &[NodeWords],
-    links: &[LinkWords],
+    nodes: &[NodeEntry],
+    links: &[PathLink],
     member: usize,
     node_id: u16,
 ) -> Result<usize, Refusal>

@@ -13,17 +13,18 @@ use crate::correct::correct_others;
 use crate::entry::MemberWords;
 use crate::member::{MemberPart, open_member, store_ynd};
 use cells::counts::{Counts, lengths};
-use cells::junction::JunctionWords;
-use cells::link::LinkWords;
+use cells::junction_entry::JunctionEntry;
+use cells::link::PathLink;
 use cells::new_numbers::new_numbers;
-use cells::node::NodeWords;
+use cells::node_entry::NodeEntry;
 use cells::renumber::recalculate_node_indices;
 use cells::ynd::Ynd;
 use numbers::refusal::Refusal;
+use records::junction_ref::NodeJunctionRef;
 
 // The new numbers of the nodes from `start` on, n of them.
 fn numbers_at(
-    nodes: &[NodeWords],
+    nodes: &[NodeEntry],
     start: usize,
     n: usize,
     scratch: &mut [u32],
@@ -39,11 +40,11 @@ fn numbers_at(
 // The five lists, those of them to be written that renumbering changes.
 #[derive(Drop)]
 struct Numbered<'a> {
-    nodes: &'a mut [NodeWords],
-    links: &'a mut [LinkWords],
-    junctions: &'a [JunctionWords],
+    nodes: &'a mut [NodeEntry],
+    links: &'a mut [PathLink],
+    junctions: &'a [JunctionEntry],
     heights: &'a [u8],
-    refs: &'a mut [LinkWords],
+    refs: &'a mut [NodeJunctionRef],
 }
 
 impl<'a> Numbered<'a> {
@@ -125,11 +126,11 @@ fn renumber_held(
 // nodes' new place; the scratch holds anything after an accepted call; a refusal changes nothing.
 pub fn renumber_member(
     members: &mut [MemberWords],
-    nodes: &mut [NodeWords],
-    links: &mut [LinkWords],
-    junctions: &[JunctionWords],
+    nodes: &mut [NodeEntry],
+    links: &mut [PathLink],
+    junctions: &[JunctionEntry],
     heights: &[u8],
-    refs: &mut [LinkWords],
+    refs: &mut [NodeJunctionRef],
     scratch: &mut [u32],
     places: &mut [u32],
     member: usize,

@@ -8,10 +8,11 @@ ghost use Rattle.sets.specs.MemberLookup.{shown_link_member};
 
 use crate::entry::MemberWords;
 use crate::member::{held, open_member};
-use cells::junction::JunctionWords;
-use cells::link::LinkWords;
-use cells::node::NodeWords;
+use cells::junction_entry::JunctionEntry;
+use cells::link::PathLink;
+use cells::node_entry::NodeEntry;
 use numbers::refusal::Refusal;
+use records::junction_ref::NodeJunctionRef;
 use walks::shown::{
     SeenJunction, SeenLink, SeenNode, shown_junction, shown_link, shown_node, shown_values,
 };
@@ -19,10 +20,10 @@ use walks::shown::{
 // What a walk shows of a node of the member.
 pub fn shown_node_member(
     members: &[MemberWords],
-    nodes: &[NodeWords],
-    links: &[LinkWords],
-    junctions: &[JunctionWords],
-    refs: &[LinkWords],
+    nodes: &[NodeEntry],
+    links: &[PathLink],
+    junctions: &[JunctionEntry],
+    refs: &[NodeJunctionRef],
     member: usize,
     place: usize,
 ) -> Result<SeenNode, Refusal>
@@ -49,7 +50,7 @@ pub fn shown_node_member(
 // What it shows of a junction.
 pub fn shown_junction_member(
     members: &[MemberWords],
-    junctions: &[JunctionWords],
+    junctions: &[JunctionEntry],
     member: usize,
     place: usize,
 ) -> Result<SeenJunction, Refusal>
@@ -66,7 +67,7 @@ pub fn shown_junction_member(
 // A junction's heightmap values, copied.
 pub fn shown_values_member(
     members: &[MemberWords],
-    junctions: &[JunctionWords],
+    junctions: &[JunctionEntry],
     heights: &[u8],
     member: usize,
     place: usize,
@@ -93,8 +94,8 @@ pub fn shown_values_member(
 // What it shows of the link chosen.
 pub fn shown_link_member(
     members: &[MemberWords],
-    nodes: &[NodeWords],
-    links: &[LinkWords],
+    nodes: &[NodeEntry],
+    links: &[PathLink],
     member: usize,
     place: usize,
     choice: u8,

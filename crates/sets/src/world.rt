@@ -5,16 +5,16 @@ ghost use Rattle.sets.specs.CrossParts.{Lent};
 
 use crate::areas::fill_areas;
 use crate::entry::MemberWords;
-use cells::link::LinkWords;
-use cells::node::NodeWords;
+use cells::link::PathLink;
+use cells::node_entry::NodeEntry;
 
 // The members' areas and entries, and lists that hold their nodes and links.
 #[derive(Clone, Copy)]
 pub(crate) struct World<'a> {
     pub areas: &'a [u16],
     pub members: &'a [MemberWords],
-    pub nodes: &'a [NodeWords],
-    pub links: &'a [LinkWords],
+    pub nodes: &'a [NodeEntry],
+    pub links: &'a [PathLink],
     ghost lent: { Lent areas.now members.now nodes.now },
     ghost links_hold: { Holding 11 16 members.now (length links.now) },
 }
@@ -24,8 +24,8 @@ impl<'a> World<'a> {
     pub(crate) fn new(
         areas: &'a mut [u16; 9],
         members: &'a [MemberWords],
-        nodes: &'a [NodeWords],
-        links: &'a [LinkWords],
+        nodes: &'a [NodeEntry],
+        links: &'a [PathLink],
     ) -> World<'a>
         requires { Lent (areas_of members.now nodes.now) members.now nodes.now
             × Holding 11 16 members.now (length links.now) }

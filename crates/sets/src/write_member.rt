@@ -12,12 +12,13 @@ use crate::entry::MemberWords;
 use crate::lists::{Given, Lists};
 use crate::member::{MemberPart, open_member, store_ynd};
 use cells::counts::lengths;
-use cells::junction::JunctionWords;
-use cells::link::LinkWords;
-use cells::node::NodeWords;
+use cells::junction_entry::JunctionEntry;
+use cells::link::PathLink;
+use cells::node_entry::NodeEntry;
 use cells::write::write;
 use cells::write_read::{WroteRead, write_then_read};
 use numbers::refusal::Refusal;
+use records::junction_ref::NodeJunctionRef;
 
 // The cell whose lists are the parts of p.
 #[tactic(auto, using(crate::proofs::MemberPartLaws::put_part))]
@@ -52,11 +53,11 @@ fn write_read_part(
 // Writes a member, and reads the bytes just written into its own memory. A refusal changes nothing.
 pub fn write_then_read_member(
     members: &mut [MemberWords],
-    nodes: &mut [NodeWords],
-    links: &mut [LinkWords],
-    junctions: &mut [JunctionWords],
+    nodes: &mut [NodeEntry],
+    links: &mut [PathLink],
+    junctions: &mut [JunctionEntry],
     heights: &mut [u8],
-    refs: &mut [LinkWords],
+    refs: &mut [NodeJunctionRef],
     section: &mut [u8],
     member: usize,
 ) -> Result<usize, Refusal>
@@ -100,11 +101,11 @@ fn write_part(p: MemberPart, from: Given, section: &mut [u8]) -> Result<usize, R
 // Writes a member into a lent section.
 pub fn write_member(
     members: &[MemberWords],
-    nodes: &[NodeWords],
-    links: &[LinkWords],
-    junctions: &[JunctionWords],
+    nodes: &[NodeEntry],
+    links: &[PathLink],
+    junctions: &[JunctionEntry],
     heights: &[u8],
-    refs: &[LinkWords],
+    refs: &[NodeJunctionRef],
     section: &mut [u8],
     member: usize,
 ) -> Result<usize, Refusal>

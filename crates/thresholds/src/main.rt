@@ -2,34 +2,35 @@
 // makes every byte; here they are only written.
 #![tactic(auto)]
 
-ghost use Rattle.std.specs.Prelude.{IfOk, OnOk};
+ghost use Rattle.std.specs.Prelude.{◌≡◌, true, OnErr, OnOk};
 ghost use Rattle.thresholds.specs.Text.{ThresholdLines, Printed};
 
+use noted::noted::Noted;
+use noted::sink::Sink;
 use numbers::threshold_search::threshold_line;
-use std::alloc::{AllocError, Global};
 use std::io;
-use std::io::Write;
 
-// All lines, in their order.
-fn text(alloc: Global) -> Result<Vec<u8>, AllocError>
-    ensures { IfOk result (λ t. ThresholdLines t.items) }
+// All lines, in their order: nine bytes each.
+fn text() -> [u8; 2304]
+    ensures { ThresholdLines result }
 {
-    let mut bytes = Vec::new(alloc);
-    for k in 0..256u32 {
+    let mut bytes = [0u8; 2304];
+    for k in 0..256usize {
         let line = threshold_line(k as u8);
-        bytes.extend_from_slice(&line)?;
+        bytes[9 * k..9 * k + 9].copy_from_slice(&line);
     }
-    Ok(bytes)
+    bytes
 }
 
-// The lines, written behind what stood there.
-fn run<W: Write>(alloc: Global, output: &mut W) -> io::Result<()>
-    ensures { OnOk result (Printed (W.contents output.old) (W.contents output.new)) }
+// The lines, written behind what stood there. An error comes only where the writer gave one.
+fn run<W: Sink>(output: &mut W) -> io::Result<()>
+    ensures printed { OnOk result (Printed (W.contents output.old) (W.contents output.new)) }
+    ensures cause { OnErr result (W.failed output.new ≡ true) }
 {
-    let bytes = text(alloc)?;
-    output.write_all(&bytes)
+    let bytes = text();
+    output.put(&bytes)
 }
 
 fn main(rt: HostRuntime) -> io::Result<()> {
-    run(rt.alloc(), &mut io::writer(&rt))
+    run(&mut Noted::new(io::writer(&rt)))
 }

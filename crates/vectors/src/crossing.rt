@@ -1,11 +1,12 @@
 // T-09: walks that cross the members of a set, and members renumbered between them.
 use crate::parts::{after, agrees, ended, first, upto, upto_mut};
 use cells::counts::Counts;
-use cells::link::LinkWords;
-use cells::node::{NodeWords, PathNode};
+use cells::junction_entry::JunctionEntry;
+use cells::link::PathLink;
+use cells::node_entry::NodeEntry;
 use cells::ynd::Ynd;
-use numbers::math::Vec3;
 use records::bytes::{byte_at, u16_at};
+use records::junction_ref::NodeJunctionRef;
 use sets::crossing::{LocationWords, crossing_walk};
 use sets::entry::MemberWords;
 use sets::join::join;
@@ -16,36 +17,42 @@ use sets::renumber::renumber_member;
 struct Set {
     count: usize,
     members: [MemberWords; 3],
-    nodes: [NodeWords; 12],
-    links: [LinkWords; 24],
+    nodes: [NodeEntry; 12],
+    links: [PathLink; 24],
 }
 
 // The first of some nodes: its number, flags1, where its links start, and how many they are.
-fn node_at(b: &[u8], area_id: u16) -> NodeWords {
-    NodeWords::from(PathNode {
+fn node_at(b: &[u8], area_id: u16) -> NodeEntry {
+    NodeEntry {
+        area_id,
+        node_id: byte_at(b, 0) as u16,
         flags1: byte_at(b, 1),
         link_id: byte_at(b, 2) as u32,
         link_count: byte_at(b, 3),
-        ..PathNode::new(area_id, byte_at(b, 0) as u16, Vec3::default())
-    })
+        ..NodeEntry::default()
+    }
 }
 
 // The first of some links: the area and the number that it names.
-fn link_at(b: &[u8]) -> LinkWords {
-    [u16_at(b, 0), byte_at(b, 2) as u16, 0, 0]
+fn link_at(b: &[u8]) -> PathLink {
+    PathLink {
+        area_id: u16_at(b, 0),
+        node_id: byte_at(b, 2) as u16,
+        ..PathLink::default()
+    }
 }
 
 // A cell of nodes and links joins; whether it did.
 fn join_cell(
     set: &mut Set,
     ynd: Ynd,
-    nodes: &[NodeWords],
-    links: &[LinkWords],
+    nodes: &[NodeEntry],
+    links: &[PathLink],
     sizes: Counts,
 ) -> bool {
-    let mut junctions = [[0u32; 6]; 1];
+    let mut junctions = [JunctionEntry::default(); 1];
     let mut heights = [0u8; 1];
-    let mut refs = [[0u16; 4]; 1];
+    let mut refs = [NodeJunctionRef::default(); 1];
     let joined = join(
         set.count,
         &mut set.members,
@@ -140,7 +147,7 @@ fn renumbered(set: &mut Set, b: &[u8]) -> bool {
     let mut scratch = [7u32; 65536];
     let mut places = [255u32; 16];
     let lent = upto_mut(&mut places, byte_at(b, 2) as usize);
-    let mut refs = [[0u16; 4]; 1];
+    let mut refs = [NodeJunctionRef::default(); 1];
     let r = renumber_member(
         upto_mut(&mut set.members, set.count),
         &mut set.nodes,
@@ -182,8 +189,8 @@ pub fn crossings(b: &[u8]) -> bool {
     let mut set = Set {
         count: 0,
         members: [[0; 20]; 3],
-        nodes: [[0; 13]; 12],
-        links: [[0; 4]; 24],
+        nodes: [NodeEntry::default(); 12],
+        links: [PathLink::default(); 24],
     };
     let mut rest = after(b, 2);
     for _ in 0..byte_at(b, 0) {

@@ -1,10 +1,10 @@
 // A cell, the lists that are lent for it, and room for them.
 use crate::parts::upto_mut;
 use cells::counts::Counts;
-use cells::junction::{JunctionWords, PathJunction};
-use cells::junction_ref::RefWords;
-use cells::link::{LinkWords, PathLink};
-use cells::node::NodeWords;
+use cells::junction::PathJunction;
+use cells::junction_entry::JunctionEntry;
+use cells::link::PathLink;
+use cells::node_entry::NodeEntry;
 use cells::ynd::Ynd;
 use numbers::math::Vec3;
 use numbers::refusal::Refusal;
@@ -19,11 +19,11 @@ pub(crate) struct Room<
     const H: usize,
     const R: usize,
 > {
-    nodes: [NodeWords; N],
-    links: [LinkWords; L],
-    junctions: [JunctionWords; J],
+    nodes: [NodeEntry; N],
+    links: [PathLink; L],
+    junctions: [JunctionEntry; J],
     heights: [u8; H],
-    refs: [RefWords; R],
+    refs: [NodeJunctionRef; R],
 }
 
 // Room for each small file of the record.
@@ -38,11 +38,11 @@ impl<const N: usize, const L: usize, const J: usize, const H: usize, const R: us
 > {
     pub(crate) fn new() -> Self {
         Room {
-            nodes: [[0; 13]; N],
-            links: [[0; 4]; L],
-            junctions: [[0; 6]; J],
+            nodes: [NodeEntry::default(); N],
+            links: [PathLink::default(); L],
+            junctions: [JunctionEntry::default(); J],
             heights: [0; H],
-            refs: [[0; 4]; R],
+            refs: [NodeJunctionRef::default(); R],
         }
     }
 
@@ -63,11 +63,11 @@ impl<const N: usize, const L: usize, const J: usize, const H: usize, const R: us
 #[derive(Drop)]
 pub(crate) struct Cell<'a> {
     pub(crate) ynd: Ynd,
-    pub(crate) nodes: &'a mut [NodeWords],
-    pub(crate) links: &'a mut [LinkWords],
-    pub(crate) junctions: &'a mut [JunctionWords],
+    pub(crate) nodes: &'a mut [NodeEntry],
+    pub(crate) links: &'a mut [PathLink],
+    pub(crate) junctions: &'a mut [JunctionEntry],
     pub(crate) heights: &'a mut [u8],
-    pub(crate) refs: &'a mut [RefWords],
+    pub(crate) refs: &'a mut [NodeJunctionRef],
 }
 
 // What renumbering and writing are lent.

@@ -12,7 +12,7 @@ use Rattle.walks.specs.Walk.{Visit, Trail, walk}
 use Rattle.cells.specs.Memory.{Memory}
 use Rattle.cells.specs.CellOf.{cell_of}
 use Rattle.cells.specs.Renumber.{renumber}
-use Rattle.cells.proofs.WritingBack.KeptCells.{kept}
+use Rattle.cells.proofs.WritingBack.KeptCells.{Kept}
 use Rattle.walks.specs.Calls.{Call, renumbering, write_read, is_done, after, run, renumbers, moved, any_renumbers}
 use Rattle.cells.proofs.Sequences.Tests.{by_test, true_false}
 use Rattle.cells.proofs.Renumbering.NewCell.{new_length, new_number_law, new_at}
@@ -76,7 +76,7 @@ numbered_renumber c q lt = new_number_law c q (rw (← new_length c) lt)
 -- a sound cell that storing keeps
 pub record Fit (c : Cell) : Type 0 where
   pub is_sound : sound c ≡ true
-  pub is_kept : kept c ≡ true
+  pub is_kept : Kept c
 
 -- one call: the cell c before, d after, each node moved by f
 pub record Step (c d : Cell) (f : ℕ → ℕ) (renumbered : Bool) : Type 0 where

@@ -16,13 +16,12 @@ use Rattle.records.specs.Records.{node_at, node_bytes, link_at, link_bytes, junc
 use Rattle.records.specs.Records.{ref_bytes}
 use Rattle.cells.specs.Area.{belongs, ref_for}
 use Rattle.cells.specs.Lists.{up_to, join_to, sum_to, every}
-use Rattle.cells.specs.Words.{path_node, path_link, path_junction, node_words, link_words, junction_words}
-use Rattle.cells.specs.Words.{ref_words, to_node}
-use Rattle.cells.specs.Cell.{LinkBody, Junction, Node, Cell, no_body}
+use Rattle.cells.specs.Paths.{path_node, path_link, path_junction}
+use Rattle.cells.specs.Cell.{Junction, Node, Cell, no_body}
+use Rattle.walks.specs.declared.shown.SeenLink.{SeenLink}
 use Rattle.cells.specs.Cell as held-cell
 use Rattle.cells.specs.Memory.{Memory, memory, over_limit, short_of}
 use Rattle.cells.specs.CellOf.{junctions_of, refs_of, cell_of, nodes_of}
-use Rattle.cells.specs.Cell.{body_of}
 use Rattle.cells.specs.FileCell.{file_nodes, file_junctions, file_refs, cell_from, cell_by, file_cell}
 use Rattle.cells.specs.Lookup.{first_with, find, ref_of, junction_of}
 use Rattle.cells.specs.Renumber.{renumber, vehicles, peds, renumber_lists, recounted, answer_of, new_lists}
@@ -42,8 +41,8 @@ use Rattle.cells.specs.Checks.{sizes_check, arrays_found, scan, arrays_check}
 use Rattle.cells.specs.Read.{links_from, node_in, links_in, values_from, junction_in, values_in, ref_in, room_check}
 use Rattle.cells.specs.Read.{cell_read, filled, read_arrays, read_of}
 use Rattle.cells.specs.Order.{keep, rank, parted, new_place, listed, new_places, last_with, new_number, renamed}
-use Rattle.cells.specs.NodeWords.{area_of, number_of, is_ped, numbered, number_from, reordered, first_area, old_of}
-use Rattle.cells.specs.NodeWords.{relinked}
+use Rattle.cells.specs.Nodes.{no_entry, no_map}
+use Rattle.cells.specs.Nodes.{is_ped, number_from, reordered, first_area, old_of}
 use Rattle.walks.specs.Sound.{differing, sound}
 use Rattle.std.specs.Prelude.{Ok}
 
@@ -51,33 +50,31 @@ use Rattle.std.specs.Prelude.{Ok}
 abbrev seen_at : ℕ → ℕ → ℕ → Option Junction → Seen
 seen_at number steps flags1 j = record {
   area = 5;
-  body = record {
+  body = record no_entry {
     position = record {
       x = to_bits binary32 (unstep 2 (pos steps));
       y = to_bits binary32 (unstep 2 (pos (steps + 4)));
       z = to_bits binary32 (unstep 5 (pos (steps + 64)));
     };
-    marks = record {
-      street = 11;
-      flags0 = 1;
-      flags1 = flags1;
-      flags2 = 3;
-      flags3 = 4;
-      flags4 = 5;
-      flags5 = 6;
-      unused0 = 100000 + number;
-      unused1 = 200000 + number;
-      unused2 = 300000 + number;
-      unused3 = 4000000000 + number;
-      unused4 = 60000 + number;
-    };
+    street_name = 11;
+    flags0 = 1;
+    flags1 = flags1;
+    flags2 = 3;
+    flags3 = 4;
+    flags4 = 5;
+    flags5 = 6;
+    unused0 = 100000 + number;
+    unused1 = 200000 + number;
+    unused2 = 300000 + number;
+    unused3 = 4000000000 + number;
+    unused4 = 60000 + number;
   };
   count = 1;
   junction = j;
 }
 
-abbrev the_link : LinkBody
-the_link = record { flags0 = 7; flags1 = 8; flags2 = 9; len = 10 }
+abbrev the_link : SeenLink
+the_link = record { flags0 = 7; flags1 = 8; flags2 = 9; length = 10 }
 
 abbrev the_junction : Junction
 the_junction = record {
@@ -100,7 +97,7 @@ pub walked : walk (file_cell bytes []) (0 ∷ 5 ∷ []) 0
 unfolding walk walk_in next see junction_of find first_with ref_of ref_for belongs bytes root_bytes node_bytes
     link_bytes junction_bytes ref_bytes number_bytes bits16 located root_of unknowns_of number_at bytes_of extent
     array_at node_at link_at junction_at ref_at up_to file_nodes file_junctions file_refs cell_from cell_by
-    file_cell path_node signed16
+    file_cell path_node path_link path_junction signed16
 walked = refl
 
 pub shows : shown (walk (file_cell bytes []) (0 ∷ 5 ∷ []) 0) ≡ (seen_at 7 32 2 none, some the_link)
@@ -121,20 +118,20 @@ pub once : any_renumbers first (refused ∷ accepted ∷ []) ≡ true
 unfolding any_renumbers bytes room root_bytes node_bytes link_bytes junction_bytes ref_bytes number_bytes bits16
     read_of sizes_check arrays_found located root_of unknowns_of number_at bytes_of extent read_arrays arrays_check
     scan node_at link_at junction_at sum_to up_to join_to room_check filled cell_read node_in links_in links_from
-    link_words path_link path_node node_words junction_in values_in values_from path_junction junction_words ref_in
-    ref_words ref_at renumbers renumber over_limit answer_of short_of after run renumber_memory new_lists
-    renumber_lists recounted vehicles peds reordered number_from numbered parted keep is_ped area_of number_of
-    old_of first_area relinked renamed new_number new_place new_places listed rank last_with belongs
+    path_link path_node junction_in values_in values_from path_junction ref_in
+    ref_at renumbers renumber over_limit answer_of short_of after run renumber_memory new_lists
+    renumber_lists recounted vehicles peds reordered number_from parted keep is_ped
+    old_of first_area renamed new_number new_place new_places listed rank last_with belongs
 once = refl
 
 pub never : any_renumbers first (refused ∷ stored_read ∷ []) ≡ false
 unfolding any_renumbers bytes room root_bytes node_bytes link_bytes junction_bytes ref_bytes number_bytes bits16
     read_of sizes_check arrays_found located root_of unknowns_of number_at bytes_of extent read_arrays arrays_check
     scan node_at link_at junction_at sum_to up_to join_to room_check filled cell_read node_in links_in links_from
-    link_words path_link path_node node_words junction_in values_in values_from path_junction junction_words ref_in
-    ref_words ref_at renumbers renumber over_limit answer_of short_of after run renumber_memory new_lists
-    renumber_lists recounted vehicles peds reordered number_from numbered parted keep is_ped area_of number_of
-    old_of first_area relinked renamed new_number new_place new_places listed rank last_with belongs
+    path_link path_node junction_in values_in values_from path_junction ref_in
+    ref_at renumbers renumber over_limit answer_of short_of after run renumber_memory new_lists
+    renumber_lists recounted vehicles peds reordered number_from parted keep is_ped
+    old_of first_area renamed new_number new_place new_places listed rank last_with belongs
 never = refl
 
 -- the walk from the ped node, which moves from place 1 to place 2, and its parts compared
@@ -143,12 +140,12 @@ pub same_here : SameWalk (moved first (accepted ∷ refused ∷ [])) (walk (file
 unfolding bytes room root_bytes node_bytes link_bytes junction_bytes ref_bytes number_bytes bits16 read_of
     sizes_check arrays_found located root_of unknowns_of number_at bytes_of extent read_arrays arrays_check scan
     node_at link_at junction_at sum_to up_to join_to room_check filled cell_read node_in links_in links_from
-    link_words path_link path_node node_words junction_in values_in values_from path_junction junction_words ref_in
-    ref_words ref_at renumbers renumber over_limit answer_of short_of after run renumber_memory new_lists
-    renumber_lists recounted vehicles peds reordered number_from numbered parted keep is_ped area_of number_of
-    old_of first_area relinked renamed new_number new_place new_places listed rank last_with belongs walk walk_in
+    path_link path_node junction_in values_in values_from path_junction ref_in
+    ref_at renumbers renumber over_limit answer_of short_of after run renumber_memory new_lists
+    renumber_lists recounted vehicles peds reordered number_from parted keep is_ped
+    old_of first_area renamed new_number new_place new_places listed rank last_with belongs walk walk_in
     next see junction_of find first_with ref_of ref_for file_nodes file_junctions file_refs cell_from cell_by
-    file_cell array_at cell_of nodes_of junctions_of refs_of body_of to_node moved signed16
+    file_cell array_at cell_of nodes_of junctions_of refs_of moved signed16
 same_here = record { same_shown = refl; same_count = refl; same_end = refl; same_places = refl }
 
 -- the root's own words are the cell's
@@ -174,10 +171,10 @@ one_accepted : any_renumbers first calls ≡ true
 unfolding bytes room root_bytes node_bytes link_bytes junction_bytes ref_bytes number_bytes bits16 read_of
     sizes_check arrays_found located root_of unknowns_of number_at bytes_of extent read_arrays arrays_check scan
     node_at link_at junction_at sum_to up_to join_to room_check filled cell_read node_in links_in links_from
-    link_words path_link path_node node_words junction_in values_in values_from path_junction junction_words ref_in
-    ref_words ref_at renumbers renumber over_limit answer_of short_of after run renumber_memory new_lists
-    renumber_lists recounted vehicles peds reordered number_from numbered parted keep is_ped area_of number_of
-    old_of first_area relinked renamed new_number new_place new_places listed rank last_with belongs any_renumbers
+    path_link path_node junction_in values_in values_from path_junction ref_in
+    ref_at renumbers renumber over_limit answer_of short_of after run renumber_memory new_lists
+    renumber_lists recounted vehicles peds reordered number_from parted keep is_ped
+    old_of first_area renamed new_number new_place new_places listed rank last_with belongs any_renumbers
 one_accepted = refl
 
 pub numbers_places : (q : ℕ) → q < length (cell_of (run first calls)).nodes
@@ -194,7 +191,7 @@ alone = record { area = 5; number = 5; links = []; body = no_body }
 pub ref_to_nobody : sound (record {
   nodes = alone ∷ [];
   junctions = [];
-  refs = record { area = 5; number = 8; junction = 0; unk0 = 0 } ∷ [];
+  refs = record { area_id = 5; node_id = 8; junction_id = 0; unk0 = 0 } ∷ [];
   vehicles = 0;
   peds = 0;
   vft = 0;
@@ -218,7 +215,7 @@ bare =
       heightmap_count = 0;
       ref_count = 0;
     })
-    ((458757 ∷ []) ∷ []) [] [] [] []
+    (record no_entry { area_id = 5; node_id = 7 } ∷ []) [] [] [] []
 
 pub just_full : walk_call bare (0 ∷ []) 0 (9 ∷ []) ≡ walk_left (Ok (record { end = NoLink; count = 1 })) (0 ∷ [])
 unfolding walk_call over_limit route next nodes_of
@@ -239,7 +236,7 @@ mapped =
       heightmap_count = 1;
       ref_count = 0;
     })
-    [] [] ((0 ∷ 0 ∷ 0 ∷ 0 ∷ 257 ∷ 0 ∷ []) ∷ []) (77 ∷ []) []
+    [] [] (record no_map { width = 1; height = 1 } ∷ []) (77 ∷ []) []
 
 pub values_just_fit : shown_values mapped 0 (9 ∷ []) ≡ values_left (Ok 1) (77 ∷ [])
 unfolding shown_values junction_entry entry_at over_limit values_at cell_of junctions_of put

@@ -1,7 +1,7 @@
 -- Demand 3, with no hypothesis but document 01's: the reading is accepted, and the cell is sound.
 use Prim.Native.Nat.{ℕ, ◌<◌}
 use native.Mathlib.Omega.{arith}
-use mathlib.Core.Path.{◌≡◌, ap, ◌∙◌}
+use mathlib.Core.Path.{◌≡◌, ap, sym, subst, ◌∙◌}
 use mathlib.Core.Bool.{true}
 use mathlib.Core.List.{List}
 use lib.ListN.{length}
@@ -10,7 +10,7 @@ use Rattle.cells.specs.Read.{read_of}
 use Rattle.cells.specs.Cell.{Cell}
 use Rattle.cells.specs.CellOf.{cell_of}
 use Rattle.cells.specs.FileCell.{file_cell}
-use Rattle.cells.proofs.WritingBack.KeptCells.{kept}
+use Rattle.cells.proofs.WritingBack.KeptCells.{Kept}
 use Rattle.walks.specs.Sound.{sound}
 use Rattle.walks.specs.Walk.{walk}
 use Rattle.walks.specs.WalkCall.{route, walk_call}
@@ -47,7 +47,7 @@ module _ (system graphics : List ℕ) (lent : Memory) (e : (read_of system graph
   same = read_cell system graphics lent e
 
   fit : Fit (cell_of first)
-  fit = record { is_sound = ap sound same ∙ s; is_kept = ap kept same ∙ read_kept system graphics }
+  fit = record { is_sound = ap sound same ∙ s; is_kept = subst Kept (sym same) (read_kept system graphics) }
 
   lies : Lies first
   lies = read_lies system graphics lent e

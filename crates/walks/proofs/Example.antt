@@ -18,18 +18,16 @@ use Rattle.records.specs.Put.{joined}
 use Rattle.records.specs.Layout.{pages, header_bytes, gap_for, padded, start_of, lay, offset, total, address}
 use Rattle.records.specs.Layout.{places_of, section_bytes}
 use Rattle.cells.specs.Lists.{up_to, join_to, sum_to, every}
-use Rattle.cells.specs.Words.{path_node, path_link, path_junction, node_words, link_words, junction_words}
-use Rattle.cells.specs.Words.{ref_words, to_node, to_link, to_junction, to_ref}
+use Rattle.cells.specs.Paths.{path_node, path_link, path_junction}
 use Rattle.cells.specs.Checks.{sizes_check, arrays_found, scan, arrays_check}
 use Rattle.cells.specs.Memory.{Memory, memory, over_limit, short_of}
 use Rattle.cells.specs.Read.{links_from, node_in, links_in, values_from, junction_in, values_in, ref_in, room_check}
 use Rattle.cells.specs.Read.{cell_read, filled, read_arrays, read_of}
 use Rattle.cells.specs.Area.{belongs}
 use Rattle.cells.specs.Order.{keep, rank, parted, new_place, listed, new_places, last_with, new_number, renamed}
-use Rattle.cells.specs.NodeWords.{area_of, number_of, is_ped, numbered, number_from, reordered, first_area, old_of}
-use Rattle.cells.specs.NodeWords.{relinked}
+use Rattle.cells.specs.Nodes.{no_entry, no_link, no_map, no_ref}
+use Rattle.cells.specs.Nodes.{is_ped, number_from, reordered, first_area, old_of}
 use Rattle.cells.specs.CellOf.{nodes_of, cell_of}
-use Rattle.cells.specs.Cell.{body_of}
 use Rattle.cells.specs.Unused.{unused_of}
 use Rattle.cells.specs.FileCell.{file_nodes, file_junctions, file_refs, cell_from, cell_by, file_cell}
 use Rattle.cells.specs.Lookup.{first_with}
@@ -136,7 +134,7 @@ room =
       heightmap_count = 0;
       ref_count = 0;
     })
-    ([] ∷ [] ∷ [] ∷ []) ([] ∷ [] ∷ [] ∷ []) ([] ∷ []) (0 ∷ []) ([] ∷ [])
+    (no_entry ∷ no_entry ∷ no_entry ∷ []) (no_link ∷ no_link ∷ no_link ∷ []) (no_map ∷ []) (0 ∷ []) (no_ref ∷ [])
 
 pub reads : (read_of bytes [] room).answer ≡ (Ok tt)
 unfolding bytes room root_bytes node_bytes link_bytes junction_bytes ref_bytes number_bytes bits16 read_of
@@ -145,7 +143,8 @@ unfolding bytes room root_bytes node_bytes link_bytes junction_bytes ref_bytes n
 reads = refl
 
 pub is_sound : sound (file_cell bytes []) ≡ true
-unfolding bytes root_bytes node_bytes link_bytes junction_bytes ref_bytes number_bytes bits16 located root_of
+unfolding path_node path_link path_junction bytes root_bytes node_bytes link_bytes junction_bytes ref_bytes
+    number_bytes bits16 located root_of
     unknowns_of number_at bytes_of extent array_at node_at link_at junction_at ref_at up_to file_nodes
     file_junctions file_refs cell_from cell_by file_cell every first_with differing sound belongs
 is_sound = refl
@@ -168,18 +167,18 @@ pub renumbered : renumbers first accepted ≡ true
 unfolding bytes room root_bytes node_bytes link_bytes junction_bytes ref_bytes number_bytes bits16 read_of
     sizes_check arrays_found located root_of unknowns_of number_at bytes_of extent read_arrays arrays_check scan
     node_at link_at junction_at sum_to up_to join_to room_check filled cell_read node_in links_in links_from
-    link_words path_link path_node node_words junction_in values_in values_from path_junction junction_words ref_in
-    ref_words ref_at renumbers renumber over_limit answer_of short_of
+    path_link path_node junction_in values_in values_from path_junction ref_in
+    ref_at renumbers renumber over_limit answer_of short_of
 renumbered = refl
 
 pub not_renumbered_law : renumbers (after first accepted) refused ≡ false
 unfolding bytes room root_bytes node_bytes link_bytes junction_bytes ref_bytes number_bytes bits16 read_of
     sizes_check arrays_found located root_of unknowns_of number_at bytes_of extent read_arrays arrays_check scan
     node_at link_at junction_at sum_to up_to join_to room_check filled cell_read node_in links_in links_from
-    link_words path_link path_node node_words junction_in values_in values_from path_junction junction_words ref_in
-    ref_words ref_at renumbers renumber over_limit answer_of short_of after run renumber_memory new_lists
-    renumber_lists recounted vehicles peds reordered number_from numbered parted keep is_ped area_of number_of
-    old_of first_area relinked renamed new_number new_place new_places listed rank last_with belongs
+    path_link path_node junction_in values_in values_from path_junction ref_in
+    ref_at renumbers renumber over_limit answer_of short_of after run renumber_memory new_lists
+    renumber_lists recounted vehicles peds reordered number_from parted keep is_ped
+    old_of first_area renamed new_number new_place new_places listed rank last_with belongs
 not_renumbered_law = refl
 
 abbrev pub is_wrote : Result ℕ Refusal → Bool
@@ -190,12 +189,12 @@ pub written_read : is_wrote (write_read_of (run first (accepted ∷ refused ∷ 
 unfolding bytes room root_bytes node_bytes link_bytes junction_bytes ref_bytes number_bytes bits16 read_of
     sizes_check arrays_found located root_of unknowns_of number_at bytes_of extent read_arrays arrays_check scan
     node_at link_at junction_at sum_to up_to join_to room_check filled cell_read node_in links_in links_from
-    link_words path_link path_node node_words junction_in values_in values_from path_junction junction_words ref_in
-    ref_words ref_at renumber over_limit answer_of short_of after run renumber_memory new_lists renumber_lists
-    recounted vehicles peds reordered number_from numbered parted keep is_ped area_of number_of old_of first_area
-    relinked renamed new_number new_place new_places listed rank last_with belongs write_read_of write_call
+    path_link path_node junction_in values_in values_from path_junction ref_in
+    ref_at renumber over_limit answer_of short_of after run renumber_memory new_lists renumber_lists
+    recounted vehicles peds reordered number_from parted keep is_ped old_of first_area
+    renamed new_number new_place new_places listed rank last_with belongs write_read_of write_call
     write_held maps_cut values_within held check_nodes check_junctions stored written arrays laid joined file_node
-    to_node file_link to_link file_junction to_junction to_ref entries.values_in root_for pages header_bytes
+    file_link file_junction entries.values_in root_for pages header_bytes
     section_bytes lay padded gap_for start_of offset total address places_of entries.links_in step_of unstep signed16
 written_read = refl
 
@@ -204,14 +203,14 @@ pub moves : map (moved first (accepted ∷ refused ∷ stored_read ∷ [])) (0 �
 unfolding bytes room root_bytes node_bytes link_bytes junction_bytes ref_bytes number_bytes bits16 read_of
     sizes_check arrays_found located root_of unknowns_of number_at bytes_of extent read_arrays arrays_check scan
     node_at link_at junction_at sum_to up_to join_to room_check filled cell_read node_in links_in links_from
-    link_words path_link path_node node_words junction_in values_in values_from path_junction junction_words ref_in
-    ref_words ref_at renumbers renumber over_limit answer_of short_of after run renumber_memory new_lists
-    renumber_lists recounted vehicles peds reordered number_from numbered parted keep is_ped area_of number_of
-    old_of first_area relinked renamed new_number new_place new_places listed rank last_with belongs write_read_of
+    path_link path_node junction_in values_in values_from path_junction ref_in
+    ref_at renumbers renumber over_limit answer_of short_of after run renumber_memory new_lists
+    renumber_lists recounted vehicles peds reordered number_from parted keep is_ped
+    old_of first_area renamed new_number new_place new_places listed rank last_with belongs write_read_of
     write_call write_held maps_cut values_within held check_nodes check_junctions stored written arrays laid joined
-    file_node to_node file_link to_link file_junction to_junction to_ref entries.values_in root_for pages
+    file_node file_link file_junction entries.values_in root_for pages
     header_bytes section_bytes lay padded gap_for start_of offset total address places_of entries.links_in step_of
-    unstep signed16 moved cell_of nodes_of body_of
+    unstep signed16 moved cell_of nodes_of
 moves = refl
 
 -- T-10: after all three calls the five tags stand with their nodes, of the numbers 7, 9 and 3
@@ -223,12 +222,12 @@ pub tags : map unused_of (cell_of (run first (accepted ∷ refused ∷ stored_re
 unfolding bytes room root_bytes node_bytes link_bytes junction_bytes ref_bytes number_bytes bits16 read_of
     sizes_check arrays_found located root_of unknowns_of number_at bytes_of extent read_arrays arrays_check scan
     node_at link_at junction_at sum_to up_to join_to room_check filled cell_read node_in links_in links_from
-    link_words path_link path_node node_words junction_in values_in values_from path_junction junction_words ref_in
-    ref_words ref_at renumbers renumber over_limit answer_of short_of after run renumber_memory new_lists
-    renumber_lists recounted vehicles peds reordered number_from numbered parted keep is_ped area_of number_of
-    old_of first_area relinked renamed new_number new_place new_places listed rank last_with belongs write_read_of
+    path_link path_node junction_in values_in values_from path_junction ref_in
+    ref_at renumbers renumber over_limit answer_of short_of after run renumber_memory new_lists
+    renumber_lists recounted vehicles peds reordered number_from parted keep is_ped
+    old_of first_area renamed new_number new_place new_places listed rank last_with belongs write_read_of
     write_call write_held maps_cut values_within held check_nodes check_junctions stored written arrays laid joined
-    file_node to_node file_link to_link file_junction to_junction to_ref entries.values_in root_for pages
+    file_node file_link file_junction entries.values_in root_for pages
     header_bytes section_bytes lay padded gap_for start_of offset total address places_of entries.links_in step_of
-    unstep signed16 moved cell_of nodes_of body_of
+    unstep signed16 moved cell_of nodes_of
 tags = refl

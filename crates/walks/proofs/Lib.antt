@@ -20,4 +20,5 @@ pub mod ClaimFacts
 pub mod Undrawn
 pub mod Posts
 pub mod Island
+pub mod IslandLaws
 pub mod StarredPairs

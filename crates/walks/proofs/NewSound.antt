@@ -9,7 +9,9 @@ use lib.Dec.{eqb}
 use lib.ListN.{length, length-map}
 use borrow.Author.Tests.{eqb-true, eq-eqb, ne_eqb}
 use Rattle.cells.specs.Cell.{Node, Cell, node_at, no_node, is_ped_node, numbers, ped_flags, first_of}
-use Rattle.cells.specs.Cell.{is_vehicle_node, ordered, relink, reref, renode, number_nodes, renumber_cell}
+use Rattle.cells.specs.Cell.{is_vehicle_node, ordered, renode, number_nodes, renumber_cell}
+use Rattle.cells.specs.Nodes.{relinked}
+use Rattle.cells.specs.Nodes.{rereffed}
 use Rattle.cells.specs.Cell.{old_nodes}
 use Rattle.cells.specs.Area.{belongs}
 use Rattle.cells.specs.Order.{keep, new_place, new_number, Old, parted, renamed}
@@ -119,8 +121,8 @@ module _ (c : Cell) (s : Sound c) where
   new_node_sound k n h =
       cc (
         eq-eqb n.area (first_of (renumber_cell c).nodes) (eqb-true _ _ (and_left _ _ h) ∙ sym (new_area c s)),
-        every_map (link_named (renumber_cell c).nodes) (relink (old_nodes c.nodes)) (link_named c.nodes)
-            (λ l t. new_named l.area l.number t) n.links
+        every_map (link_named (renumber_cell c).nodes) (relinked (old_nodes c.nodes)) (link_named c.nodes)
+            (λ l t. new_named l.area_id l.node_id t) n.links
             (and_right (eqb n.area (first_of c.nodes)) _ h),
       )
 
@@ -132,8 +134,8 @@ module _ (c : Cell) (s : Sound c) where
     nodes_sound = every_number (old_nodes c.nodes) _ (node_sound c.nodes) new_node_sound 0 (ordered c.nodes)
         (ordered_sound c s);
     differ = new_differ c;
-    refs_named = every_map (ref_named (renumber_cell c).nodes) (reref (old_nodes c.nodes)) (ref_named c.nodes)
-        (λ r t. new_named r.area r.number t) c.refs s.refs_named;
+    refs_named = every_map (ref_named (renumber_cell c).nodes) (rereffed (old_nodes c.nodes)) (ref_named c.nodes)
+        (λ r t. new_named r.area_id r.node_id t) c.refs s.refs_named;
   }
 
 -- ---- the test

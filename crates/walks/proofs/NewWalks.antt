@@ -7,7 +7,11 @@ use mathlib.Core.Option.{Option, none, some}
 use lib.Dec.{eqb}
 use lib.ListN.{length, length-map}
 use borrow.Author.Tests.{eqb-true, eqb-false, eq-eqb, ne_eqb}
-use Rattle.cells.specs.Cell.{Link, Node, Ref, Cell, node_at, no_node, numbers, ped_flags, first_of, relink, reref}
+use Rattle.cells.specs.Cell.{Node, Cell, node_at, no_node, numbers, ped_flags, first_of}
+use Rattle.cells.specs.declared.link.PathLink.{PathLink}
+use Rattle.records.specs.declared.junction_ref.NodeJunctionRef.{NodeJunctionRef}
+use Rattle.cells.specs.Nodes.{relinked}
+use Rattle.cells.specs.Nodes.{rereffed}
 use Rattle.cells.specs.Cell.{renumber_cell, old_nodes}
 use Rattle.cells.specs.Area.{belongs}
 use Rattle.cells.proofs.Lookups.AreaLaws.{ref_own}
@@ -16,7 +20,7 @@ use Rattle.cells.specs.Lookup.{ref_of, junction_of}
 use Rattle.cells.specs.Lists.{every}
 use Rattle.walks.specs.Sound.{link_named, ref_named, node_sound}
 use Rattle.walks.specs.Walk.{Visit, Trail, Next, to, stop, link_at, take_link, next, World, walk_in, see, walk}
-use Rattle.walks.specs.Walk.{body_of, go_on}
+use Rattle.walks.specs.Walk.{shown_of, go_on}
 use Rattle.cells.proofs.Sequences.Tests.{and_left, and_right, by_test, every_at, every_any, if_any, map_at, map_option}
 use Rattle.walks.proofs.Numbers.{Has, find_is, same_place}
 use Rattle.cells.proofs.Renumbering.NewCell.{new_at, new_node_law, new_find, new_refs, new_junctions, number_is}
@@ -89,16 +93,16 @@ module _ (c : Cell) (s : Sound c) where
       (sym h.number ∙ (number_is ns q ∙ ap (λ (i : ℕ). (node_at ns i).number)
       (new_injective q p (rw length-map at h.inside) lp e)))) ∙ sym f)
 
-  ref_new : (p : ℕ) → p < length ns → (rs : List Ref) → every (ref_named ns) rs ≡ true
-      → ref_of own (map (reref old) rs) own (new_place peds p) ≡ ref_of own rs own (node_at ns p).number
+  ref_new : (p : ℕ) → p < length ns → (rs : List NodeJunctionRef) → every (ref_named ns) rs ≡ true
+      → ref_of own (map (rereffed old) rs) own (new_place peds p) ≡ ref_of own rs own (node_at ns p).number
   unfolding ref_of every renamed
   ref_new p lp [] h = refl
   ref_new p lp (r ∷ rs) h =
-      rw (ref_own own r.area, ref_new p lp rs (and_right (ref_named ns r) _ h))
-      (by_test (belongs own r.area)
+      rw (ref_own own r.area_id, ref_new p lp rs (and_right (ref_named ns r) _ h))
+      (by_test (belongs own r.area_id)
       (λ b.
-      let o = new_own c s r.area r.number (and_left _ _ h) b in
-      cc (b, o.2, new_eqb r.number p o.0 o.1 lp))
+      let o = new_own c s r.area_id r.node_id (and_left _ _ h) b in
+      cc (b, o.2, new_eqb r.node_id p o.0 o.1 lp))
       (λ f. cc f))
 
   pub see_new : (p : ℕ) → p < length ns → see (renumber_cell c) (new_place peds p) ≡ see c p
@@ -115,25 +119,25 @@ module _ (c : Cell) (s : Sound c) where
 
   -- the link chosen is the one chosen before, renumbered
   pub link_new : (p b : ℕ) → p < length ns → link_at (renumber_cell c).nodes (new_place peds p) b
-      ≡ map_option (relink old) (link_at ns p b)
+      ≡ map_option (relinked old) (link_at ns p b)
   link_new p b lp = rw (new_node_law c p lp, map_at)
 
   -- and leads to the same node
-  leads_new : (l : Option Link) → if_any (link_named ns) l
-      → (take_link (renumber_cell c).nodes (map_option (relink old) l)
+  leads_new : (l : Option PathLink) → if_any (link_named ns) l
+      → (take_link (renumber_cell c).nodes (map_option (relinked old) l)
       ≡ move_next (new_place peds) (take_link ns l)) × AllNext (λ q. q < length ns) (take_link ns l)
   unfolding renamed
   leads_new none h = (refl, tt)
   leads_new (some l) h =
-      rw (new_area c s) (by_test (belongs own l.area)
+      rw (new_area c s) (by_test (belongs own l.area_id)
       (λ b.
-      let o = new_own c s l.area l.number h b in
+      let o = new_own c s l.area_id l.node_id h b in
       let lq : o.0 < length ns = rw length-map at o.1.inside in
       rw (
         b,
         o.2,
         new_find c (new_place peds o.0) (new_at ns o.0 lq).0,
-        find_is (numbers ns) l.number o.0 s.differ
+        find_is (numbers ns) l.node_id o.0 s.differ
             o.1,
       ) (refl, lq))
       (λ f. rw f (refl, tt)))
@@ -147,7 +151,7 @@ module _ (c : Cell) (s : Sound c) where
       (and_right (eqb (node_at ns p).area own) _ (every_at (node_sound ns) ns p no_node s.nodes_sound lp))) in
       (rw (link_new p b lp) h.0, h.1)
 
-  body_same : (l : Option Link) → body_of (map_option (relink old) l) ≡ body_of l
+  body_same : (l : Option PathLink) → shown_of (map_option (relinked old) l) ≡ shown_of l
   body_same (some l) = refl
   body_same none = refl
 

@@ -18,18 +18,16 @@ use Rattle.records.specs.Put.{joined}
 use Rattle.records.specs.Layout.{pages, header_bytes, gap_for, padded, start_of, lay, offset, total, address}
 use Rattle.records.specs.Layout.{places_of, section_bytes}
 use Rattle.cells.specs.Lists.{up_to, join_to, sum_to, every}
-use Rattle.cells.specs.Words.{path_node, path_link, path_junction, node_words, link_words, junction_words}
-use Rattle.cells.specs.Words.{ref_words, to_node, to_link, to_junction, to_ref}
+use Rattle.cells.specs.Paths.{path_node, path_link, path_junction}
 use Rattle.cells.specs.Checks.{sizes_check, arrays_found, scan, arrays_check}
 use Rattle.cells.specs.Memory.{Memory, memory, over_limit, short_of}
 use Rattle.cells.specs.Read.{links_from, node_in, links_in, values_from, junction_in, values_in, ref_in, room_check}
 use Rattle.cells.specs.Read.{cell_read, filled, read_arrays, read_of}
 use Rattle.cells.specs.Area.{belongs, ref_for}
 use Rattle.cells.specs.Order.{keep, rank, parted, new_place, listed, new_places, last_with, new_number, renamed}
-use Rattle.cells.specs.NodeWords.{area_of, number_of, is_ped, numbered, number_from, reordered, first_area, old_of}
-use Rattle.cells.specs.NodeWords.{relinked}
+use Rattle.cells.specs.Nodes.{no_entry, no_link}
+use Rattle.cells.specs.Nodes.{is_ped, number_from, reordered, first_area, old_of}
 use Rattle.cells.specs.CellOf.{nodes_of, junctions_of, refs_of, cell_of}
-use Rattle.cells.specs.Cell.{body_of}
 use Rattle.cells.specs.FileCell.{file_nodes, file_junctions, file_refs, cell_from, cell_by, file_cell}
 use Rattle.cells.specs.Lookup.{first_with, find, ref_of, junction_of}
 use Rattle.cells.specs.Renumber.{vehicles, peds, renumber_lists, recounted, answer_of, new_lists, renumber_memory}
@@ -119,7 +117,7 @@ room =
       heightmap_count = 0;
       ref_count = 0;
     })
-    ([] ∷ [] ∷ [] ∷ [] ∷ []) ([] ∷ [] ∷ [] ∷ []) [] [] []
+    (no_entry ∷ no_entry ∷ no_entry ∷ no_entry ∷ []) (no_link ∷ no_link ∷ no_link ∷ []) [] [] []
 
 pub reads : (read_of bytes [] room).answer ≡ (Ok tt)
 unfolding bytes room root_bytes node_bytes link_bytes number_bytes bits16 read_of sizes_check arrays_found located
@@ -127,7 +125,8 @@ unfolding bytes room root_bytes node_bytes link_bytes number_bytes bits16 read_o
 reads = refl
 
 pub is_sound : sound (file_cell bytes []) ≡ true
-unfolding bytes root_bytes node_bytes link_bytes number_bytes bits16 located root_of unknowns_of number_at bytes_of
+unfolding path_node path_link path_junction bytes root_bytes node_bytes link_bytes number_bytes bits16 located
+    root_of unknowns_of number_at bytes_of
     extent array_at node_at link_at junction_at ref_at up_to file_nodes file_junctions file_refs cell_from cell_by
     file_cell every first_with differing sound belongs
 is_sound = refl
@@ -151,13 +150,13 @@ pub starts_written : map (λ i. le16 (write_read_of (run first (renumbered ∷ [
     (1184 + i * 40 + 26)) (0 ∷ 1 ∷ 2 ∷ 3 ∷ []) ≡ 0 ∷ 2 ∷ 0 ∷ 0 ∷ []
 unfolding bytes room root_bytes node_bytes link_bytes number_bytes bits16 read_of sizes_check arrays_found located
     root_of unknowns_of number_at bytes_of extent read_arrays arrays_check scan node_at link_at junction_at sum_to
-    up_to join_to room_check filled cell_read node_in links_in links_from link_words path_link path_node node_words
-    junction_in values_in values_from path_junction junction_words ref_in ref_words ref_at renumber over_limit
+    up_to join_to room_check filled cell_read node_in links_in links_from path_link path_node
+    junction_in values_in values_from path_junction ref_in ref_at renumber over_limit
     answer_of short_of after run renumber_memory new_lists renumber_lists recounted vehicles peds reordered
-    number_from numbered parted keep is_ped area_of number_of old_of first_area relinked renamed new_number
+    number_from parted keep is_ped old_of first_area renamed new_number
     new_place new_places listed rank last_with belongs write_read_of write_call write_held maps_cut held check_nodes
-    check_junctions stored written arrays laid joined file_node to_node file_link to_link file_junction to_junction
-    to_ref entries.values_in root_for pages header_bytes section_bytes lay padded gap_for start_of offset total
+    check_junctions stored written arrays laid joined file_node file_link file_junction
+    entries.values_in root_for pages header_bytes section_bytes lay padded gap_for start_of offset total
     address places_of entries.links_in step_of unstep signed16
 starts_written = refl
 
@@ -165,13 +164,15 @@ starts_written = refl
 pub ends : (walk (file_cell bytes []) (1 ∷ 0 ∷ 0 ∷ []) 0).ending ≡ NoLink
 unfolding walk walk_in next see junction_of find first_with ref_of ref_for belongs bytes root_bytes node_bytes
     link_bytes number_bytes bits16 located root_of unknowns_of number_at bytes_of extent array_at node_at link_at
-    junction_at ref_at up_to file_nodes file_junctions file_refs cell_from cell_by file_cell path_node signed16
+    junction_at ref_at up_to file_nodes file_junctions file_refs cell_from cell_by file_cell path_node path_link
+    path_junction signed16
 ends = refl
 
 pub visits : map (λ (v : Visit ℕ). v.place) (walk (file_cell bytes []) (1 ∷ 0 ∷ 0 ∷ []) 0).visits ≡ 0 ∷ 2 ∷ 3 ∷ []
 unfolding walk walk_in next see junction_of find first_with ref_of ref_for belongs bytes root_bytes node_bytes
     link_bytes number_bytes bits16 located root_of unknowns_of number_at bytes_of extent array_at node_at link_at
-    junction_at ref_at up_to file_nodes file_junctions file_refs cell_from cell_by file_cell path_node signed16
+    junction_at ref_at up_to file_nodes file_junctions file_refs cell_from cell_by file_cell path_node path_link
+    path_junction signed16
 visits = refl
 
 -- after both calls: the same end, the places moved, the streets and link counts as they were
@@ -179,36 +180,36 @@ abbrev after_all : Trail ℕ
 after_all = walk (cell_of (run first calls)) (1 ∷ 0 ∷ 0 ∷ []) 0
 
 abbrev told : Trail ℕ → List (List ℕ)
-told t = map (λ (v : Visit ℕ). v.place ∷ v.seen.body.marks.street ∷ v.seen.count ∷ []) t.visits
+told t = map (λ (v : Visit ℕ). v.place ∷ v.seen.body.street_name ∷ v.seen.count ∷ []) t.visits
 
 pub ends_after : after_all.ending ≡ NoLink
 unfolding bytes room root_bytes node_bytes link_bytes number_bytes bits16 read_of sizes_check arrays_found located
     root_of unknowns_of number_at bytes_of extent read_arrays arrays_check scan node_at link_at junction_at sum_to
-    up_to join_to room_check filled cell_read node_in links_in links_from link_words path_link path_node node_words
-    junction_in values_in values_from path_junction junction_words ref_in ref_words ref_at renumbers renumber
+    up_to join_to room_check filled cell_read node_in links_in links_from path_link path_node
+    junction_in values_in values_from path_junction ref_in ref_at renumbers renumber
     over_limit answer_of short_of after run renumber_memory new_lists renumber_lists recounted vehicles peds
-    reordered number_from numbered parted keep is_ped area_of number_of old_of first_area relinked renamed
+    reordered number_from parted keep is_ped old_of first_area renamed
     new_number new_place new_places listed rank last_with belongs write_read_of write_call write_held maps_cut held
-    check_nodes check_junctions stored written arrays laid joined file_node to_node file_link to_link file_junction
-    to_junction to_ref entries.values_in root_for pages header_bytes section_bytes lay padded gap_for start_of
+    check_nodes check_junctions stored written arrays laid joined file_node file_link file_junction
+    entries.values_in root_for pages header_bytes section_bytes lay padded gap_for start_of
     offset total address places_of entries.links_in step_of unstep signed16 moved walk walk_in next see junction_of
     find first_with ref_of ref_for file_nodes file_junctions file_refs cell_from cell_by file_cell array_at cell_of
-    nodes_of junctions_of refs_of body_of
+    nodes_of junctions_of refs_of
 ends_after = refl
 
 pub visits_after : told after_all ≡ (0 ∷ 107 ∷ 2 ∷ []) ∷ (1 ∷ 109 ∷ 1 ∷ []) ∷ (2 ∷ 104 ∷ 0 ∷ []) ∷ []
 unfolding bytes room root_bytes node_bytes link_bytes number_bytes bits16 read_of sizes_check arrays_found located
     root_of unknowns_of number_at bytes_of extent read_arrays arrays_check scan node_at link_at junction_at sum_to
-    up_to join_to room_check filled cell_read node_in links_in links_from link_words path_link path_node node_words
-    junction_in values_in values_from path_junction junction_words ref_in ref_words ref_at renumbers renumber
+    up_to join_to room_check filled cell_read node_in links_in links_from path_link path_node
+    junction_in values_in values_from path_junction ref_in ref_at renumbers renumber
     over_limit answer_of short_of after run renumber_memory new_lists renumber_lists recounted vehicles peds
-    reordered number_from numbered parted keep is_ped area_of number_of old_of first_area relinked renamed
+    reordered number_from parted keep is_ped old_of first_area renamed
     new_number new_place new_places listed rank last_with belongs write_read_of write_call write_held maps_cut held
-    check_nodes check_junctions stored written arrays laid joined file_node to_node file_link to_link file_junction
-    to_junction to_ref entries.values_in root_for pages header_bytes section_bytes lay padded gap_for start_of
+    check_nodes check_junctions stored written arrays laid joined file_node file_link file_junction
+    entries.values_in root_for pages header_bytes section_bytes lay padded gap_for start_of
     offset total address places_of entries.links_in step_of unstep signed16 moved walk walk_in next see junction_of
     find first_with ref_of ref_for file_nodes file_junctions file_refs cell_from cell_by file_cell array_at cell_of
-    nodes_of junctions_of refs_of body_of
+    nodes_of junctions_of refs_of
 visits_after = refl
 
 -- and everything else that is shown, by demand 3
@@ -218,12 +219,12 @@ unnoticed = demand_3 bytes [] room reads is_sound calls
 pub moves : map (moved first calls) (0 ∷ 1 ∷ 2 ∷ 3 ∷ []) ≡ 0 ∷ 3 ∷ 1 ∷ 2 ∷ []
 unfolding bytes room root_bytes node_bytes link_bytes number_bytes bits16 read_of sizes_check arrays_found located
     root_of unknowns_of number_at bytes_of extent read_arrays arrays_check scan node_at link_at junction_at sum_to
-    up_to join_to room_check filled cell_read node_in links_in links_from link_words path_link path_node node_words
-    junction_in values_in values_from path_junction junction_words ref_in ref_words ref_at renumbers renumber
+    up_to join_to room_check filled cell_read node_in links_in links_from path_link path_node
+    junction_in values_in values_from path_junction ref_in ref_at renumbers renumber
     over_limit answer_of short_of after run renumber_memory new_lists renumber_lists recounted vehicles peds
-    reordered number_from numbered parted keep is_ped area_of number_of old_of first_area relinked renamed
+    reordered number_from parted keep is_ped old_of first_area renamed
     new_number new_place new_places listed rank last_with belongs write_read_of write_call write_held maps_cut held
-    check_nodes check_junctions stored written arrays laid joined file_node to_node file_link to_link file_junction
-    to_junction to_ref entries.values_in root_for pages header_bytes section_bytes lay padded gap_for start_of
-    offset total address places_of entries.links_in step_of unstep signed16 moved cell_of nodes_of body_of
+    check_nodes check_junctions stored written arrays laid joined file_node file_link file_junction
+    entries.values_in root_for pages header_bytes section_bytes lay padded gap_for start_of
+    offset total address places_of entries.links_in step_of unstep signed16 moved cell_of nodes_of
 moves = refl

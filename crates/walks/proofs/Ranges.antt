@@ -44,3 +44,8 @@ pub cut_part : {A : Type 0} (l start count : ℕ) (xs : List A) → l ≤ length
 cut_part l start count xs hl hs h =
     take_all count (drop start (take l xs)) (omega (arith, length-drop start (take l xs), length-take l xs))
     ∙ cut_is l start xs hs
+
+pub every_same : {A : Type 0} (p q : A → Bool) → ((x : A) → p x ≡ q x) → (xs : List A) → every p xs ≡ every q xs
+unfolding every
+every_same p q h [] = refl
+every_same p q h (x ∷ xs) = λ i. h x i && every_same p q h xs i

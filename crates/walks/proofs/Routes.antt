@@ -4,8 +4,9 @@ use mathlib.Core.Path.{◌≡◌, refl, ap, ◌∙◌}
 use mathlib.Core.List.{List, [], ◌∷◌, map}
 use mathlib.Core.Option.{Option}
 use lib.ListN.{length, length-map}
-use Rattle.cells.specs.Cell.{LinkBody, Cell}
-use Rattle.walks.specs.Walk.{Next, to, stop, link_at, next, body_of, Seen, see, Visit, Trail, go_on, walk_in, walk}
+use Rattle.cells.specs.Cell.{Cell}
+use Rattle.walks.specs.declared.shown.SeenLink.{SeenLink}
+use Rattle.walks.specs.Walk.{Next, to, stop, link_at, next, shown_of, Seen, see, Visit, Trail, go_on, walk_in, walk}
 use Rattle.walks.specs.WalkCall.{Route, step_on, route}
 use Rattle.walks.specs.Claim.{shown_at, shown, places, SameWalk}
 use Rattle.walks.proofs.NewWalks.{move_visit, move}
@@ -20,7 +21,7 @@ trail_route c [] p = refl
 trail_route c (b ∷ bs) p = go (next c.nodes p b) (trail_route c bs)
   where
     go : (x : Next ℕ) → ((q : ℕ) → route_of (walk c bs q) ≡ route c.nodes bs q)
-        → route_of (go_on (record { place = p; seen = see c p; link = body_of (link_at c.nodes p b) }) (walk c bs)
+        → route_of (go_on (record { place = p; seen = see c p; link = shown_of (link_at c.nodes p b) }) (walk c bs)
         x) ≡ step_on p (route c.nodes bs) x
     go (to q) ih = ap (λ (r : Route). step_on p (λ z. r) (to q)) (ih q)
     go (stop e) ih = refl
@@ -34,7 +35,7 @@ moved_places {L} f (v ∷ vs) = ap {B = List L} (λ r. f v.place ∷ r) (moved_p
 
 moved_shown : {L : Type 0} (f : L → L) (l : List (Visit L)) → map shown_at (map (move_visit f) l) ≡ map shown_at l
 moved_shown f [] = refl
-moved_shown f (v ∷ vs) = ap {B = List (Seen × Option LinkBody)} (λ r. shown_at v ∷ r) (moved_shown f vs)
+moved_shown f (v ∷ vs) = ap {B = List (Seen × Option SeenLink)} (λ r. shown_at v ∷ r) (moved_shown f vs)
 
 pub same_walk : {L : Type 0} (f : L → L) (t u : Trail L) → u ≡ move f t → SameWalk f t u
 same_walk {L} f t u e =

@@ -14,7 +14,8 @@ use Rattle.std.proofs.lemmas.List.{map_push}
 use Rattle.std.proofs.lemmas.List.Recursion.{and_at}
 use lib.ListN.{length, get_or, set, take, length-map, get_or-map}
 use lib.Seq.{take-suc, length-take-le, take_all}
-use Rattle.cells.specs.NodeWords.{number_of}
+use Rattle.cells.specs.Nodes.{number_of, no_entry}
+use Rattle.cells.specs.declared.node_entry.NodeEntry.{NodeEntry}
 use Rattle.cells.specs.Lookup.{first_with, is_some}
 use Rattle.cells.specs.LookupCall.{numbers_in}
 use Rattle.cells.specs.RenumberParts.{Indexed, Leads}
@@ -27,15 +28,15 @@ use Rattle.walks.proofs.Numbers.{named_has, last_is}
 
 -- ---- the scratch, number by number
 
-pub index_starts : (nodes : List (List ℕ)) (s : List ℕ) → Indexed (numbers_in 0 nodes) s
+pub index_starts : (nodes : List NodeEntry) (s : List ℕ) → Indexed (numbers_in 0 nodes) s
 unfolding numbers_in
 index_starts nodes s = cells.index_starts s
 
-pub index_turn : (nodes : List (List ℕ)) (i k : ℕ) (s : List ℕ) → i < length nodes → k
-    ≡ number_of (get_or nodes i []) → k < length s
+pub index_turn : (nodes : List NodeEntry) (i k : ℕ) (s : List ℕ) → i < length nodes → k
+    ≡ number_of (get_or nodes i no_entry) → k < length s
     → Indexed (numbers_in i nodes) s → Indexed (numbers_in (i + 1) nodes) (set s k i)
 unfolding numbers_in
-index_turn nodes i k s lt e hk ix = cells.index_turn nodes i k s lt e hk ix
+index_turn nodes i k s lt e hk ix = cells.index_turn nodes i k s no_entry lt e hk ix
 
 indexed_snoc : (ks : List ℕ) (x i : ℕ) (s : List ℕ) → indexed (ks ++ (x ∷ [])) i s
     ≡ set (indexed ks i s) x (i + length ks)
@@ -43,32 +44,31 @@ unfolding indexed
 indexed_snoc [] x i s = rw add-zero
 indexed_snoc (k ∷ ks) x i s = indexed_snoc ks x (suc i) (set s k i) ∙ rw (suc-add, add-suc)
 
-pub indexed_start : (nodes : List (List ℕ)) (s : List ℕ) → s ≡ indexed (numbers_in 0 nodes) 0 s
+pub indexed_start : (nodes : List NodeEntry) (s : List ℕ) → s ≡ indexed (numbers_in 0 nodes) 0 s
 unfolding indexed numbers_in
 indexed_start nodes s = refl
 
-pub indexed_turn : (nodes : List (List ℕ)) (i k : ℕ) (s now : List ℕ) → i < length nodes → k
-    ≡ number_of (get_or nodes i []) → now ≡ indexed (numbers_in i nodes) 0 s
+pub indexed_turn : (nodes : List NodeEntry) (i k : ℕ) (s now : List ℕ) → i < length nodes → k
+    ≡ number_of (get_or nodes i no_entry) → now ≡ indexed (numbers_in i nodes) 0 s
     → set now k i ≡ indexed (numbers_in (i + 1) nodes) 0 s
 unfolding numbers_in
 indexed_turn nodes i k s now lt e h =
     let long : length (map number_of (take i nodes)) ≡ i = length-map (take i nodes) number_of
     ∙ length-take-le i nodes (omega arith) in
-    rw (add-one, take-suc nodes i [] lt, map_push, ← e, indexed_snoc, long, zero-add, h)
+    rw (add-one, take-suc nodes i no_entry lt, map_push, ← e, indexed_snoc, long, zero-add, h)
 
 -- ---- the numbers
 
-number_in : (nodes : List (List ℕ)) (t : ℕ) → t < length nodes → get_or (all_numbers nodes) t 0
-    ≡ number_of (get_or nodes t [])
-unfolding number_of
-number_in nodes t lt = get_or-map number_of nodes t []
+number_in : (nodes : List NodeEntry) (t : ℕ) → t < length nodes → get_or (all_numbers nodes) t 0
+    ≡ number_of (get_or nodes t no_entry)
+number_in nodes t lt = get_or-map number_of nodes t no_entry
 
-pub numbers_long : (n : ℕ) (nodes : List (List ℕ)) → n ≤ length nodes → length (numbers_in n nodes) ≡ n
+pub numbers_long : (n : ℕ) (nodes : List NodeEntry) → n ≤ length nodes → length (numbers_in n nodes) ≡ n
 unfolding numbers_in
 numbers_long n nodes h = length-map (take n nodes) number_of ∙ length-take-le n nodes h
 
 -- the numbers of the first n nodes are all of theirs
-pub all_front : (n : ℕ) (nodes : List (List ℕ)) → all_numbers (take n nodes) ≡ numbers_in n nodes
+pub all_front : (n : ℕ) (nodes : List NodeEntry) → all_numbers (take n nodes) ≡ numbers_in n nodes
 unfolding numbers_in
 all_front n nodes = refl
 
@@ -87,7 +87,7 @@ differ_yes (n ∷ ns) h =
     absurd (omega arith))
     (λ f. rw f))
 
-pub all_taken : (nodes : List (List ℕ)) (i : ℕ) → i ≡ length nodes → numbers_in i nodes ≡ all_numbers nodes
+pub all_taken : (nodes : List NodeEntry) (i : ℕ) → i ≡ length nodes → numbers_in i nodes ≡ all_numbers nodes
 unfolding numbers_in
 all_taken nodes i e = ap (map number_of) (take_all i nodes (omega arith))
 
@@ -110,34 +110,34 @@ some_place f d (x ∷ xs) i h = by_test (f (i, x))
     (λ g. (0, omega arith, rw add-zero g))
 
 -- the scratch leads from a node's number to its place
-abbrev pub leads_back : List ℕ → ℕ × List ℕ → Bool
+abbrev pub leads_back : List ℕ → ℕ × NodeEntry → Bool
 leads_back s p = eqb (get_or s (number_of p.1) 0) p.0
 
 -- ---- by the scratch
 
-module _ (nodes : List (List ℕ)) (s : List ℕ) (r : Leads (all_numbers nodes) s) where
+module _ (nodes : List NodeEntry) (s : List ℕ) (r : Leads (all_numbers nodes) s) where
   long : length (all_numbers nodes) ≡ length nodes
   long = length-map nodes number_of
 
-  pub differ_all : ((j : ℕ) → j < length nodes → get_or s (number_of (get_or nodes j [])) 0 ≡ j) → true
+  pub differ_all : ((j : ℕ) → j < length nodes → get_or s (number_of (get_or nodes j no_entry)) 0 ≡ j) → true
       ≡ differing (all_numbers nodes)
   differ_all h = sym (differ_yes (all_numbers nodes) (λ i j a b e.
       let a' : i < length nodes = omega (arith, long) in
       let b' : j < length nodes = omega (arith, long) in
       sym (h i a') ∙ ap (λ (k : ℕ). get_or s k 0) (sym (number_in nodes i a') ∙ e ∙ number_in nodes j b') ∙ h j b'))
 
-  pub differ_not : (i : ℕ) → i < length nodes → (get_or s (number_of (get_or nodes i [])) 0 ≡ i → ⊥) → false
+  pub differ_not : (i : ℕ) → i < length nodes → (get_or s (number_of (get_or nodes i no_entry)) 0 ≡ i → ⊥) → false
       ≡ differing (all_numbers nodes)
   differ_not i lt ne = by_test (differing (all_numbers nodes))
-      (λ t. absurd (ne (r.indexed.at _ i (last_is (all_numbers nodes) (number_of (get_or nodes i [])) i t
+      (λ t. absurd (ne (r.indexed.at _ i (last_is (all_numbers nodes) (number_of (get_or nodes i no_entry)) i t
       (record { inside = omega (arith, long); number = number_in nodes i lt })))))
       (λ f. sym f)
 
   -- what a test of each node with its place says
   pub differ_told : list_all (leads_back s) (enumerate_from 0 nodes) ≡ differing (all_numbers nodes)
   differ_told = by_test (list_all (leads_back s) (enumerate_from 0 nodes))
-      (λ t. t ∙ differ_all (λ j lt. eqb-true _ _ (each_place (leads_back s) [] nodes 0 t j lt) ∙ zero-add j))
-      (λ f. let x = some_place (leads_back s) [] nodes 0 f in f
+      (λ t. t ∙ differ_all (λ j lt. eqb-true _ _ (each_place (leads_back s) no_entry nodes 0 t j lt) ∙ zero-add j))
+      (λ f. let x = some_place (leads_back s) no_entry nodes 0 f in f
       ∙ differ_not x.0 x.1 (λ q. eqb-false _ _ x.2 (q ∙ sym (zero-add x.0))))
 
 -- for the function that makes the index

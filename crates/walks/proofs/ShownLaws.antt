@@ -4,7 +4,7 @@ use native.Mathlib.Omega.{arith}
 use native.Mathlib.Nat.{min-eq_left, min-eq_right, min-le_right, le-min}
 use mathlib.Core.Path.{◌≡◌, refl, ap, sym, ◌∙◌}
 use mathlib.Core.Bool.{false, cond}
-use mathlib.Core.List.{List, [], map}
+use mathlib.Core.List.{List, map}
 use mathlib.Core.Option.{Option, none, some}
 use lib.Dec.{ltb}
 use lib.ListN.{length, get_or, get_elem?, take, drop, length-map, length-drop, length-take}
@@ -15,17 +15,19 @@ use Rattle.std.specs.declared.option.Option as std
 use Rattle.cells.specs.Memory.{Memory, over_limit, nodes_causes}
 use Rattle.cells.specs.Edit.{junction_entry}
 use Rattle.cells.proofs.Editing.EditLaws.{entry_held}
-use Rattle.cells.specs.NodeWords.{area_of, number_of, link_start, link_count, value_start, value_count}
-use Rattle.cells.specs.Cell.{Link, Node, Cell, node_at, first_of}
-use Rattle.cells.specs.CellOf.{link_of, junction_with, nodes_of, junctions_of, refs_of, cell_of}
+use Rattle.cells.specs.Nodes.{no_entry, no_map, value_count}
+use Rattle.cells.specs.declared.node_entry.NodeEntry.{NodeEntry}
+use Rattle.cells.specs.Cell.{Node, Cell, node_at, first_of}
+use Rattle.cells.specs.declared.link.PathLink.{PathLink}
+use Rattle.cells.specs.CellOf.{junction_with, nodes_of, junctions_of, refs_of, cell_of}
 use Rattle.cells.specs.Lookup.{ref_of, junction_at, junction_of}
 use Rattle.cells.specs.LookupCall.{place_of, ref_in, below, junction_of_call}
 use Rattle.cells.proofs.Sequences.Tests.{by_test}
 use Rattle.cells.proofs.Lookups.LookupLaws.{area_held}
-use Rattle.walks.specs.Walk.{see, link_at, body_of}
+use Rattle.walks.specs.Walk.{see, link_at, seen_link, shown_of}
 use Rattle.walks.specs.Shown.{seen_by, inside, junction_place, seen_node, shown_node, seen_junction}
 use Rattle.walks.specs.Shown.{shown_junction, values_at}
-use Rattle.walks.specs.Shown.{seen_link, or_no_link, shown_link}
+use Rattle.walks.specs.Shown.{or_no_link, shown_link}
 use Rattle.walks.specs.Parts.{chosen}
 use Rattle.walks.specs.ShownParts.{seen_of}
 use Rattle.walks.specs.declared.shown.SeenNode.{SeenNode}
@@ -80,7 +82,7 @@ module _ (m : Memory) (p : ℕ) where
 
   module _ (b : ℕ) where
     abbrev link_then : Result (std.Option SeenLink) Refusal
-    link_then = or_no_link (body_of (link_at (cell_of m).nodes p b))
+    link_then = or_no_link (shown_of (link_at (cell_of m).nodes p b))
 
     pub link_asked : done ≡ decided causes → link_then ≡ shown_link m p b
     unfolding shown_link
@@ -110,8 +112,8 @@ module _ (m : Memory) where
   abbrev l : ℕ
   l = m.ynd.link_count
 
-  abbrev pool : List Link
-  pool = map link_of (take l m.links)
+  abbrev pool : List PathLink
+  pool = take l m.links
 
   junctions_long : m.ynd.junction_count ≤ length m.junctions → length (junctions_of m) ≡ m.ynd.junction_count
   unfolding junctions_of
@@ -131,11 +133,11 @@ module _ (m : Memory) where
         go (some j) = by_test (ltb j m.ynd.junction_count) (λ t. rw t) (λ f. rw f)
 
     module _ (p : ℕ) (lt : p < n) where
-      abbrev w : List ℕ
-      w = get_or m.nodes p []
+      abbrev w : NodeEntry
+      w = get_or m.nodes p no_entry
 
-      held_long : min (link_count w) (l - link_start w) ≡ length (take (link_count w) (drop (link_start w) pool))
-      held_long = sym (rw (length-take, length-drop, length-map, length-take-le l m.links links))
+      held_long : min w.link_count (l - w.link_id) ≡ length (take w.link_count (drop w.link_id pool))
+      held_long = sym (rw (length-take, length-drop, length-take-le l m.links links))
 
       -- by the node's own fields
       abbrev seen_as : Node → SeenNode
@@ -145,21 +147,21 @@ module _ (m : Memory) where
       unfolding seen_node see cell_of
       seen_fields = refl
 
-      seen_words : (count : ℕ) (j : std.Option ℕ) → count ≡ min (link_count w) (l - link_start w)
-          → Ok j ≡ junction_of_call m.ynd m.nodes m.refs (area_of w) (number_of w)
+      seen_words : (count : ℕ) (j : std.Option ℕ) → count ≡ min w.link_count (l - w.link_id)
+          → Ok j ≡ junction_of_call m.ynd m.nodes m.refs w.area_id w.node_id
           → seen_of w count j ≡ seen_node (cell_of m) p
       unfolding seen_of
       seen_words count j ec ej =
-          let ec' : count ≡ length (take (link_count w) (drop (link_start w) pool)) = ec ∙ held_long in
-          let ej'' : Ok j ≡ Ok (place_of (junction_place (cell_of m) (area_of w) (number_of w))) = ej
-          ∙ junction_place_law (area_of w) (number_of w) in
-          let ej' : j ≡ place_of (junction_place (cell_of m) (area_of w) (number_of w)) = cc in
+          let ec' : count ≡ length (take w.link_count (drop w.link_id pool)) = ec ∙ held_long in
+          let ej'' : Ok j ≡ Ok (place_of (junction_place (cell_of m) w.area_id w.node_id)) = ej
+          ∙ junction_place_law w.area_id w.node_id in
+          let ej' : j ≡ place_of (junction_place (cell_of m) w.area_id w.node_id) = cc in
           (λ i. seen_of w (ec' i) (ej' i)) ∙ ap seen_as (sym (node_in m nodes p lt)) ∙ sym seen_fields
 
       pub node_answered : done ≡ decided (place_causes m.ynd (length m.nodes) (length m.links) p)
           → (r : SeenNode) (count : ℕ) (j : std.Option ℕ) → r ≡ seen_of w count j → count
-          ≡ min (link_count w) (l - link_start w)
-          → Ok j ≡ junction_of_call m.ynd m.nodes m.refs (area_of w) (number_of w) → Ok r ≡ shown_node m p
+          ≡ min w.link_count (l - w.link_id)
+          → Ok j ≡ junction_of_call m.ynd m.nodes m.refs w.area_id w.node_id → Ok r ≡ shown_node m p
       node_answered asked r count j er ec ej =
           ap Ok (er ∙ seen_words count j ec ej)
           ∙ (rw (le-ltb _ _ junctions, le-ltb _ _ refs) at (node_asked m p asked))
@@ -174,16 +176,17 @@ module _ (m : Memory) where
     many = m.ynd.junction_count
 
     junction_at_law : (i : ℕ) → i < many → i < length m.junctions → get_elem? (cell_of m).junctions i
-        ≡ some (junction_with values (get_or m.junctions i []))
+        ≡ some (junction_with values (get_or m.junctions i no_map))
     unfolding cell_of junctions_of
     junction_at_law i lt h =
         let long : i < length (take many m.junctions) = rw length-take (le-min lt h) in
-        elem_at (map (junction_with values) (take many m.junctions)) i (junction_with values []) (rw length-map long)
-        ∙ ap some (get_or-map (junction_with values) (take many m.junctions) i [] (junction_with values []) long
-        ∙ ap (junction_with values) (get_or-take many m.junctions i [] lt))
+        elem_at (map (junction_with values) (take many m.junctions)) i (junction_with values no_map)
+        (rw length-map long)
+        ∙ ap some (get_or-map (junction_with values) (take many m.junctions) i no_map (junction_with values no_map) long
+        ∙ ap (junction_with values) (get_or-take many m.junctions i no_map lt))
 
     pub junction_answered : (i : ℕ) → Ok i ≡ junction_entry m.ynd m.junctions p → (r : SeenJunction)
-        → ((hs : List ℕ) → r ≡ seen_junction (junction_with hs (get_or m.junctions i []))) → Ok r
+        → ((hs : List ℕ) → r ≡ seen_junction (junction_with hs (get_or m.junctions i no_map))) → Ok r
         ≡ shown_junction m p
     unfolding shown_junction
     junction_answered i e r at =
@@ -193,8 +196,8 @@ module _ (m : Memory) where
     -- ---- its values
 
     pub values_answered : p < many → p < length m.junctions → (start count : ℕ) → start
-        ≡ value_start (get_or m.junctions p [])
-        → count ≡ value_count (get_or m.junctions p []) → take count (drop start values) ≡ values_at m p
+        ≡ (get_or m.junctions p no_map).heightmap_ptr
+        → count ≡ value_count (get_or m.junctions p no_map) → take count (drop start values) ≡ values_at m p
     unfolding values_at
     values_answered lt h start count es ec = rw (junction_at_law p lt h) (λ i. take (ec i) (drop (es i) values))
 
@@ -202,35 +205,35 @@ module _ (m : Memory) where
 
     module _ (b : ℕ) (lt : p < n) (asked : done ≡ decided (place_causes m.ynd (length m.nodes) (length m.links) p))
       where
-        by_link : (o : Option Link) → link_at (nodes_of m) p b ≡ o → or_no_link (body_of o) ≡ shown_link m p b
+        by_link : (o : Option PathLink) → link_at (nodes_of m) p b ≡ o → or_no_link (shown_of o) ≡ shown_link m p b
         unfolding cell_of
-        by_link o e = ap (λ (x : Option Link). or_no_link (body_of x)) (sym e) ∙ link_asked m p b asked
+        by_link o e = ap (λ (x : Option PathLink). or_no_link (shown_of x)) (sym e) ∙ link_asked m p b asked
 
-        abbrev found : std.Option (List ℕ)
-        found = chosen (take l m.links) (get_or m.nodes p []) b
+        abbrev found : std.Option PathLink
+        found = chosen (take l m.links) (get_or m.nodes p no_entry) b
 
-        abbrev pub shown_for : std.Option (List ℕ) → std.Option SeenLink
-        shown_for (Some w) = Some (seen_link (link_of w).body)
+        abbrev pub shown_for : std.Option PathLink → std.Option SeenLink
+        shown_for (Some l) = Some (seen_link l)
         shown_for None = None
 
-        for_linked : (o : std.Option (List ℕ)) → Ok (shown_for o) ≡ or_no_link (body_of (linked o))
+        for_linked : (o : std.Option PathLink) → Ok (shown_for o) ≡ or_no_link (shown_of (linked o))
         for_linked (Some w) = refl
         for_linked None = refl
 
         pub link_answered : (o : std.Option SeenLink) → o ≡ shown_for found → Ok o ≡ shown_link m p b
         link_answered o e =
             let at : link_at (nodes_of m) p b ≡ linked found =
-            link_found m p b ∙ ap (λ (w : List ℕ). linked (chosen (take l m.links) w b))
-            (get_or-take n m.nodes p [] lt) in
+            link_found m p b ∙ ap (λ (w : NodeEntry). linked (chosen (take l m.links) w b))
+            (get_or-take n m.nodes p no_entry lt) in
             ap Ok e ∙ for_linked found ∙ by_link (linked found) at
 
         pub link_said : (o : std.Option SeenLink)
-            → MatchOption found (o ≡ None) (λ w. IsSomeAnd o (λ r. r ≡ seen_link (link_of w).body)) → o
+            → MatchOption found (o ≡ None) (λ w. IsSomeAnd o (λ r. r ≡ seen_link w)) → o
             ≡ shown_for found
         link_said o h = go found o h
           where
-            go : (f : std.Option (List ℕ)) (o : std.Option SeenLink)
-                → MatchOption f (o ≡ None) (λ w. IsSomeAnd o (λ r. r ≡ seen_link (link_of w).body)) → o ≡ shown_for f
+            go : (f : std.Option PathLink) (o : std.Option SeenLink)
+                → MatchOption f (o ≡ None) (λ w. IsSomeAnd o (λ r. r ≡ seen_link w)) → o ≡ shown_for f
             go None o h = h
             go (Some w) (Some r) h = ap Some h
             go (Some w) None h = absurd h

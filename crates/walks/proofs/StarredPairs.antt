@@ -17,19 +17,37 @@ use Rattle.cells.specs.Renumber.{Renumbered, renumber}
 use Rattle.cells.specs.Blocks.{written}
 use Rattle.cells.specs.Write.{refuse, held, write_call}
 use Rattle.cells.specs.declared.ynd.Ynd.{Ynd}
+use Rattle.cells.specs.Nodes.{no_entry}
+use Rattle.cells.specs.declared.node_entry.NodeEntry.{NodeEntry}
+use Rattle.cells.specs.declared.link.PathLink.{PathLink}
+use Rattle.records.specs.declared.junction_ref.NodeJunctionRef.{NodeJunctionRef}
 use Rattle.cells.proofs.Worked.Pairs as renumbering
 use Rattle.cells.proofs.Worked.WritePairs.{one_node, links_31, links_32, bare_node, bare_address}
 use Rattle.std.specs.Prelude.{Ok}
 use Rattle.numbers.specs.declared.refusal.Refusal.TheVariants.{TooManyLinks}
 
--- a node of area 1177 with this number, these flags1 and five unused words from `tag` on; a link or ref
-abbrev node : ℕ → ℕ → ℕ → List ℕ
+-- a node of area 1177 with this number, these flags1 and five unused fields from `tag` on; a link; a ref
+abbrev node : ℕ → ℕ → ℕ → NodeEntry
 node k flags1 tag =
-    (1177 + k * 65536) ∷ 1 ∷ 2 ∷ 3 ∷ 4 ∷ (flags1 * 256) ∷ 6 ∷ 7
-    ∷ tag ∷ (tag + 1) ∷ (tag + 2) ∷ (tag + 3) ∷ (tag + 4) ∷ []
+    record no_entry {
+      area_id = 1177;
+      node_id = k;
+      street_name = 1;
+      flags1 = flags1;
+      flags3 = 6;
+      link_id = 7;
+      unused0 = tag;
+      unused1 = tag + 1;
+      unused2 = tag + 2;
+      unused3 = tag + 3;
+      unused4 = tag + 4;
+    }
 
-abbrev link : ℕ → ℕ → List ℕ
-link area k = area ∷ k ∷ 5 ∷ 6 ∷ []
+abbrev link : ℕ → ℕ → PathLink
+link area k = record { area_id = area; node_id = k; flags0 = 5; flags1 = 0; flags2 = 6; length = 0 }
+
+abbrev ref : ℕ → ℕ → NodeJunctionRef
+ref area k = record { area_id = area; node_id = k; junction_id = 5; unk0 = 6 }
 
 -- nodes numbered 7, 3 (ped) and 9, with four links and a ref; each list has one entry more than is counted
 abbrev cell : Ynd
@@ -48,7 +66,7 @@ cell = record {
 abbrev three : Memory
 three =
     memory cell (node 7 0 10 ∷ node 3 80 20 ∷ node 9 0 30 ∷ node 5 0 40 ∷ [])
-    (link 1177 3 ∷ link 1177 9 ∷ link 1178 9 ∷ link 1177 5 ∷ link 1177 7 ∷ []) [] [] (link 1177 7 ∷ link 1177 3 ∷ [])
+    (link 1177 3 ∷ link 1177 9 ∷ link 1178 9 ∷ link 1177 5 ∷ link 1177 7 ∷ []) [] [] (ref 1177 7 ∷ ref 1177 3 ∷ [])
 
 abbrev renumbered : Renumbered
 renumbered = renumber three 65536 (50 ∷ 51 ∷ 52 ∷ 53 ∷ [])

@@ -19,11 +19,13 @@ use Rattle.std.proofs.lemmas.List.{get_or_past}
 use Rattle.cells.proofs.Sequences.Tests.{and_left, by_test}
 use Rattle.cells.proofs.Forms.Limits.{within as limits}
 use Rattle.cells.specs.Memory.{Memory, over_limit, nodes_causes}
-use Rattle.cells.specs.NodeWords.{first_area, link_start, link_count}
+use Rattle.cells.specs.Nodes.{first_area, no_entry}
+use Rattle.cells.specs.declared.node_entry.NodeEntry.{NodeEntry}
 use Rattle.cells.proofs.Lookups.LookupLaws.{area_held}
 use Rattle.cells.specs.Area.{belongs}
-use Rattle.cells.specs.Cell.{Link, Node, no_node, node_at, numbers}
-use Rattle.cells.specs.CellOf.{link_of, node_with, nodes_of, cell_of}
+use Rattle.cells.specs.Cell.{Node, no_node, node_at, numbers}
+use Rattle.cells.specs.declared.link.PathLink.{PathLink}
+use Rattle.cells.specs.CellOf.{node_with, nodes_of, cell_of}
 use Rattle.cells.specs.Lookup.{find, first_with, or_later}
 use Rattle.cells.specs.LookupCall.{Place, numbers_in, place_of, find_in, node_call}
 use Rattle.walks.specs.Parts.{chosen, number_led, own_number}
@@ -63,9 +65,8 @@ module _ {A : Type 0} where
   elem_take_past (suc n) (x ∷ xs) zero h = absurd (omega arith)
   elem_take_past (suc n) (x ∷ xs) (suc i) h = elem_take_past n xs i (omega arith)
 
--- the link that these words are, if there are any
-abbrev pub linked : std.Option (List ℕ) → Option Link
-linked (Some w) = some (link_of w)
+abbrev pub linked : {A : Type 0} → std.Option A → Option A
+linked (Some l) = some l
 linked None = none
 
 -- ---- a number that is found is a place
@@ -96,19 +97,19 @@ range_at c s b l = by_test (ltb b c)
     (λ t. elem_take c (drop s l) b (ltb-true _ _ t) ∙ elem_drop s l b ∙ rw t)
     (λ f. elem_take_past c (drop s l) b (ltb-false _ _ f) ∙ rw f)
 
-elem_is : (ls : List (List ℕ)) (i : ℕ) → get_elem? (map link_of ls) i ≡ linked (slice_get ls i)
+elem_is : {A : Type 0} (l : List A) (i : ℕ) → get_elem? l i ≡ linked (slice_get l i)
 elem_is [] i = refl
 elem_is (x ∷ xs) zero = refl
 elem_is (x ∷ xs) (suc i) = elem_is xs i
 
-chosen_is : (ls : List (List ℕ)) (w : List ℕ) (b : ℕ)
-    → get_elem? (take (link_count w) (drop (link_start w) (map link_of ls))) b ≡ linked (chosen ls w b)
+chosen_is : (ls : List PathLink) (n : NodeEntry) (b : ℕ)
+    → get_elem? (take n.link_count (drop n.link_id ls)) b ≡ linked (chosen ls n b)
 unfolding chosen
-chosen_is ls w b =
-    range_at (link_count w) (link_start w) b (map link_of ls)
-    ∙ rw (elem_is ls (link_start w + b)) (go (ltb b (link_count w)) (slice_get ls (link_start w + b)))
+chosen_is ls n b =
+    range_at n.link_count n.link_id b ls
+    ∙ rw (elem_is ls (n.link_id + b)) (go (ltb b n.link_count) (slice_get ls (n.link_id + b)))
   where
-    go : (t : Bool) (o : std.Option (List ℕ)) → cond t (linked o) none ≡ linked (cond t o None)
+    go : (t : Bool) (o : std.Option PathLink) → cond t (linked o) none ≡ linked (cond t o None)
     go true o = refl
     go false o = refl
 
@@ -119,34 +120,35 @@ module _ (m : Memory) where
   abbrev l : ℕ
   l = m.ynd.link_count
 
-  abbrev pool : List Link
-  pool = map link_of (take l m.links)
+  abbrev pool : List PathLink
+  pool = take l m.links
 
   -- the words of the node at a place, none beyond the count
-  abbrev pub words : ℕ → List ℕ
-  words p = get_or (take n m.nodes) p []
+  abbrev pub words : ℕ → NodeEntry
+  words p = get_or (take n m.nodes) p no_entry
 
   -- the node at a place, by its words
-  pub node_in : n ≤ length m.nodes → (p : ℕ) → p < n → node_at (nodes_of m) p ≡ node_with pool (get_or m.nodes p [])
+  pub node_in : n ≤ length m.nodes → (p : ℕ) → p < n → node_at (nodes_of m) p
+      ≡ node_with pool (get_or m.nodes p no_entry)
   unfolding nodes_of
   node_in fits p lt =
-      get_or-map (node_with pool) (take n m.nodes) p [] no_node (omega (arith, length-take-le n m.nodes fits))
-      ∙ ap (node_with pool) (get_or-take n m.nodes p [] lt)
+      get_or-map (node_with pool) (take n m.nodes) p no_entry no_node (omega (arith, length-take-le n m.nodes fits))
+      ∙ ap (node_with pool) (get_or-take n m.nodes p no_entry lt)
 
-  links_in : (p : ℕ) → (node_at (nodes_of m) p).links ≡ take (link_count (words p)) (drop (link_start (words p)) pool)
+  links_in : (p : ℕ) → (node_at (nodes_of m) p).links ≡ take (words p).link_count (drop (words p).link_id pool)
   unfolding nodes_of no_node
   links_in p = ⊎_elim
-      (λ lt. ap (λ (x : Node). x.links) (get_or-map (node_with pool) (take n m.nodes) p [] no_node lt))
+      (λ lt. ap (λ (x : Node). x.links) (get_or-map (node_with pool) (take n m.nodes) p no_entry no_node lt))
       (λ le. rw (
         get_or_past (map (node_with pool) (take n m.nodes)) p no_node
             (omega (arith, length-map (take n m.nodes) (node_with pool), le)),
-        get_or_past (take n m.nodes) p [] le,
+        get_or_past (take n m.nodes) p no_entry le,
       ) refl)
       (cases_lt p (length (take n m.nodes)))
 
   -- what a choice finds, whatever the lists
   pub link_found : (p b : ℕ) → link_at (nodes_of m) p b ≡ linked (chosen (take l m.links) (words p) b)
-  link_found p b = ap (λ (ls : List Link). get_elem? ls b) (links_in p) ∙ chosen_is (take l m.links) (words p) b
+  link_found p b = ap (λ (ls : List PathLink). get_elem? ls b) (links_in p) ∙ chosen_is (take l m.links) (words p) b
 
   module _ (p b : ℕ) where
     -- on to the number named, or the end
@@ -164,11 +166,11 @@ module _ (m : Memory) where
         leads_on true a k = refl
         leads_on false a k = refl
 
-        go : (o : std.Option (List ℕ)) → to_number (number_led (first_area (take n m.nodes)) o)
+        go : (o : std.Option PathLink) → to_number (number_led (first_area (take n m.nodes)) o)
             ≡ step_of (take_link (nodes_of m) (linked o))
         go None = refl
-        go (Some w) = rw (area_held m)
-            (leads_on (belongs (first_area (take n m.nodes)) (get_or w 0 0)) (get_or w 0 0) (get_or w 1 0))
+        go (Some l) = rw (area_held m)
+            (leads_on (belongs (first_area (take n m.nodes)) l.area_id) l.area_id l.node_id)
 
     -- the walk ends there
     pub next_end : {o : Result ℕ End} → o ≡ own_number (take n m.nodes) (take l m.links) p b → (e : End) → o ≡ Err e

@@ -4,7 +4,7 @@ use Prim.Native.Nat.{ℕ, ◌≤◌, ◌<◌}
 use native.Mathlib.Omega.{arith}
 use mathlib.Core.Path.{◌≡◌, refl, sym, ap, ◌∙◌}
 use mathlib.Core.Bool.{Bool, true, false, cond}
-use mathlib.Core.List.{List, [], ◌∷◌, map}
+use mathlib.Core.List.{List, [], ◌∷◌}
 use lib.Dec.{ltb}
 use lib.ListN.{length, take, drop, length-append, length-map}
 use lib.Seq.{length-take-le}
@@ -13,11 +13,12 @@ use Rattle.cells.specs.Lists.{up_to, join_to}
 use Rattle.cells.specs.Memory.{Memory, over_limit, short}
 use Rattle.cells.specs.Checks.{counts_of, links_at}
 use Rattle.cells.specs.Read.{node_in, links_in, filled, cell_read, read_of}
-use Rattle.cells.specs.CellOf.{link_of, node_with, nodes_of, cell_of}
+use Rattle.cells.specs.CellOf.{node_with, nodes_of, cell_of}
 use Rattle.walks.specs.WalkCall.{Route, route, WalkLeft, walk_call}
 use Rattle.walks.specs.declared.walk.End.{End}
 use Rattle.walks.specs.declared.walk.Walked.{Walked}
-use Rattle.cells.specs.NodeWords.{reordered, old_of}
+use Rattle.cells.specs.Nodes.{reordered, old_of}
+use Rattle.cells.specs.declared.node_entry.NodeEntry.{NodeEntry}
 use Rattle.cells.specs.Renumber.{renumber_lists, recounted, answer_of, renumber_memory, new_lists, left_by, renumber}
 use Rattle.walks.specs.Calls.{Call, renumbering, write_read, after, run}
 use Rattle.cells.specs.WriteRead.{if_read, if_written, write_read_of}
@@ -43,7 +44,7 @@ pub record Lies (m : Memory) : Type 0 where
 pub nodes_long : (m : Memory) → Lies m → length (cell_of m).nodes ≡ m.ynd.node_count
 unfolding cell_of nodes_of
 nodes_long m h =
-    length-map (take m.ynd.node_count m.nodes) (node_with (map link_of (take m.ynd.link_count m.links)))
+    length-map (take m.ynd.node_count m.nodes) (node_with (take m.ynd.link_count m.links))
     ∙ length-take-le m.ynd.node_count m.nodes h.nodes_lie
 
 -- what a call leaves whose walk is the route r: 7 at 8 if the visited list is too short for its places
@@ -128,7 +129,7 @@ renumber_lies m ps s h = go (answer_of (over_limit m.ynd) m.ynd.node_count (shor
     l : ℕ
     l = m.ynd.link_count
 
-    ns : List (List ℕ)
+    ns : List NodeEntry
     ns = take n m.nodes
 
     go : (a : Answer) → Lies (left_by a m ps).memory

@@ -3,11 +3,12 @@ use Rattle.std.specs.Prelude.{ℕ, ◌-◌, ◌<◌, ◌≡◌, true, List, map,
 use Rattle.std.proofs.Math.Option.{Option}
 use Rattle.cells.specs.Memory.{Memory}
 use Rattle.cells.specs.Read.{read_of}
-use Rattle.cells.specs.Cell.{LinkBody, Cell, node_at}
+use Rattle.cells.specs.Cell.{Cell, node_at}
 use Rattle.cells.specs.CellOf.{cell_of}
 use Rattle.cells.specs.FileCell.{file_cell}
 use Rattle.walks.specs.Sound.{sound}
 use Rattle.walks.specs.Walk.{Seen, Visit, Trail, walk}
+use Rattle.walks.specs.declared.shown.SeenLink.{SeenLink}
 use Rattle.walks.specs.WalkCall.{walk_call}
 use Rattle.walks.specs.Calls.{Call, run, moved, any_renumbers}
 use Rattle.std.specs.Prelude.{Ok}
@@ -24,11 +25,11 @@ use Rattle.std.specs.Prelude.{Ok}
 -- What a walk shows at a place, whatever kind of places there are. Of the node: area, street, position bits, flags0 to
 -- flags5, the five unused fields (T-10), link count and junction, whole. Of the link chosen there: its three flags and
 -- its length.
-abbrev pub shown_at : {L : Type 0} → Visit L → Seen × Option LinkBody
+abbrev pub shown_at : {L : Type 0} → Visit L → Seen × Option SeenLink
 shown_at v = (v.seen, v.link)
 
 -- All that it shows, in order.
-abbrev pub shown : {L : Type 0} → Trail L → List (Seen × Option LinkBody)
+abbrev pub shown : {L : Type 0} → Trail L → List (Seen × Option SeenLink)
 shown t = map shown_at t.visits
 
 -- The places visited, in order, the start first; and how many links were followed.

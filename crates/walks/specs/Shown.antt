@@ -8,11 +8,12 @@ use Rattle.std.proofs.Math.ListN.{get_elem?}
 use Rattle.records.specs.Put.{put}
 use Rattle.cells.specs.Edit.{junction_entry}
 use Rattle.cells.specs.Memory.{Memory, over_limit}
-use Rattle.cells.specs.Cell.{LinkBody, NodeBody, Junction, Cell, node_at, first_of}
+use Rattle.cells.specs.declared.node_entry.NodeEntry.{NodeEntry}
+use Rattle.cells.specs.Cell.{Junction, Cell, node_at, first_of}
 use Rattle.cells.specs.CellOf.{cell_of}
 use Rattle.cells.specs.Lookup.{ref_of}
 use Rattle.cells.specs.LookupCall.{place_of}
-use Rattle.walks.specs.Walk.{link_at, see, body_of}
+use Rattle.walks.specs.Walk.{link_at, see, shown_of}
 use Rattle.walks.specs.declared.shown.SeenNode.{SeenNode}
 use Rattle.walks.specs.declared.shown.SeenJunction.{SeenJunction}
 use Rattle.walks.specs.declared.shown.SeenLink.{SeenLink}
@@ -33,22 +34,9 @@ unfoldable pub junction_place : Cell → ℕ → ℕ → Found ℕ
 junction_place c a k = inside (length c.junctions) (ref_of (first_of c.nodes) c.refs a k)
 
 -- what is shown of a node of this area and body, with so many links and its junction at a place
-abbrev pub seen_by : ℕ → NodeBody → ℕ → Option ℕ → SeenNode
+abbrev pub seen_by : ℕ → NodeEntry → ℕ → Option ℕ → SeenNode
 seen_by area b count junction = record {
-  area_id = area;
-  street_name = b.marks.street;
-  position = record { x = b.position.x; y = b.position.y; z = b.position.z };
-  flags0 = b.marks.flags0;
-  flags1 = b.marks.flags1;
-  flags2 = b.marks.flags2;
-  flags3 = b.marks.flags3;
-  flags4 = b.marks.flags4;
-  flags5 = b.marks.flags5;
-  unused0 = b.marks.unused0;
-  unused1 = b.marks.unused1;
-  unused2 = b.marks.unused2;
-  unused3 = b.marks.unused3;
-  unused4 = b.marks.unused4;
+  node = record b { area_id = area };
   link_count = count;
   junction = junction;
 }
@@ -71,7 +59,14 @@ shown_node m p =
 -- ---- a junction: corner and heights by their bits, width and height; and its heightmap values
 
 abbrev pub seen_junction : Junction → SeenJunction
-seen_junction j = record { x = j.x; y = j.y; min_z = j.low; max_z = j.high; width = j.width; height = j.height }
+seen_junction j = record {
+  x = j.x;
+  y = j.y;
+  min_z = j.low;
+  max_z = j.high;
+  width = j.width;
+  height = j.height;
+}
 
 abbrev pub or_none : Found Junction → Result SeenJunction Refusal
 or_none (some j) = Ok (seen_junction j)
@@ -115,11 +110,8 @@ shown_values m p old =
 
 -- ---- the link chosen by the byte b at place p
 
-abbrev pub seen_link : LinkBody → SeenLink
-seen_link l = record { flags0 = l.flags0; flags1 = l.flags1; flags2 = l.flags2; length = l.len }
-
-abbrev pub or_no_link : Found LinkBody → Result (Option SeenLink) Refusal
-or_no_link (some l) = Ok (Some (seen_link l))
+abbrev pub or_no_link : Found SeenLink → Result (Option SeenLink) Refusal
+or_no_link (some l) = Ok (Some l)
 or_no_link none = Ok None
 
 unfoldable pub shown_link : Memory → ℕ → ℕ → Result (Option SeenLink) Refusal
@@ -128,4 +120,4 @@ shown_link m p b =
     (cond (over_limit m.ynd) (Err AtLimit)
     (cond (ltb (length m.nodes) m.ynd.node_count) (Err (TooShort lent.Nodes))
     (cond (ltb (length m.links) m.ynd.link_count) (Err (TooShort lent.Links))
-    (or_no_link (body_of (link_at (cell_of m).nodes p b))))))
+    (or_no_link (shown_of (link_at (cell_of m).nodes p b))))))

@@ -2,18 +2,20 @@
 use Rattle.std.specs.Prelude.{ℕ, Bool, true, false, not, ◌&&◌, ◌||◌, List, [], ◌∷◌, eqb}
 use Rattle.cells.specs.Lists.{every}
 use Rattle.cells.specs.Area.{belongs}
-use Rattle.cells.specs.Cell.{Link, Node, Ref, Cell, numbers, first_of}
+use Rattle.cells.specs.Cell.{Node, Cell, numbers, first_of}
+use Rattle.cells.specs.declared.link.PathLink.{PathLink}
+use Rattle.records.specs.declared.junction_ref.NodeJunctionRef.{NodeJunctionRef}
 use Rattle.cells.specs.Lookup.{first_with, is_some}
 
 -- Section 5: a link or ref to the number k of the area a, if it is an own one, names a node.
 abbrev pub named : List Node → ℕ → ℕ → Bool
 named ns a k = not (belongs (first_of ns) a) || is_some (first_with (numbers ns) k)
 
-abbrev pub link_named : List Node → Link → Bool
-link_named ns l = named ns l.area l.number
+abbrev pub link_named : List Node → PathLink → Bool
+link_named ns l = named ns l.area_id l.node_id
 
-abbrev pub ref_named : List Node → Ref → Bool
-ref_named ns r = named ns r.area r.number
+abbrev pub ref_named : List Node → NodeJunctionRef → Bool
+ref_named ns r = named ns r.area_id r.node_id
 
 -- Section 5: numbers differ.
 unfoldable pub differing : List ℕ → Bool

@@ -8,6 +8,8 @@ use Rattle.numbers.specs.declared.refusal.Lent.TheVariants as lists
 use Rattle.cells.specs.Memory.{Memory, memory}
 use Rattle.cells.specs.CellOf.{cell_of}
 use Rattle.cells.specs.declared.ynd.Ynd.{Ynd}
+use Rattle.cells.specs.declared.node_entry.NodeEntry.{NodeEntry}
+use Rattle.cells.specs.declared.link.PathLink.{PathLink}
 use Rattle.walks.specs.Walk.{Next, to, stop, World, Trail, world_of}
 use Rattle.walks.specs.Claim.{places}
 use Rattle.walks.specs.declared.walk.End.{End}
@@ -21,11 +23,11 @@ step_of (to q) = Ok q
 step_of (stop e) = Err e
 
 -- what a walk is lent; it looks at no other list
-abbrev pub lent : Ynd → List (List ℕ) → List (List ℕ) → Memory
+abbrev pub lent : Ynd → List NodeEntry → List PathLink → Memory
 lent y nodes links = memory y nodes links [] [] []
 
 -- the world of a walk in it
-abbrev pub lent_world : Ynd → List (List ℕ) → List (List ℕ) → World ℕ
+abbrev pub lent_world : Ynd → List NodeEntry → List PathLink → World ℕ
 lent_world y nodes links = world_of (cell_of (lent y nodes links))
 
 -- ---- the places visited, in a list

@@ -1,49 +1,33 @@
 // What a walk shows: of a node, of a junction with its heightmap values, of the link chosen.
 ghost use Rattle.std.specs.Prelude.{◌≡◌, List, ℕ, ◌<◌, ◌≤◌, length};
 ghost use Rattle.cells.specs.Memory.{memory};
-ghost use Rattle.cells.specs.CellOf.{link_of, junction_with};
+ghost use Rattle.cells.specs.CellOf.{junction_with};
+ghost use Rattle.cells.specs.declared.node_entry.NodeEntry.{NodeEntry};
+ghost use Rattle.cells.specs.declared.link.PathLink.{PathLink};
+ghost use Rattle.records.specs.declared.junction_ref.NodeJunctionRef.{NodeJunctionRef};
 ghost use Rattle.walks.specs.Shown.{shown_node, seen_junction, shown_junction, values_at, values_left, shown_values};
-ghost use Rattle.walks.specs.Shown.{seen_link, shown_link};
+ghost use Rattle.walks.specs.Shown.{shown_link};
+ghost use Rattle.walks.specs.Walk.{seen_link};
 ghost use Rattle.walks.specs.ShownParts.{seen_of};
 
 use crate::part::link_at;
 use crate::place::check_place;
 use cells::entry::junction_entry;
-use cells::junction::JunctionWords;
-use cells::link::{LinkWords, PathLink};
+use cells::junction_entry::JunctionEntry;
+use cells::link::PathLink;
 use cells::lookup::junction_of;
-use cells::node::{NodeWords, PathNode};
-use cells::node_words::{area_of, number_of};
-use cells::range::{cut, link_count, link_start, part, value_count, value_start};
+use cells::node_entry::NodeEntry;
+use cells::range::{cut, part, value_count};
 use cells::room::over_limit;
 use cells::ynd::Ynd;
 use numbers::refusal::{Lent, Refusal};
+use records::junction_ref::NodeJunctionRef;
 
-// The bits of three f32.
-#[derive(Clone, Copy)]
-pub struct PositionBits {
-    pub x: u32,
-    pub y: u32,
-    pub z: u32,
-}
-
-// `junction` is the place of the node's junction.
+// `node` is the node's entry with number and range of links left blank, so that a field is shown unless it is hidden
+// here; `junction` is the place of the node's junction.
 #[derive(Clone, Copy)]
 pub struct SeenNode {
-    pub area_id: u16,
-    pub street_name: u32,
-    pub position: PositionBits,
-    pub flags0: u8,
-    pub flags1: u8,
-    pub flags2: u8,
-    pub flags3: u8,
-    pub flags4: u8,
-    pub flags5: u8,
-    pub unused0: u32,
-    pub unused1: u32,
-    pub unused2: u32,
-    pub unused3: u32,
-    pub unused4: u16,
+    pub node: NodeEntry,
     pub link_count: usize,
     pub junction: Option<usize>,
 }
@@ -67,30 +51,19 @@ pub struct SeenLink {
     pub length: u8,
 }
 
-fn seen_of(w: NodeWords, count: usize, junction: Option<usize>) -> SeenNode
-    ensures { result ≡ seen_of w count junction }
+#[tactic(auto, unfolding(crate::specs::ShownParts::seen_of))]
+fn seen_of(n: &NodeEntry, count: usize, junction: Option<usize>) -> SeenNode
+    ensures { result ≡ seen_of n.now count junction }
 {
-    let n = PathNode::from(w);
-    let position = PositionBits {
-        x: w[2],
-        y: w[3],
-        z: w[4],
-    };
     SeenNode {
-        area_id: n.area_id,
-        street_name: n.street_name,
-        position,
-        flags0: n.flags0,
-        flags1: n.flags1,
-        flags2: n.flags2,
-        flags3: n.flags3,
-        flags4: n.flags4,
-        flags5: n.flags5,
-        unused0: n.unused0,
-        unused1: n.unused1,
-        unused2: n.unused2,
-        unused3: n.unused3,
-        unused4: n.unused4,
+        node: NodeEntry {
+            node_id: 0,
+            link_count: 0,
+            zero: 0,
+            link_id: 0,
+            zeros: 0,
+            ..*n
+        },
         link_count: count,
         junction,
     }
@@ -100,10 +73,10 @@ fn seen_of(w: NodeWords, count: usize, junction: Option<usize>) -> SeenNode
 #[tactic(auto, using(crate::proofs::ShownLaws::node_answered), unfolding(crate::specs::Shown::shown_node, crate::specs::PlaceCauses::place_causes, cells::specs::LookupCall::junction_of_call, cells::specs::Memory::nodes_causes))]
 pub fn shown_node(
     ynd: Ynd,
-    nodes: &[NodeWords],
-    links: &[LinkWords],
-    junctions: &[JunctionWords],
-    refs: &[LinkWords],
+    nodes: &[NodeEntry],
+    links: &[PathLink],
+    junctions: &[JunctionEntry],
+    refs: &[NodeJunctionRef],
     place: usize,
 ) -> Result<SeenNode, Refusal>
     ensures { (heights : List ℕ) → result
@@ -116,25 +89,27 @@ pub fn shown_node(
     if refs.len() < ynd.ref_count as usize {
         return Err(Refusal::TooShort(Lent::Refs));
     }
-    let w = nodes[place];
-    let start = link_start(w) as usize;
-    let count = cut(start, link_count(w) as usize, ynd.link_count as usize);
-    let junction = junction_of(ynd, nodes, refs, area_of(w), number_of(w))?;
-    Ok(seen_of(w, count, junction))
+    let n = &nodes[place];
+    let count = cut(
+        n.link_id as usize,
+        n.link_count as usize,
+        ynd.link_count as usize,
+    );
+    let junction = junction_of(ynd, nodes, refs, n.area_id, n.node_id)?;
+    Ok(seen_of(n, count, junction))
 }
 
-impl From<JunctionWords> for SeenJunction {
-    ghost from_gives = { λ w j. (heights : List ℕ) → j ≡ seen_junction (junction_with heights w) };
+impl From<JunctionEntry> for SeenJunction {
+    ghost from_gives = { λ j s. (heights : List ℕ) → s ≡ seen_junction (junction_with heights j) };
 
-    fn from(w: JunctionWords) -> SeenJunction {
-        let [width, height, _, _] = w[4].to_le_bytes();
+    fn from(j: JunctionEntry) -> SeenJunction {
         SeenJunction {
-            x: w[0],
-            y: w[1],
-            min_z: w[2],
-            max_z: w[3],
-            width,
-            height,
+            x: j.x,
+            y: j.y,
+            min_z: j.min_z,
+            max_z: j.max_z,
+            width: j.width,
+            height: j.height,
         }
     }
 }
@@ -143,10 +118,10 @@ impl From<JunctionWords> for SeenJunction {
 #[tactic(auto, unfolding(crate::specs::Shown::shown_junction))]
 pub fn shown_junction(
     ynd: Ynd,
-    junctions: &[JunctionWords],
+    junctions: &[JunctionEntry],
     place: usize,
 ) -> Result<SeenJunction, Refusal>
-    ensures { (nodes : List (List ℕ)) (links : List (List ℕ)) (heights : List ℕ) (refs : List (List ℕ))
+    ensures { (nodes : List NodeEntry) (links : List PathLink) (heights : List ℕ) (refs : List NodeJunctionRef)
         → result
         ≡ shown_junction (memory ynd nodes links junctions.now heights refs) place }
 {
@@ -155,15 +130,15 @@ pub fn shown_junction(
 }
 
 // The heightmap values of the junction at a place.
-fn values_at<'a>(ynd: Ynd, junctions: &[JunctionWords], heights: &'a [u8], place: usize) -> &'a [u8]
+fn values_at<'a>(ynd: Ynd, junctions: &[JunctionEntry], heights: &'a [u8], place: usize) -> &'a [u8]
     requires { (place < ynd.junction_count) × (place < length junctions.now)
         × (ynd.heightmap_count ≤ length heights.now) }
-    ensures { (nodes : List (List ℕ)) (links : List (List ℕ)) (refs : List (List ℕ)) → result.now
+    ensures { (nodes : List NodeEntry) (links : List PathLink) (refs : List NodeJunctionRef) → result.now
         ≡ values_at (memory ynd nodes links junctions.now heights.now refs) place }
 {
-    let w = junctions[place];
+    let j = &junctions[place];
     let held = &heights[..ynd.heightmap_count as usize];
-    part(held, value_start(w) as usize, value_count(w))
+    part(held, j.heightmap_ptr as usize, value_count(j))
 }
 
 // The heightmap values of the junction at a place, copied to the front of `values`, whatever the lists that are not
@@ -171,12 +146,12 @@ fn values_at<'a>(ynd: Ynd, junctions: &[JunctionWords], heights: &'a [u8], place
 #[tactic(auto, using(cells::proofs::Editing::EditLaws::entry_held), unfolding(crate::specs::Shown::shown_values, records::specs::Put::put))]
 pub fn shown_values(
     ynd: Ynd,
-    junctions: &[JunctionWords],
+    junctions: &[JunctionEntry],
     heights: &[u8],
     place: usize,
     values: &mut [u8],
 ) -> Result<usize, Refusal>
-    ensures { (nodes : List (List ℕ)) (links : List (List ℕ)) (refs : List (List ℕ))
+    ensures { (nodes : List NodeEntry) (links : List PathLink) (refs : List NodeJunctionRef)
         → values_left result values.new
         ≡ shown_values (memory ynd nodes links junctions.now heights.now refs) place values.old }
 {
@@ -192,12 +167,10 @@ pub fn shown_values(
     Ok(v.len())
 }
 
-impl From<LinkWords> for SeenLink {
-    ghost from_gives = { λ w l. l ≡ seen_link (link_of w).body };
+impl From<PathLink> for SeenLink {
+    ghost from_gives = { λ l s. s ≡ seen_link l };
 
-    #[tactic(auto, unfolding(cells::specs::Words::to_link))]
-    fn from(w: LinkWords) -> SeenLink {
-        let l = PathLink::from(w);
+    fn from(l: PathLink) -> SeenLink {
         SeenLink {
             flags0: l.flags0,
             flags1: l.flags1,
@@ -211,12 +184,12 @@ impl From<LinkWords> for SeenLink {
 #[tactic(auto, using(crate::proofs::ShownLaws::link_cases), unfolding(crate::specs::Shown::shown_link, crate::specs::PlaceCauses::place_causes))]
 pub fn shown_link(
     ynd: Ynd,
-    nodes: &[NodeWords],
-    links: &[LinkWords],
+    nodes: &[NodeEntry],
+    links: &[PathLink],
     place: usize,
     choice: u8,
 ) -> Result<Option<SeenLink>, Refusal>
-    ensures { (junctions : List (List ℕ)) (heights : List ℕ) (refs : List (List ℕ)) → result
+    ensures { (junctions : List JunctionEntry) (heights : List ℕ) (refs : List NodeJunctionRef) → result
         ≡ shown_link (memory ynd nodes.now links.now junctions heights refs) place choice }
 {
     check_place(ynd, nodes.len(), links.len(), place)?;

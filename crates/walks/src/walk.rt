@@ -1,6 +1,8 @@
 // A walk from link to link.
 ghost use Rattle.std.specs.Prelude.{◌≡◌, false, List, ℕ, ◌≤◌, leb, length, map};
 ghost use Rattle.cells.specs.Cell.{numbers};
+ghost use Rattle.cells.specs.declared.junction_entry.JunctionEntry.{JunctionEntry};
+ghost use Rattle.records.specs.declared.junction_ref.NodeJunctionRef.{NodeJunctionRef};
 ghost use Rattle.cells.specs.CellOf.{nodes_of};
 ghost use Rattle.cells.specs.Lookup.{find};
 ghost use Rattle.cells.specs.Memory.{memory, over_limit};
@@ -13,9 +15,9 @@ ghost use Rattle.walks.specs.WalkParts.{step_of, lent, lent_world, traced, over,
 use crate::part::link_at;
 use crate::place::check_place;
 use cells::area::{belongs_to, own_area};
-use cells::link::LinkWords;
+use cells::link::PathLink;
 use cells::lookup::node;
-use cells::node::NodeWords;
+use cells::node_entry::NodeEntry;
 use cells::ynd::Ynd;
 use numbers::refusal::{Lent, Refusal};
 
@@ -122,26 +124,26 @@ pub fn walk_from<S: Steps>(
 #[inline(always)]
 #[tactic(auto, unfolding(crate::specs::Parts::own_number))]
 pub fn own_number(
-    nodes: &[NodeWords],
-    links: &[LinkWords],
+    nodes: &[NodeEntry],
+    links: &[PathLink],
     place: usize,
     choice: u8,
 ) -> Result<u16, End>
     ensures { result ≡ own_number nodes.now links.now place choice }
 {
-    let w = link_at(nodes, links, place, choice).ok_or(End::NoLink)?;
-    if belongs_to(own_area(nodes, nodes.len()), w[0]) {
-        return Ok(w[1]);
+    let l = link_at(nodes, links, place, choice).ok_or(End::NoLink)?;
+    if belongs_to(own_area(nodes, nodes.len()), l.area_id) {
+        return Ok(l.node_id);
     }
-    Err(End::Left(w[0], w[1]))
+    Err(End::Left(l.area_id, l.node_id))
 }
 
 // What a walk is lent. The lists hold what the struct counts.
 #[derive(Clone, Copy)]
 struct Yard<'a> {
     ynd: Ynd,
-    nodes: &'a [NodeWords],
-    links: &'a [LinkWords],
+    nodes: &'a [NodeEntry],
+    links: &'a [PathLink],
     ghost within: { over_limit ynd ≡ false },
     ghost nodes_held: { ynd.node_count ≤ length nodes.now },
     ghost links_held: { ynd.link_count ≤ length links.now },
@@ -187,13 +189,13 @@ impl Steps for Yard<'_> {
 #[tactic(auto, unfolding(crate::specs::WalkCall::walk_call, crate::specs::PlaceCauses::place_causes))]
 pub fn walk(
     ynd: Ynd,
-    nodes: &[NodeWords],
-    links: &[LinkWords],
+    nodes: &[NodeEntry],
+    links: &[PathLink],
     start: usize,
     choices: &[u8],
     visited: &mut [u32],
 ) -> Result<Walked, Refusal>
-    ensures { (junctions : List (List ℕ)) (heights : List ℕ) (refs : List (List ℕ))
+    ensures { (junctions : List JunctionEntry) (heights : List ℕ) (refs : List NodeJunctionRef)
         → walk_left result visited.new
         ≡ walk_call (memory ynd nodes.now links.now junctions heights refs) choices.now start visited.old }
 {

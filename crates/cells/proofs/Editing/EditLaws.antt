@@ -1,11 +1,11 @@
 -- What is known of an entry that a place names, and of how many entries of a range are held.
 use Prim.Native.Nat.{ℕ, ◌-◌, ◌<◌, ◌≤◌}
 use native.Mathlib.Omega.{arith}
-use mathlib.Core.Path.{◌≡◌, refl, sym}
+use mathlib.Core.Path.{◌≡◌, sym}
 use mathlib.Core.Bool.{Bool, false, ◌&&◌}
-use mathlib.Core.List.{List, [], ◌∷◌}
+use mathlib.Core.List.{List}
 use lib.Dec.{ltb, leb}
-use lib.ListN.{length, get_or, set, drop}
+use lib.ListN.{length}
 use borrow.Author.Tests.{lt-ltb, leb-false, ltb-false}
 use Rattle.cells.specs.declared.range.Range.{Range}
 use Rattle.cells.specs.Edit.{held_in, junction_entry, entry_at}
@@ -15,6 +15,7 @@ use Rattle.std.specs.Prelude.{Result, Ok}
 use Rattle.numbers.specs.declared.refusal.Refusal.{Refusal}
 use Rattle.numbers.proofs.Refusing.{not_refused}
 use Rattle.cells.proofs.Sequences.Tests.{by_test}
+use Rattle.cells.specs.declared.junction_entry.JunctionEntry.{JunctionEntry}
 
 -- a test of a lent place that does not fit
 pub lent_false : (p len : ℕ) (b : Bool) → p < len → ltb p len && b ≡ false → b ≡ false
@@ -25,33 +26,8 @@ pub held_bound : (r : Range) (l : ℕ) → (held_in r l ≤ l - r.start) × (hel
 unfolding held_in
 held_bound r l = (omega arith, omega arith)
 
--- words 6 and 7 stored; the others stay
-pub range_stored : (w : List ℕ) (x y : ℕ) → 8 ≤ length w
-    → set (set w 6 x) 7 y ≡ get_or w 0 0 ∷ get_or w 1 0 ∷ get_or w 2 0 ∷ get_or w 3 0 ∷ get_or w 4 0 ∷ get_or w 5 0
-    ∷ x ∷ y ∷ drop 8 w
-range_stored [] x y l = absurd (omega arith)
-range_stored (a ∷ []) x y l = absurd (omega arith)
-range_stored (a ∷ b ∷ []) x y l = absurd (omega arith)
-range_stored (a ∷ b ∷ c ∷ []) x y l = absurd (omega arith)
-range_stored (a ∷ b ∷ c ∷ d ∷ []) x y l = absurd (omega arith)
-range_stored (a ∷ b ∷ c ∷ d ∷ e ∷ []) x y l = absurd (omega arith)
-range_stored (a ∷ b ∷ c ∷ d ∷ e ∷ f ∷ []) x y l = absurd (omega arith)
-range_stored (a ∷ b ∷ c ∷ d ∷ e ∷ f ∷ g ∷ []) x y l = absurd (omega arith)
-range_stored (a ∷ b ∷ c ∷ d ∷ e ∷ f ∷ g ∷ h ∷ rest) x y l = refl
-
--- words 4 and 5 stored; the others stay
-pub map_stored : (w : List ℕ) (x y : ℕ) → 6 ≤ length w
-    → set (set w 4 x) 5 y ≡ get_or w 0 0 ∷ get_or w 1 0 ∷ get_or w 2 0 ∷ get_or w 3 0 ∷ x ∷ y ∷ drop 6 w
-map_stored [] x y l = absurd (omega arith)
-map_stored (a ∷ []) x y l = absurd (omega arith)
-map_stored (a ∷ b ∷ []) x y l = absurd (omega arith)
-map_stored (a ∷ b ∷ c ∷ []) x y l = absurd (omega arith)
-map_stored (a ∷ b ∷ c ∷ d ∷ []) x y l = absurd (omega arith)
-map_stored (a ∷ b ∷ c ∷ d ∷ e ∷ []) x y l = absurd (omega arith)
-map_stored (a ∷ b ∷ c ∷ d ∷ e ∷ f ∷ rest) x y l = refl
-
 -- the junction that a place names
-pub entry_held : (y : Ynd) (junctions : List (List ℕ)) (p i : ℕ) → Ok i ≡ junction_entry y junctions p
+pub entry_held : (y : Ynd) (junctions : List JunctionEntry) (p i : ℕ) → Ok i ≡ junction_entry y junctions p
     → (i < y.junction_count) × (i < length junctions)
 unfolding junction_entry entry_at
 entry_held y junctions p i e =

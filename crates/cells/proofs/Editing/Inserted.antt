@@ -13,12 +13,13 @@ use borrow.Author.Rules.{rules}
 use Rattle.std.proofs.lemmas.List.Edits.{length-insert}
 use Rattle.std.proofs.lemmas.Slice.{between_is}
 use borrow.Author.Tests.{ltb-false, leb-false, eqb-false}
-use Rattle.cells.specs.NodeWords.{link_start}
+use Rattle.cells.specs.Nodes.{no_entry}
 use Rattle.cells.specs.Edit.{link_range}
 use Rattle.cells.specs.AddLink.{inserted, held_at, behind, room_for_link, LinkRoom}
 use Rattle.cells.proofs.Sequences.Tests.{by_test}
 use Rattle.cells.proofs.Editing.EditLaws.{held_bound}
 use Rattle.std.specs.Prelude.{Ok}
+use Rattle.cells.specs.declared.node_entry.NodeEntry.{NodeEntry}
 
 module _ {A : Type 0} (at l : ℕ) (x : A) (xs : List A) (d : A) (inside : at ≤ l) (fits : l < length xs) where
   -- the first l + 1 entries afterwards
@@ -74,5 +75,5 @@ accepted over n l p e a b d =
       links_fit = leb-false _ _ f₄;
     }))))))
 
-pub held_few : (nodes : List (List ℕ)) (p l : ℕ) → held_at nodes p l ≤ l - link_start (get_or nodes p [])
+pub held_few : (nodes : List NodeEntry) (p l : ℕ) → held_at nodes p l ≤ l - (get_or nodes p no_entry).link_id
 held_few nodes p l = (held_bound (link_range nodes p) l).0

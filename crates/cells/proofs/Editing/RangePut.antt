@@ -89,15 +89,15 @@ map_put f xs at X =
     ∙ (λ i. (sym (take-map f at xs) i ++ map f X) ++ drop (at + sym (length-map X f) i) (map f xs))
 
 -- n owners, each with its part of the pool P, of l entries; the owner at p gets X
-module _ {B C : Type 0} (start count : List ℕ → ℕ) (make : List ℕ → List B → C) (n l p c : ℕ) (owners : List (List ℕ))
+module _ {A B C : Type 0} (blank : A) (start count : A → ℕ) (make : A → List B → C) (n l p c : ℕ) (owners : List A)
     (P X : List B)
     (place : p < n) (fits : n ≤ length owners) (long : length P ≡ l) (many : length X ≡ c)
-    (beside : Beside start count n l p owners) where
-  abbrev owned : List B → List ℕ → C
+    (beside : Beside blank start count n l p owners) where
+  abbrev owned : List B → A → C
   owned Q w = make w (take (count w) (drop (start w) Q))
 
-  abbrev own : List ℕ
-  own = get_or owners p []
+  abbrev own : A
+  own = get_or owners p blank
 
   abbrev held : ℕ
   held = held_in (record { start = start own; count = count own }) l
@@ -114,14 +114,14 @@ module _ {B C : Type 0} (start count : List ℕ → ℕ) (make : List ℕ → Li
   )
 
   abbrev part : List B → ℕ → List B
-  part Q q = take (count (get_or owners q [])) (drop (start (get_or owners q [])) Q)
+  part Q q = take (count (get_or owners q blank)) (drop (start (get_or owners q blank)) Q)
 
-  before : (q : ℕ) → start (get_or owners q []) + count (get_or owners q []) ≤ at → part (put P at X) q ≡ part P q
-  before q h = put_before (start (get_or owners q [])) (count (get_or owners q [])) P at X inside h
+  before : (q : ℕ) → start (get_or owners q blank) + count (get_or owners q blank) ≤ at → part (put P at X) q ≡ part P q
+  before q h = put_before (start (get_or owners q blank)) (count (get_or owners q blank)) P at X inside h
 
-  behind : (q : ℕ) → at + c ≤ start (get_or owners q []) → part (put P at X) q ≡ part P q
-  behind q h = ap (take (count (get_or owners q [])))
-      (put_behind (start (get_or owners q [])) P at X inside (omega (arith, many)))
+  behind : (q : ℕ) → at + c ≤ start (get_or owners q blank) → part (put P at X) q ≡ part P q
+  behind q h = ap (take (count (get_or owners q blank)))
+      (put_behind (start (get_or owners q blank)) P at X inside (omega (arith, many)))
 
   nothing : (k : ℕ) (xs ys : List B) → k ≡ 0 → take k xs ≡ take k ys
   nothing zero xs ys e = refl
@@ -134,9 +134,9 @@ module _ {B C : Type 0} (start count : List ℕ → ℕ) (make : List ℕ → Li
   -- another owner's entries stay
   other : (q : ℕ) → q < n → (q ≡ p → ⊥) → part (put P at X) q ≡ part P q
   other q lt ne =
-      by_test (eqb (count (get_or owners q [])) 0)
-      (λ z. nothing (count (get_or owners q [])) _ _ (eqb-true _ 0 z))
-      (λ nz. let some : 0 < count (get_or owners q []) = pos_of_ne-zero (eqb-false _ 0 nz) in
+      by_test (eqb (count (get_or owners q blank)) 0)
+      (λ z. nothing (count (get_or owners q blank)) _ _ (eqb-true _ 0 z))
+      (λ nz. let some : 0 < count (get_or owners q blank) = pos_of_ne-zero (eqb-false _ 0 nz) in
       by_test (eqb c 0)
       (λ z. ap (λ (Q : List B). part Q q) (empty X at (many ∙ eqb-true c 0 z)))
       (λ nc. let more : 0 < c = pos_of_ne-zero (eqb-false c 0 nc) in
@@ -149,7 +149,7 @@ module _ {B C : Type 0} (start count : List ℕ → ℕ) (make : List ℕ → Li
       before q (omega (arith, is, beside.inside q lt ne some)))))
 
   -- the owner at p has X, and no other owner's entries are others
-  pub replaced : (x : List ℕ) (z : C) → start x ≡ at → count x ≡ c → make x X ≡ z
+  pub replaced : (x : A) (z : C) → start x ≡ at → count x ≡ c → make x X ≡ z
       → map (owned (put P at X)) (take n (set owners p x)) ≡ set (map (owned P) (take n owners)) p z
   replaced x z st ct mk =
       let Q = put P at X in
@@ -157,9 +157,9 @@ module _ {B C : Type 0} (start count : List ℕ → ℕ) (make : List ℕ → Li
       let all = length-take-le n owners fits in
       set_held (owned Q) n owners p x place
       ∙ ap (λ (t : List C). set t p (owned Q x))
-      (change_one (owned P) (owned Q) L p [] (owned Q (get_or L p [])) (omega (arith, all))
+      (change_one (owned P) (owned Q) L p blank (owned Q (get_or L p blank)) (omega (arith, all))
       (λ q h ne. let lt : q < n = omega (arith, all) in
-      rw (get_or-take n owners q [] lt) (ap (make (get_or owners q [])) (other q lt ne))) refl)
-      ∙ set-set (map (owned P) L) p (owned Q (get_or L p [])) (owned Q x)
+      rw (get_or-take n owners q blank lt) (ap (make (get_or owners q blank)) (other q lt ne))) refl)
+      ∙ set-set (map (owned P) L) p (owned Q (get_or L p blank)) (owned Q x)
       ∙ ap (set (map (owned P) L) p)
       ((λ i. make x (take ((ct ∙ sym many) i) (drop (st i) Q))) ∙ ap (make x) (put_own P at X inside) ∙ mk)

@@ -1,10 +1,13 @@
--- Links and junctions whose fields fit the types of the structs' fields. No demand names this; it is what comes back
--- from an entry's words. A ref is the file's record, whose fields records' `RefFits` bounds.
-use Prim.Native.Nat.{◌<◌}
+-- Links whose fields fit the types of the struct's fields, which is what comes back from a link's record; and steps
+-- that an f32 stands for. No demand names this.
+use Prim.Native.Nat.{ℕ, suc, ◌<◌, ◌^◌}
+use mathlib.Core.Bool.{true, false}
 use lib.Dec.{T}
+use lib.IntN.{ℤ, pos, negsuc}
 use lib.Ieee.{binary32, fits}
+use lib.Ieee.Fits.{round-fits}
+use Rattle.numbers.specs.Steps.{unstep}
 use Rattle.cells.specs.declared.link.PathLink.{PathLink}
-use Rattle.cells.specs.declared.junction.PathJunction.{PathJunction}
 
 pub record LinkFits (l : PathLink) : Type 0 where
   pub area_id : l.area_id < 65536
@@ -14,11 +17,7 @@ pub record LinkFits (l : PathLink) : Type 0 where
   pub flags2 : l.flags2 < 256
   pub length : l.length < 256
 
-pub record JunctionFits (j : PathJunction) : Type 0 where
-  pub x : T (fits binary32 j.position.x)
-  pub y : T (fits binary32 j.position.y)
-  pub min_z : T (fits binary32 j.min_z)
-  pub max_z : T (fits binary32 j.max_z)
-  pub width : j.width < 256
-  pub height : j.height < 256
-  pub heightmap_ptr : j.heightmap_ptr < 4294967296
+pub unstep_fits : (k : ℕ) (z : ℤ) → T (fits binary32 (unstep k z))
+unfolding unstep
+unstep_fits k (pos n) = round-fits binary32 false n (2 ^ k)
+unstep_fits k (negsuc n) = round-fits binary32 true (suc n) (2 ^ k)

@@ -3,11 +3,10 @@
 use Prim.Native.Nat.{ℕ, ◌/◌}
 use mathlib.Core.Path.{◌≡◌, refl, sym, subst}
 use mathlib.Core.Bool.{false}
-use mathlib.Core.List.{List}
 use lib.Dec.{eqb}
 use borrow.Author.Tests.{eqb-true}
-use Rattle.cells.specs.NodeWords.{ped_kind, is_ped}
-use Rattle.cells.specs.Words.{to_node}
+use Rattle.cells.specs.Nodes.{ped_kind, is_ped}
+use Rattle.cells.specs.declared.node_entry.NodeEntry.{NodeEntry}
 use Rattle.cells.specs.Special.{special_of, special_value, is_ped_special}
 use Rattle.cells.proofs.Sequences.Tests.{by_test}
 
@@ -33,10 +32,10 @@ special_ped =
     each (λ (v : ℕ). is_ped_special (special_of v) ≡ ped_kind v) refl refl refl refl refl refl refl refl refl refl
     (λ v n0 n2 n10 n14 n15 n16 n17 n18 n19 n20. rw (n0, n2, n10, n14, n15, n16, n17, n18, n19, n20))
 
--- of the words of a node, as renumbering asks
-pub ped_words : (w : List ℕ) → ped_kind ((to_node w).flags1 / 8) ≡ is_ped w
-unfolding to_node is_ped
-ped_words w = refl
+-- of a node, as renumbering asks
+pub ped_node : (n : NodeEntry) → ped_kind (n.flags1 / 8) ≡ is_ped n
+unfolding is_ped
+ped_node n = refl
 
 -- a kind's number is the one that it was made of
 pub special_value_law : (v : ℕ) → special_value (special_of v) ≡ v

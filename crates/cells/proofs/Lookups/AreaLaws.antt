@@ -13,23 +13,25 @@ use borrow.Author.Tests.{eqb-true, eq-eqb}
 use Rattle.numbers.specs.Grid.{is_island_area}
 use Rattle.cells.specs.Area.{belongs, ref_for}
 use Rattle.cells.specs.Order.{Old}
-use Rattle.cells.specs.Cell.{Link, Ref, relink, reref}
-use Rattle.cells.specs.NodeWords.{area_of, first_area, relinked}
+use Rattle.cells.specs.Nodes.{area_of, first_area, relinked, rereffed}
+use Rattle.cells.specs.declared.link.PathLink.{PathLink}
+use Rattle.records.specs.declared.junction_ref.NodeJunctionRef.{NodeJunctionRef}
 use Rattle.cells.proofs.Sequences.Tests.{by_test, true_false}
+use Rattle.cells.specs.declared.node_entry.NodeEntry.{NodeEntry}
 
-pub own_first : (n : ℕ) (nodes : List (List ℕ)) → 0 < n → 0 < length nodes → first_area (take n nodes)
-    ≡ area_of (get_or nodes 0 [])
+pub own_first : (n : ℕ) (nodes : List NodeEntry) (z : NodeEntry) → 0 < n → 0 < length nodes → first_area (take n nodes)
+    ≡ area_of (get_or nodes 0 z)
 unfolding first_area
-own_first zero nodes h k = absurd (omega arith)
-own_first (suc n) [] h k = absurd (omega arith)
-own_first (suc n) (w ∷ ws) h k = refl
+own_first zero nodes z h k = absurd (omega arith)
+own_first (suc n) [] z h k = absurd (omega arith)
+own_first (suc n) (w ∷ ws) z h k = refl
 
-pub own_none : (n : ℕ) (nodes : List (List ℕ)) → n ≡ 0 → 0 ≡ first_area (take n nodes)
+pub own_none : (n : ℕ) (nodes : List NodeEntry) → n ≡ 0 → 0 ≡ first_area (take n nodes)
 unfolding first_area
 own_none zero nodes e = refl
 own_none (suc n) nodes e = absurd (omega arith)
 
-pub own_of_none : (n : ℕ) (nodes : List (List ℕ)) → length nodes ≡ 0 → 0 ≡ first_area (take n nodes)
+pub own_of_none : (n : ℕ) (nodes : List NodeEntry) → length nodes ≡ 0 → 0 ≡ first_area (take n nodes)
 unfolding first_area
 own_of_none zero nodes e = refl
 own_of_none (suc n) [] e = refl
@@ -78,12 +80,8 @@ module _ (own : ℕ) (bare : is_island_area own ≡ false) where
 
 -- T-07: a claimed link or ref is given another number, never another area
 module _ (o : Old) where
-  pub link_area : (l : Link) → (relink o l).area ≡ l.area
+  pub link_area : (l : PathLink) → (relinked o l).area_id ≡ l.area_id
   link_area l = refl
 
-  pub ref_area : (r : Ref) → (reref o r).area ≡ r.area
+  pub ref_area : (r : NodeJunctionRef) → (rereffed o r).area_id ≡ r.area_id
   ref_area r = refl
-
-  pub word_area : (w : List ℕ) → get_or (relinked o w) 0 0 ≡ get_or w 0 0
-  unfolding relinked
-  word_area w = refl

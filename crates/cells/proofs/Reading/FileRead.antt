@@ -1,41 +1,30 @@
 -- An accepted reading leaves in memory the cell that document 01 defines for the two sections.
 -- Assumes nothing: no law needs a bound on the bytes.
-use Prim.Native.Nat.{ℕ, zero, suc, ◌+◌, ◌*◌, ◌/◌, ◌%◌, ◌<◌}
+use Prim.Native.Nat.{ℕ, zero, suc, ◌*◌, ◌<◌}
 use native.Mathlib.Omega.{arith}
 use mathlib.Core.Path.{◌≡◌, refl, sym, ap, ◌∙◌, subst}
 use mathlib.Core.List.{List, [], ◌∷◌, ◌++◌, map, append-nil}
 use lib.ListN.{length, take, drop}
 use lib.Seq.{take_at}
 use lib.Ieee.{binary32, to_bits}
-use lib.Ieee.Bits.{of_bits-to_bits}
 use Rattle.numbers.specs.Steps.{unstep}
-use Rattle.records.specs.Bytes.{byte_at, le16}
 use Rattle.records.specs.Sections.{located, bytes_of, part_bytes, array_at}
-use Rattle.records.specs.Records.{node_at, link_at, junction_at, ref_at}
+use Rattle.records.specs.Records.{node_at, junction_at}
 use Rattle.cells.specs.Lists.{up_to, join_to, sum_to}
-use Rattle.cells.specs.Words.{path_node, path_link, path_junction, node_words, link_words, junction_words, ref_words}
+use Rattle.cells.specs.Paths.{path_node, path_junction}
 use Rattle.cells.specs.Checks.{root_read, sizes_check, opened, arrays_found, arrays_check, counts_of, links_at}
 use Rattle.cells.specs.Checks.{values_at}
 use Rattle.cells.specs.Memory.{Memory, Left, unless}
 use Rattle.cells.specs.Read.{links_from, values_from, node_in, links_in, junction_in, values_in, ref_in, room_check}
 use Rattle.cells.specs.Read.{cell_read, filled, if_held, if_found, read_arrays, read_of}
-use Rattle.cells.specs.NodeWords.{area_of, number_of}
-use Rattle.cells.specs.Cell.{Link}
-use Rattle.cells.specs.CellOf.{link_of, ref_of, node_with, junction_with, nodes_of, junctions_of, refs_of}
-use Rattle.cells.specs.Cell.{body_of}
+use Rattle.cells.specs.CellOf.{node_with, junction_with, nodes_of, junctions_of, refs_of}
 use Rattle.cells.specs.CellOf.{cell_of}
-use Rattle.cells.specs.Words.{to_node}
-use Rattle.cells.specs.CellOf.{bits_of}
-use Rattle.cells.specs.Cell.{marks_of}
-use Rattle.records.proofs.RecordBack.{NodeFits, node_fits_law}
-use Rattle.cells.proofs.Forms.Entries.{unstep_fits, byte0, byte1, byte2, byte3, low8, high8, low16, high16, half, word}
-use Rattle.cells.specs.FileCell.{file_link_of, file_ref_of, file_body, file_node_of, file_junction_of, file_nodes}
+use Rattle.cells.specs.FileCell.{file_body, file_node_of, file_junction_of, file_nodes}
 use Rattle.cells.specs.FileCell.{file_junctions, file_refs, cell_from, cell_by, file_cell}
 use Rattle.records.specs.declared.root.Root.{Root}
 use Rattle.records.specs.declared.section.Part.{Part}
 use Rattle.cells.specs.declared.counts.Counts.{Counts}
-use Rattle.records.specs.declared.node.Node as raw-node
-use Rattle.std.proofs.lemmas.List.{take-map, drop-map, map-append}
+use Rattle.std.proofs.lemmas.List.{map-append}
 use Rattle.cells.proofs.Reading.ReadLaws.{length_up_to, length_join_to, own_part, length_links, length_values}
 use Rattle.cells.proofs.Reading.ReadLaws.{Holds, holds}
 use Rattle.std.specs.Prelude.{Result, Ok, Err, Option, Some, None}
@@ -57,89 +46,7 @@ map_up_to h f zero = refl
 map_up_to {B = B} h f (suc n) = map-append h (up_to f n) (f n ∷ [])
     ∙ ap (λ (l : List B). l ++ (h (f n) ∷ [])) (map_up_to h f n)
 
--- ---- the words of each record
-
--- a node of the file comes back from its words
-read_back : (n : raw-node.Node) → NodeFits n → to_node (node_words (path_node n 0)) ≡ path_node n 0
-unfolding to_node node_words path_node
-read_back n h =
-    let count = n.link_count_flags / 8 in
-    let f5 = n.link_count_flags % 8 in
-    let x = n.position_x in
-    let y = n.position_y in
-    let z = n.position_z in
-    λ i. record {
-      area_id = low16 n.area_id n.node_id h.area_id i;
-      node_id = high16 n.area_id n.node_id h.area_id h.node_id i;
-      street_name = word n.street_name h.street_name i;
-      position = record {
-        x = of_bits-to_bits binary32 (unstep 2 x) (unstep_fits 2 x) i;
-        y = of_bits-to_bits binary32 (unstep 2 y) (unstep_fits 2 y) i;
-        z = of_bits-to_bits binary32 (unstep 5 z) (unstep_fits 5 z) i;
-      };
-      flags0 = byte0 n.flags0 n.flags1 n.flags2 n.flags3 h.flags0 i;
-      flags1 = byte1 n.flags0 n.flags1 n.flags2 n.flags3 h.flags0 h.flags1 i;
-      flags2 = byte2 n.flags0 n.flags1 n.flags2 n.flags3 h.flags0 h.flags1 h.flags2 i;
-      flags3 = byte3 n.flags0 n.flags1 n.flags2 n.flags3 h.flags0 h.flags1 h.flags2 h.flags3 i;
-      flags4 = byte0 n.flags4 f5 count 0 h.flags4 i;
-      flags5 = byte1 n.flags4 f5 count 0 h.flags4 (omega arith) i;
-      link_id = 0;
-      link_count = byte2 n.flags4 f5 count 0 h.flags4 (omega arith) (omega (arith, h.link_count_flags)) i;
-      unused0 = word n.unused0 h.unused0 i;
-      unused1 = word n.unused1 h.unused1 i;
-      unused2 = word n.unused2 h.unused2 i;
-      unused3 = word n.unused3 h.unused3 i;
-      unused4 = half n.unused4 h.unused4 i;
-    }
-
--- the node read, by its words
-body_words : (n : raw-node.Node) (first : ℕ) → NodeFits n → body_of (node_words (path_node n first)) ≡ file_body n
-unfolding body_of node_words path_node to_node
-body_words n first h = λ i. record { position = bits_of (path_node n 0).position; marks = marks_of (read_back n h i) }
-
--- a node, with its links from `first` on
-pub node_words_law : (ls : List Link) (n : raw-node.Node) (first : ℕ) → NodeFits n
-    → node_with ls (node_words (path_node n first))
-    ≡ record {
-      area = n.area_id;
-      number = n.node_id;
-      links = take (n.link_count_flags / 8) (drop first ls);
-      body = file_body n;
-    }
-unfolding area_of number_of node_words path_node to_node
-node_words_law ls n first h =
-    let b = read_back n h in
-    λ i. record {
-      area = (b i).area_id;
-      number = (b i).node_id;
-      links = take (b i).link_count (drop first ls);
-      body = body_words n first h i;
-    }
-
-pub link_words_law : (s : List ℕ) (at : ℕ) → link_of (link_words (path_link (link_at s at)))
-    ≡ file_link_of (link_at s at)
-unfolding link_words path_link link_at
-link_words_law s at = λ i. record {
-  area = le16 s at;
-  number = le16 s (at + 2);
-  body = record {
-    flags0 = low8 (byte_at s (at + 4)) (byte_at s (at + 5)) (omega arith) i;
-    flags1 = high8 (byte_at s (at + 4)) (byte_at s (at + 5)) (omega arith) (omega arith) i;
-    flags2 = low8 (byte_at s (at + 6)) (byte_at s (at + 7)) (omega arith) i;
-    len = high8 (byte_at s (at + 6)) (byte_at s (at + 7)) (omega arith) (omega arith) i;
-  };
-}
-
 -- ---- nodes with their links, junctions with their values
-
-links_one : (n l : List ℕ) (i : ℕ) → map link_of (links_in n l i)
-    ≡ up_to (λ k. file_link_of (link_at l (((node_at n (i * 40)).link_id + k) * 8))) (links_at n i)
-unfolding links_in links_from
-links_one n l i =
-    let at : ℕ → ℕ = λ k. ((node_at n (i * 40)).link_id + k) * 8 in
-    map_up_to link_of (λ k. link_words (path_link (link_at l (at k)))) (links_at n i)
-    ∙ up_to_same (λ k. link_of (link_words (path_link (link_at l (at k))))) (λ k. file_link_of (link_at l (at k)))
-    (links_at n i) (λ k h. link_words_law l (at k))
 
 -- each one's own part of the joined lists
 own : {A : Type 0} (f : ℕ → List A) (g : ℕ → ℕ) → ((i : ℕ) → length (f i) ≡ g i) → (n i : ℕ) → i < n
@@ -148,59 +55,31 @@ own {A = A} f g len n i h = ap (λ (x : List A). take (g i) (drop (sum_to g i) x
     ∙ own_part f g len n i [] h
 
 node_one : (n l : List ℕ) (count i : ℕ) → i < count
-    → node_with (map link_of (join_to (links_in n l) count)) (node_in n i) ≡ file_node_of l (node_at n (i * 40))
-unfolding node_in
+    → node_with (join_to (links_in n l) count) (node_in n i) ≡ file_node_of l (node_at n (i * 40))
+unfolding node_in path_node links_in links_from
 node_one n l count i h =
     let r = node_at n (i * 40) in
-    let all = join_to (links_in n l) count in
-    let c = links_at n i in
-    let from = sum_to (links_at n) i in
-    node_words_law (map link_of all) r from (node_fits_law n (i * 40))
-    ∙ (λ k. record {
+    λ k. record {
       area = r.area_id;
       number = r.node_id;
-      links = (ap (take c) (drop-map link_of from all) ∙ take-map link_of c (drop from all)
-          ∙ ap (map link_of) (own (links_in n l) (links_at n) (length_links n l) count i h) ∙ links_one n l i) k;
+      links = own (links_in n l) (links_at n) (length_links n l) count i h k;
       body = file_body r;
-    })
-
-pub width_small : (s : List ℕ) (at : ℕ) → (junction_at s at).heightmap_dim_x < 256
-unfolding junction_at
-width_small s at = omega arith
-
-pub height_small : (s : List ℕ) (at : ℕ) → (junction_at s at).heightmap_dim_y < 256
-unfolding junction_at
-height_small s at = omega arith
-
-values_one : (j h : List ℕ) (i : ℕ) → values_in j h i
-    ≡ up_to (λ k. byte_at h ((junction_at j (i * 12)).heightmap_ptr + k)) (values_at j i)
-unfolding values_in values_from
-values_one j h i = refl
+    }
 
 junction_one : (j h : List ℕ) (count i : ℕ) → i < count
     → junction_with (join_to (values_in j h) count) (junction_in j i) ≡ file_junction_of h (junction_at j (i * 12))
-unfolding junction_in junction_words path_junction
+unfolding junction_in path_junction values_in values_from
 junction_one j h count i lt =
     let r = junction_at j (i * 12) in
-    let w : (r.heightmap_dim_x + r.heightmap_dim_y * 256) % 256
-    ≡ r.heightmap_dim_x = low8 r.heightmap_dim_x r.heightmap_dim_y (width_small j (i * 12)) in
-    let t : (r.heightmap_dim_x + r.heightmap_dim_y * 256) / 256 % 256
-    ≡ r.heightmap_dim_y = high8 r.heightmap_dim_x r.heightmap_dim_y (width_small j (i * 12))
-    (height_small j (i * 12)) in
     λ k. record {
       x = to_bits binary32 (unstep 2 r.position_x);
       y = to_bits binary32 (unstep 2 r.position_y);
       low = to_bits binary32 (unstep 5 r.min_z);
       high = to_bits binary32 (unstep 5 r.max_z);
-      width = w k;
-      height = t k;
-      values = ((λ q. take (w q * t q) (drop (sum_to (values_at j) i) (join_to (values_in j h) count)))
-          ∙ own (values_in j h) (values_at j) (length_values j h) count i lt ∙ values_one j h i) k;
+      width = r.heightmap_dim_x;
+      height = r.heightmap_dim_y;
+      values = own (values_in j h) (values_at j) (length_values j h) count i lt k;
     }
-
-ref_one : (r : List ℕ) (i : ℕ) → ref_of (ref_in r i) ≡ file_ref_of (ref_at r (i * 8))
-unfolding ref_in ref_words
-ref_one r i = refl
 
 -- ---- the whole
 
@@ -226,8 +105,8 @@ module _ (root : Root) (n l j h r : List ℕ) (m : Memory) where
   nodes_left_law : nodes_of left ≡ file_nodes n l
   unfolding nodes_of file_nodes filled cell_read
   nodes_left_law =
-      let ls = map link_of (join_to (links_in n l) k.nodes) in
-      (λ i. map (node_with (map link_of (links_front i))) (front (node_in n) k.nodes (drop k.nodes m.nodes) i))
+      let ls = join_to (links_in n l) k.nodes in
+      (λ i. map (node_with (links_front i)) (front (node_in n) k.nodes (drop k.nodes m.nodes) i))
       ∙ map_up_to (node_with ls) (node_in n) k.nodes
       ∙ up_to_same (λ i. node_with ls (node_in n i)) (λ i. file_node_of l (node_at n (i * 40))) k.nodes
       (λ i lt. node_one n l k.nodes i lt)
@@ -242,11 +121,8 @@ module _ (root : Root) (n l j h r : List ℕ) (m : Memory) where
       k.junctions (λ i lt. junction_one j h k.junctions i lt)
 
   refs_left_law : refs_of left ≡ file_refs r
-  unfolding refs_of file_refs filled cell_read
-  refs_left_law =
-      ap (map ref_of) (front (ref_in r) k.refs (drop k.refs m.refs))
-      ∙ map_up_to ref_of (ref_in r) k.refs
-      ∙ up_to_same (λ i. ref_of (ref_in r i)) (λ i. file_ref_of (ref_at r (i * 8))) k.refs (λ i lt. ref_one r i)
+  unfolding refs_of file_refs filled cell_read ref_in
+  refs_left_law = front (ref_in r) k.refs (drop k.refs m.refs)
 
   pub filled_cell : cell_of left ≡ cell_from root n l j h r
   unfolding cell_of cell_from filled cell_read

@@ -18,8 +18,12 @@ use Rattle.cells.specs.Read.{room_check, cell_read, filled, read_arrays, read_of
 use Rattle.cells.specs.Blocks.{laid, arrays, blocks, root_for, written}
 use Rattle.cells.specs.Write.{held}
 use Rattle.cells.specs.FileCell.{file_nodes, file_junctions, file_refs, cell_from, cell_by, file_cell}
+use Rattle.cells.specs.declared.link.PathLink.{PathLink}
+use Rattle.cells.specs.declared.junction_entry.JunctionEntry.{JunctionEntry}
 use Rattle.std.specs.Prelude.{Ok}
 use Rattle.numbers.specs.declared.refusal.Refusal.TheVariants.{GraphicsTooLong}
+use Rattle.cells.specs.declared.node_entry.NodeEntry.{NodeEntry}
+use Rattle.records.specs.declared.junction_ref.NodeJunctionRef.{NodeJunctionRef}
 
 module _ (g : List ℕ) (m : Memory) where
   pub undrawn_read : length g ≤ 16777216
@@ -51,7 +55,8 @@ unfolding file_cell cell_by cell_from file_nodes file_junctions file_refs new_ro
 undrawn_cell g = refl
 
 -- written, it is the 1,152 bytes of root and pages, whatever lists are lent
-pub undrawn_size : (nodes links junctions : List (List ℕ)) (heights : List ℕ) (refs : List (List ℕ))
+pub undrawn_size : (nodes : List NodeEntry) (links : List PathLink) (junctions : List JunctionEntry)
+    (heights : List ℕ) (refs : List NodeJunctionRef)
     → length (written (held (memory new_ynd nodes links junctions heights refs))) ≡ 1152
 unfolding new_ynd held written arrays total gap_for joined laid
 undrawn_size nodes links junctions heights refs =

@@ -1,16 +1,16 @@
 -- Renumbering in memory renumbers the cell that the memory holds.
 -- Assumes nothing.
-use Prim.Native.Nat.{ℕ, suc, ◌+◌, ◌*◌, ◌/◌, ◌%◌, ◌≤◌, ◌<◌}
+use Prim.Native.Nat.{ℕ, suc, ◌≤◌, ◌<◌}
 use native.Mathlib.Omega.{arith}
 use mathlib.Core.Path.{◌≡◌, refl, ap, sym, ◌∙◌}
 use mathlib.Core.Bool.{Bool}
 use mathlib.Core.List.{List, [], ◌∷◌, ◌++◌, map}
 use lib.ListN.{length, get_or, take, drop, length-map, length-append, length-drop}
-use lib.Seq.{take_at, length-take-le, get_or-drop}
+use lib.Seq.{take_at, length-take-le}
 use lib.ListN.{get_or-append}
 use Rattle.cells.specs.Order.{keep, parted, Old, new_place, new_places}
-use Rattle.cells.specs.NodeWords.{area_of, number_of, is_ped, numbered, number_from, reordered, first_area, old_of}
-use Rattle.cells.specs.NodeWords.{relinked}
+use Rattle.cells.specs.Nodes.{is_ped, numbered, number_from, reordered, first_area, old_of}
+use Rattle.cells.specs.Nodes.{relinked, rereffed}
 use Rattle.cells.specs.Renumber.{over, vehicles, peds, renumber_lists, recounted, new_lists, renumber_memory}
 use Rattle.cells.specs.Renumber.{answer_of, left_by, renumber}
 use Rattle.cells.specs.RenumberParts.{Room}
@@ -23,18 +23,19 @@ use Rattle.cells.proofs.Reading.Fits.{whole}
 use Rattle.cells.proofs.Renumbering.Parted.{places_length, places_at}
 use Rattle.cells.proofs.Renumbering.Parted as any
 pub use Rattle.cells.proofs.Renumbering.Reordered.{number_length}
-use Rattle.cells.specs.Cell.{Link, Node, is_ped_node, is_vehicle_node, first_of, old_nodes, relink, reref, renode}
+use Rattle.cells.specs.Cell.{Node, is_ped_node, is_vehicle_node, first_of, old_nodes, renode}
 use Rattle.cells.specs.Cell.{number_nodes, renumber_cell, ped_flags}
 use Rattle.cells.specs.Memory.{Memory, over_limit, short}
-use Rattle.cells.specs.CellOf.{link_of, ref_of, node_with, nodes_of, junctions_of, refs_of, cell_of}
+use Rattle.cells.specs.CellOf.{node_with, nodes_of, junctions_of, refs_of, cell_of}
 use Rattle.cells.specs.Cell.{body_of}
-use Rattle.cells.specs.Words.{to_node}
 use Rattle.std.specs.Prelude.{Ok, Err}
 use Rattle.numbers.specs.Refusals.{Answer, unless}
 use Rattle.numbers.specs.declared.refusal.Refusal.{Refusal}
 use Rattle.numbers.proofs.Refusing.{not_refused}
+use Rattle.cells.specs.declared.node_entry.NodeEntry.{NodeEntry}
+use Rattle.cells.specs.declared.link.PathLink.{PathLink}
 
-pub parted_length : (ns : List (List ℕ)) → length (parted is_ped ns) ≡ length ns
+pub parted_length : (ns : List NodeEntry) → length (parted is_ped ns) ≡ length ns
 parted_length ns = any.parted_length is_ped ns
 
 -- ---- the lists stay as long
@@ -44,13 +45,13 @@ over_long : {A : Type 0} (f : List A → List A) (n : ℕ) (l : List A) → leng
 over_long f n l e h =
     omega (arith, length-append (f (take n l)) (drop n l), e, length-take-le n l h, length-drop n l)
 
-pub reordered_long : (n : ℕ) (nodes : List (List ℕ)) → n ≤ length nodes
+pub reordered_long : (n : ℕ) (nodes : List NodeEntry) → n ≤ length nodes
     → length (number_from 0 (parted is_ped (take n nodes)) ++ drop n nodes) ≡ length nodes
 unfolding reordered
 reordered_long n nodes h = over_long reordered n nodes
     (number_length 0 (parted is_ped (take n nodes)) ∙ parted_length (take n nodes)) h
 
-pub all_relinked_long : (o : Old) (n : ℕ) (l : List (List ℕ)) → n ≤ length l
+pub all_relinked_long : (o : Old) (n : ℕ) (l : List PathLink) → n ≤ length l
     → length (over (map (relinked o)) n l) ≡ length l
 all_relinked_long o n l h = over_long (map (relinked o)) n l (length-map (take n l) (relinked o)) h
 
@@ -78,62 +79,42 @@ accepted m scratch places e =
     lists next (Ok _) q d k = k q
     lists next (Err r) q d k = not_refused (rw q at d)
 
--- what is read of each entry after a change of each
-map_map : {A B C D : Type 0} (f : A → B) (g : C → A) (h : C → D) (k : D → B) → ((x : C) → f (g x) ≡ k (h x))
-    → (l : List C) → map f (map g l) ≡ map k (map h l)
-map_map f g h k e [] = refl
-map_map {B = B} f g h k e (x ∷ xs) = λ i. e x i ∷ map_map f g h k e xs i
-
-link_new : (o : Old) (w : List ℕ) → link_of (relinked o w) ≡ relink o (link_of w)
-unfolding relinked
-link_new o w = refl
-
-ref_new : (o : Old) (w : List ℕ) → ref_of (relinked o w) ≡ reref o (ref_of w)
-unfolding relinked
-ref_new o w = refl
-
 -- a node with another number is the node, but for the number
-node_new : (o : Old) (ls : List Link) (k : ℕ) (w : List ℕ) → k < 65536
-    → node_with (map (relink o) ls) (numbered k w) ≡ renode o k (node_with ls w)
-unfolding numbered area_of number_of body_of to_node
-node_new o ls k w lt = λ i. record {
-  area = (let e : (get_or w 0 0 % 65536 + k * 65536) % 65536 ≡ get_or w 0 0 % 65536 = omega arith in e) i;
-  number = (let e : (get_or w 0 0 % 65536 + k * 65536) / 65536 % 65536 ≡ k = omega arith in e) i;
-  links = ((λ j. take (get_or-drop 1 w 5 0 j / 65536 % 256) (drop (get_or-drop 1 w 6 0 j) (map (relink o) ls)))
-      ∙ ap (take (get_or w 6 0 / 65536 % 256)) (drop-map (relink o) (get_or w 7 0) ls)
-      ∙ take-map (relink o) (get_or w 6 0 / 65536 % 256) (drop (get_or w 7 0) ls)) i;
-  body = same_body (get_or w 0 0 % 65536 + k * 65536) w i;
+node_new : (o : Old) (ls : List PathLink) (k : ℕ) (n : NodeEntry)
+    → node_with (map (relinked o) ls) (numbered k n) ≡ renode o k (node_with ls n)
+node_new o ls k n = λ i. record {
+  area = n.area_id;
+  number = k;
+  links = (ap (take n.link_count) (drop-map (relinked o) n.link_id ls)
+      ∙ take-map (relinked o) n.link_count (drop n.link_id ls)) i;
+  body = body_of n;
 }
-  where
-    same_body : (x : ℕ) (v : List ℕ) → body_of (x ∷ drop 1 v) ≡ body_of v
-    same_body x [] = refl
-    same_body x (y ∷ ys) = refl
 
-nodes_new : (o : Old) (ls : List Link) (k : ℕ) (ws : List (List ℕ)) → k + length ws ≤ 65536
-    → map (node_with (map (relink o) ls)) (number_from k ws) ≡ number_nodes o k (map (node_with ls) ws)
+nodes_new : (o : Old) (ls : List PathLink) (k : ℕ) (ws : List NodeEntry)
+    → map (node_with (map (relinked o) ls)) (number_from k ws) ≡ number_nodes o k (map (node_with ls) ws)
 unfolding number_from number_nodes
-nodes_new o ls k [] h = refl
-nodes_new o ls k (w ∷ ws) h = λ i. node_new o ls k w (omega arith) i ∷ nodes_new o ls (suc k) ws (omega arith) i
+nodes_new o ls k [] = refl
+nodes_new o ls k (w ∷ ws) = λ i. node_new o ls k w i ∷ nodes_new o ls (suc k) ws i
 
-parted_new : (ls : List Link) (ws : List (List ℕ)) → parted is_ped_node (map (node_with ls) ws)
+parted_new : (ls : List PathLink) (ws : List NodeEntry) → parted is_ped_node (map (node_with ls) ws)
     ≡ map (node_with ls) (parted is_ped ws)
-unfolding parted is_ped body_of to_node
+unfolding parted is_ped
 parted_new ls ws = rw (map-append, map_keep, map_keep)
 
-pub old_same : (ls : List Link) (n : ℕ) (nodes : List (List ℕ)) → old_of n nodes
+pub old_same : (ls : List PathLink) (n : ℕ) (nodes : List NodeEntry) → old_of n nodes
     ≡ old_nodes (map (node_with ls) (take n nodes))
-unfolding old_of first_area is_ped body_of to_node
+unfolding old_of first_area is_ped
 old_same ls n nodes = λ i. record {
   area = area (take n nodes) i;
   numbers = each (λ x. x.number) (take n nodes) i;
   peds = each is_ped_node (take n nodes) i;
 }
   where
-    area : (ws : List (List ℕ)) → first_area ws ≡ first_of (map (node_with ls) ws)
+    area : (ws : List NodeEntry) → first_area ws ≡ first_of (map (node_with ls) ws)
     area [] = refl
     area (w ∷ ws) = refl
 
-    each : {B : Type 0} (f : Node → B) (ws : List (List ℕ)) → map (λ w. f (node_with ls w)) ws
+    each : {B : Type 0} (f : Node → B) (ws : List NodeEntry) → map (λ w. f (node_with ls w)) ws
         ≡ map f (map (node_with ls) ws)
     each f [] = refl
     each {B} f (w ∷ ws) = ap {B = List B} (λ t. f (node_with ls w) ∷ t) (each f ws)
@@ -151,29 +132,24 @@ module _ (m : Memory) (ps : List ℕ) {s : ℕ}
   abbrev o : Old
   o = old_of n m.nodes
 
-  abbrev ls : List Link
-  ls = map link_of (take m.ynd.link_count m.links)
+  abbrev ls : List PathLink
+  ls = take m.ynd.link_count m.links
 
-  abbrev ns : List (List ℕ)
+  abbrev ns : List NodeEntry
   ns = take n m.nodes
 
-  relinked_long : (k : ℕ) (l : List (List ℕ)) → k ≤ length l → length (map (relinked o) (take k l)) ≡ k
-  relinked_long k l h = length-map (take k l) (relinked o) ∙ length-take-le k l h
+  mapped_long : {A : Type 0} (f : A → A) (k : ℕ) (l : List A) → k ≤ length l → length (map f (take k l)) ≡ k
+  mapped_long f k l h = length-map (take k l) f ∙ length-take-le k l h
 
-  new_links : map link_of (take m.ynd.link_count (renumber_memory m ps).links) ≡ map (relink o) ls
+  new_links : take m.ynd.link_count (renumber_memory m ps).links ≡ map (relinked o) ls
   unfolding renumber_memory new_lists renumber_lists
-  new_links =
-      ap (map link_of) (front (map (relinked o)) m.ynd.link_count m.links
-      (relinked_long m.ynd.link_count m.links room.links_fit))
-      ∙ map_map link_of (relinked o) link_of (relink o) (link_new o) (take m.ynd.link_count m.links)
+  new_links = front (map (relinked o)) m.ynd.link_count m.links
+      (mapped_long (relinked o) m.ynd.link_count m.links room.links_fit)
 
-  new_refs : map ref_of (take m.ynd.ref_count (renumber_memory m ps).refs)
-      ≡ map (reref o) (map ref_of (take m.ynd.ref_count m.refs))
+  new_refs : take m.ynd.ref_count (renumber_memory m ps).refs ≡ map (rereffed o) (take m.ynd.ref_count m.refs)
   unfolding renumber_memory new_lists renumber_lists
-  new_refs =
-      ap (map ref_of) (front (map (relinked o)) m.ynd.ref_count m.refs
-      (relinked_long m.ynd.ref_count m.refs room.refs_fit))
-      ∙ map_map ref_of (relinked o) ref_of (reref o) (ref_new o) (take m.ynd.ref_count m.refs)
+  new_refs = front (map (rereffed o)) m.ynd.ref_count m.refs
+      (mapped_long (rereffed o) m.ynd.ref_count m.refs room.refs_fit)
 
   ordered_long : length (parted is_ped ns) ≡ n
   ordered_long = parted_length ns ∙ length-take-le n m.nodes room.nodes_fit
@@ -182,16 +158,16 @@ module _ (m : Memory) (ps : List ℕ) {s : ℕ}
   unfolding renumber_memory new_lists renumber_lists reordered
   front_nodes = front reordered n m.nodes (number_length 0 (parted is_ped ns) ∙ ordered_long)
 
-  new_nodes : map (node_with (map (relink o) ls)) (number_from 0 (parted is_ped ns))
+  new_nodes : map (node_with (map (relinked o) ls)) (number_from 0 (parted is_ped ns))
       ≡ number_nodes o 0 (parted is_ped_node (map (node_with ls) ns))
-  new_nodes = nodes_new o ls 0 (parted is_ped ns) (omega (arith, ordered_long, room.few))
+  new_nodes = nodes_new o ls 0 (parted is_ped ns)
       ∙ ap (number_nodes o 0) (sym (parted_new ls ns))
 
   counted : (t : Node → Bool) → length (keep (λ w. t (node_with ls w)) ns) ≡ length (keep t (map (node_with ls) ns))
   counted t = rw (map_keep, length-map)
 
   pub renumber_memory_law : cell_of (renumber_memory m ps) ≡ renumber_cell (cell_of m)
-  unfolding cell_of nodes_of refs_of junctions_of renumber_cell recounted vehicles peds is_ped body_of to_node
+  unfolding cell_of nodes_of refs_of junctions_of renumber_cell recounted vehicles peds is_ped
       renumber_memory
   renumber_memory_law = whole (old_same ls n m.nodes)
     where
@@ -200,7 +176,7 @@ module _ (m : Memory) (ps : List ℕ) {s : ℕ}
         nodes = ((λ j. map (node_with (new_links j)) (front_nodes j)) ∙ new_nodes
             ∙ ap (λ (x : Old). number_nodes x 0 (parted is_ped_node (map (node_with ls) ns))) e) i;
         junctions = junctions_of m;
-        refs = (new_refs ∙ ap (λ (x : Old). map (reref x) (map ref_of (take m.ynd.ref_count m.refs))) e) i;
+        refs = (new_refs ∙ ap (λ (x : Old). map (rereffed x) (take m.ynd.ref_count m.refs)) e) i;
         vehicles = counted is_vehicle_node i;
         peds = counted is_ped_node i;
         vft = m.ynd.vft;
@@ -237,14 +213,14 @@ unfolding renumber cell_of nodes_of
 done_few m ps s e = go (answer_for m ps s) refl e
   where
     go : (a : Answer) → answer_for m ps s ≡ a → (left_by a m ps).answer ≡ (Ok tt)
-        → length (map (node_with (map link_of (take m.ynd.link_count m.links))) (take m.ynd.node_count m.nodes))
+        → length (map (node_with (take m.ynd.link_count m.links)) (take m.ynd.node_count m.nodes))
         ≤ 65536
     go (Ok tt) d t =
         let r = accepted m s (length ps) d in
         omega (
           arith,
           length-map (take m.ynd.node_count m.nodes)
-              (node_with (map link_of (take m.ynd.link_count m.links))),
+              (node_with (take m.ynd.link_count m.links)),
           length-take-le m.ynd.node_count m.nodes
               r.nodes_fit,
           r.few,
@@ -271,7 +247,7 @@ places_tell m ps s e p lt = go (answer_for m ps s) refl e
     go (Err x) d t = cc
     go (Ok tt) d t =
         let same : flags ≡ ped_flags (nodes_of m) = ap (λ (o : Old). o.peds)
-        (old_same (map link_of (take m.ynd.link_count m.links)) n m.nodes) in
+        (old_same (take m.ynd.link_count m.links) n m.nodes) in
         let long : length (ped_flags (nodes_of m)) ≡ length (nodes_of m) = length-map (nodes_of m) is_ped_node in
         let inside : p < length flags = omega (arith, ap length same, long, lt) in
         get_or-append (new_places flags) (drop n ps) 0 p

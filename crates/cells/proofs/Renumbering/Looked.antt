@@ -4,21 +4,22 @@ use Prim.Native.Nat.{ℕ, ◌<◌}
 use native.Mathlib.Omega.{arith}
 use mathlib.Core.Path.{◌≡◌, refl, ap, sym, ◌∙◌}
 use mathlib.Core.Bool.{true, false}
-use mathlib.Core.List.{List, [], ◌∷◌, map}
+use mathlib.Core.List.{List, map}
 use mathlib.Core.Option.{Option, none, some}
 use Rattle.std.specs.Prelude as Opt
 use lib.ListN.{length, get_or, length-map}
 use lib.Seq.{take-length}
 use Rattle.cells.specs.Area.{belongs}
 use Rattle.cells.specs.Order.{last_with, new_number, new_place, place_or, renamed}
-use Rattle.cells.specs.NodeWords.{number_of, is_ped, first_area, old_of}
+use Rattle.cells.specs.Nodes.{number_of, is_ped, first_area, old_of}
 use Rattle.cells.specs.RenumberParts.{Placed}
 use Rattle.cells.specs.LookupCall.{place_of}
 use Rattle.cells.proofs.Renumbering.Placed.{new_at}
 use Rattle.cells.proofs.Renumbering.Parted.{places_length, places_at}
 use Rattle.cells.proofs.Renumbering.Named.{last_below, placed_at}
+use Rattle.cells.specs.declared.node_entry.NodeEntry.{NodeEntry}
 
-module _ (nodes : List (List ℕ)) (places : List ℕ) (r : Placed nodes places) where
+module _ (nodes : List NodeEntry) (places : List ℕ) (r : Placed nodes places) where
   long : length (map is_ped nodes) ≡ length nodes
   long = length-map nodes is_ped
 
@@ -54,21 +55,12 @@ module _ (nodes : List (List ℕ)) (places : List ℕ) (r : Placed nodes places)
       none_at none h = refl
 
 -- a link or a ref, by whether it belongs to the cell
-pub relinked_own : (nodes : List (List ℕ)) (own x k : ℕ) → own ≡ first_area nodes → belongs own x ≡ true
+pub relinked_own : (nodes : List NodeEntry) (own x k : ℕ) → own ≡ first_area nodes → belongs own x ≡ true
     → renamed (old_of (length nodes) nodes) x k ≡ new_number (old_of (length nodes) nodes) k
 unfolding renamed old_of
 relinked_own nodes own x k e t = rw (take-length nodes, ← e, t)
 
-pub relinked_other : (nodes : List (List ℕ)) (own x k : ℕ) → own ≡ first_area nodes → belongs own x ≡ false
+pub relinked_other : (nodes : List NodeEntry) (own x k : ℕ) → own ≡ first_area nodes → belongs own x ≡ false
     → renamed (old_of (length nodes) nodes) x k ≡ k
 unfolding renamed old_of
 relinked_other nodes own x k e t = rw (take-length nodes, ← e, t)
-
--- a link or a ref has four words
-pub four : (w : List ℕ) → length w ≡ 4 → w ≡ get_or w 0 0 ∷ get_or w 1 0 ∷ get_or w 2 0 ∷ get_or w 3 0 ∷ []
-four [] e = absurd (omega arith)
-four (a ∷ []) e = absurd (omega arith)
-four (a ∷ b ∷ []) e = absurd (omega arith)
-four (a ∷ b ∷ c ∷ []) e = absurd (omega arith)
-four (a ∷ b ∷ c ∷ d ∷ []) e = refl
-four (a ∷ b ∷ c ∷ d ∷ x ∷ xs) e = absurd (omega arith)

@@ -14,11 +14,12 @@ use lib.ListN.{length, get_or, set, take, length-map}
 use lib.Seq.{take-suc, length-take-le, get_or-set_same, get_or-set_other}
 use borrow.Author.Tests.{eqb-true, eqb-false, eq-eqb}
 use Rattle.cells.specs.Order.{last_with, or_else}
-use Rattle.cells.specs.NodeWords.{number_of}
+use Rattle.cells.specs.Nodes.{number_of}
 use Rattle.cells.specs.Lookup.{first_with, or_later, is_some}
 use Rattle.cells.specs.LookupCall.{place_of}
 use Rattle.cells.specs.RenumberParts.{Indexed, Leads}
 use Rattle.cells.proofs.Sequences.Tests.{by_test}
+use Rattle.cells.specs.declared.node_entry.NodeEntry.{NodeEntry}
 
 abbrev pub pick : Bool → ℕ → Option ℕ → Option ℕ
 pick true n o = some n
@@ -53,13 +54,13 @@ pub index_starts : (s : List ℕ) → Indexed [] s
 unfolding last_with
 index_starts s = record { at = λ k p e. cc }
 
-pub index_turn : (nodes : List (List ℕ)) (i k : ℕ) (s : List ℕ) → i < length nodes → k
-    ≡ number_of (get_or nodes i []) → k < length s
+pub index_turn : (nodes : List NodeEntry) (i k : ℕ) (s : List ℕ) (z : NodeEntry) → i < length nodes → k
+    ≡ number_of (get_or nodes i z) → k < length s
     → Indexed (map number_of (take i nodes)) s → Indexed (map number_of (take (i + 1) nodes)) (set s k i)
-index_turn nodes i k s lt e hk ix =
+index_turn nodes i k s z lt e hk ix =
     let long : length (map number_of (take i nodes)) ≡ i = length-map (take i nodes) number_of
     ∙ length-take-le i nodes (omega arith) in
-    rw (add-one, take-suc nodes i [] lt, map-append, ← e)
+    rw (add-one, take-suc nodes i z lt, map-append, ← e)
     (rw long at (indexed_next (map number_of (take i nodes)) k s hk ix))
 
 -- the last node that has a number has it
@@ -106,18 +107,19 @@ placed_at none p e = cc
 
 -- ---- by the scratch of nodes
 
-module _ (nodes : List (List ℕ)) (s : List ℕ) (l : Leads (map number_of nodes) s) (k t : ℕ) (is-t : get_or s k 0 ≡ t)
+module _ (nodes : List NodeEntry) (s : List ℕ) (l : Leads (map number_of nodes) s) (k t : ℕ) (z : NodeEntry)
+    (is-t : get_or s k 0 ≡ t)
   where
-    pub last_here : t < length nodes → number_of (get_or nodes t []) ≡ k → Opt.Some t
+    pub last_here : t < length nodes → number_of (get_or nodes t z) ≡ k → Opt.Some t
         ≡ place_of (last_with (map number_of nodes) k)
     last_here lt e = sym (ap place_of (named (map number_of nodes) s l.indexed k t is-t
-        (omega (arith, length-map nodes number_of)) (get_or-map number_of nodes t [] 0 lt ∙ e)))
+        (omega (arith, length-map nodes number_of)) (get_or-map number_of nodes t z 0 lt ∙ e)))
 
-    pub last_nowhere : (t < length nodes → number_of (get_or nodes t []) ≡ k → ⊥) → Opt.None
+    pub last_nowhere : (t < length nodes → number_of (get_or nodes t z) ≡ k → ⊥) → Opt.None
         ≡ place_of (last_with (map number_of nodes) k)
     last_nowhere nowhere = sym (ap place_of (unnamed (map number_of nodes) s l.indexed k t is-t
         (λ lt e. let below : t < length nodes = omega (arith, length-map nodes number_of) in nowhere below
-        (sym (get_or-map number_of nodes t [] 0 below) ∙ e))))
+        (sym (get_or-map number_of nodes t z 0 below) ∙ e))))
 
 -- the last place that a number has is one of the places
 pub last_below : (ns : List ℕ) (k p : ℕ) → place_of (last_with ns k) ≡ Opt.Some p → p < length ns

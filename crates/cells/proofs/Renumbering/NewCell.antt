@@ -1,7 +1,6 @@
 -- What a renumbered cell holds: each node at its new place, which is its number.
 -- Assumes nothing.
-use Rattle.cells.specs.Words.{to_node}
-use Rattle.cells.specs.Cell.{body_of}
+use Rattle.cells.specs.Nodes.{rereffed}
 use Prim.Native.Nat.{ℕ, zero, suc, ◌+◌, ◌<◌}
 use native.Mathlib.Omega.{arith}
 use native.Mathlib.Nat.{zero-add, suc-add, add-suc, add-zero}
@@ -13,7 +12,7 @@ use lib.ListN.{length, get_or, length-map, get_or-map}
 use borrow.Author.Tests.{eq-eqb, lt-ltb}
 use Rattle.cells.specs.Cell.{Node, Cell, node_at, no_node, no_body, is_ped_node, numbers, ped_flags}
 use Rattle.cells.specs.Order.{new_place, Old}
-use Rattle.cells.specs.Cell.{ordered, reref, renode, number_nodes, renumber_cell, old_nodes}
+use Rattle.cells.specs.Cell.{ordered, renode, number_nodes, renumber_cell, old_nodes}
 use Rattle.cells.specs.Lookup.{find}
 use Rattle.cells.specs.Lists.{every}
 use Rattle.cells.proofs.Sequences.Tests.{and_left, and_right}
@@ -29,7 +28,7 @@ number_is ns p = get_or-map (λ n. n.number) ns p no_node
 
 -- no node is no ped node
 pub none_ped : is_ped_node no_node ≡ false
-unfolding no_node no_body body_of to_node
+unfolding no_node no_body
 none_ped = refl
 
 -- the node first at place p stands at its new place
@@ -54,7 +53,7 @@ module _ (c : Cell) where
   unfolding renumber_cell
   new_length = number_length _ _ _ ∙ ordered_length _
 
-  pub new_refs : (renumber_cell c).refs ≡ map (reref (old_nodes c.nodes)) c.refs
+  pub new_refs : (renumber_cell c).refs ≡ map (rereffed (old_nodes c.nodes)) c.refs
   unfolding renumber_cell
   new_refs = refl
 

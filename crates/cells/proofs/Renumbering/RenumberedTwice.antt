@@ -11,8 +11,11 @@ use lib.ListN.{length, length-map}
 use lib.Seq.{ext_get_or}
 use Rattle.cells.specs.Area.{belongs}
 use Rattle.cells.specs.Order.{keep, new_place, new_number, last_with, place_or, renamed, Old}
-use Rattle.cells.specs.Cell.{Link, Node, Ref, Cell, node_at, no_node, is_ped_node, is_vehicle_node, numbers}
-use Rattle.cells.specs.Cell.{ped_flags, old_nodes, ordered, relink, reref, renode, number_nodes, renumber_cell}
+use Rattle.cells.specs.Cell.{Node, Cell, node_at, no_node, is_ped_node, is_vehicle_node, numbers}
+use Rattle.cells.specs.Cell.{ped_flags, old_nodes, ordered, renode, number_nodes, renumber_cell}
+use Rattle.cells.specs.Nodes.{relinked, rereffed}
+use Rattle.cells.specs.declared.link.PathLink.{PathLink}
+use Rattle.records.specs.declared.junction_ref.NodeJunctionRef.{NodeJunctionRef}
 use Rattle.cells.specs.Memory.{Memory}
 use Rattle.cells.specs.CellOf.{cell_of}
 use Rattle.cells.specs.Renumber.{renumber}
@@ -72,23 +75,17 @@ module _ (c : Cell) where
       go true = same_number k
       go false = refl
 
-  same_link : (l : Link) → relink (old_nodes new) l ≡ l
-  same_link l = λ i. record { area = l.area; number = same_renamed l.area l.number i; body = l.body }
+  same_link : (l : PathLink) → relinked (old_nodes new) l ≡ l
+  same_link l = λ i. record l { node_id = same_renamed l.area_id l.node_id i }
 
-  same_ref : (r : Ref) → reref (old_nodes new) r ≡ r
-  same_ref r = λ i. record {
-    area = r.area;
-    number = same_renamed r.area r.number i;
-    junction = r.junction;
-    unk0 =
-        r.unk0;
-  }
+  same_ref : (r : NodeJunctionRef) → rereffed (old_nodes new) r ≡ r
+  same_ref r = λ i. record r { node_id = same_renamed r.area_id r.node_id i }
 
   same_node : (k : ℕ) (n : Node) → n.number ≡ k → renode (old_nodes new) k n ≡ n
   same_node k n e = λ i. record {
     area = n.area;
     number = sym e i;
-    links = map_same (relink (old_nodes new))
+    links = map_same (relinked (old_nodes new))
         same_link n.links i;
     body = n.body;
   }
@@ -108,7 +105,7 @@ module _ (c : Cell) where
   renumber_again = λ i. record {
     nodes = (ap (number_nodes (old_nodes new) 0) same_order ∙ same_nodes) i;
     junctions = c.junctions;
-    refs = map_same (reref (old_nodes new)) same_ref (renumber_cell c).refs i;
+    refs = map_same (rereffed (old_nodes new)) same_ref (renumber_cell c).refs i;
     vehicles = (counted is_vehicle_node new (ordered c.nodes)
         (bodies_kept is_vehicle_node (λ o k n. refl) (old_nodes c.nodes) 0 (ordered c.nodes))
         ∙ ap length (others_again is_ped_node c.nodes)) i;

@@ -4,7 +4,7 @@ use Prim.Native.Nat.{ℕ, suc, ◌+◌, ◌≤◌, ◌<◌}
 use native.Mathlib.Omega.{arith}
 use native.Mathlib.Numerals.{add-one}
 use mathlib.Core.Path.{◌≡◌, refl, ap, sym, ◌∙◌}
-use mathlib.Core.List.{List, [], ◌++◌, map, append-nil}
+use mathlib.Core.List.{List, ◌++◌, map, append-nil}
 use lib.ListN.{length, get_or, set, take, drop, length-append, length-map, length-drop}
 use Rattle.std.proofs.lemmas.List.{drop_all, get_or_default}
 use Rattle.std.proofs.lemmas.List.Edits.{map_over_more}
@@ -25,10 +25,10 @@ module _ {A : Type 0} (l D : List A) (i : ℕ) where
       (get_or_at (take i D) (get_or l i d) (drop (suc i) l) d i (length-take-le i D hD))
 
 -- an element that f is applied to, in a loop that does so from the front
-pub mapped_turn : (f : List ℕ → List ℕ) (l : List (List ℕ)) (i : ℕ) (w : List ℕ) → i < length l
-    → w ≡ f (get_or (map f (take i l) ++ drop i l) i []) → set (map f (take i l) ++ drop i l) i w
+pub mapped_turn : {A : Type 0} (f : A → A) (l : List A) (i : ℕ) (w d : A) → i < length l
+    → w ≡ f (get_or (map f (take i l) ++ drop i l) i d) → set (map f (take i l) ++ drop i l) i w
     ≡ map f (take (i + 1) l) ++ drop (i + 1) l
-mapped_turn f l i w h e =
+mapped_turn f l i w d h e =
     let now = map f (take i l) ++ drop i l in
     let long : i < length now = omega (
       arith,
@@ -37,7 +37,7 @@ mapped_turn f l i w h e =
       length-take-le i l (omega arith),
       length-drop i l,
     ) in
-    ap (set now i) e ∙ map_over_more f l now i (get_or now i []) h refl (get_or_default now i [] _ long)
+    ap (set now i) e ∙ map_over_more f l now i (get_or now i d) h refl (get_or_default now i d _ long)
 
 -- all stored
 pub fill_all : {A : Type 0} (l D : List A) (i : ℕ) → length D ≡ length l → i ≡ length l → take i D ++ drop i l ≡ D

@@ -3,7 +3,7 @@
 use Prim.Native.Nat.{ℕ, zero, suc, ◌+◌, ◌≤◌, ◌<◌}
 use mathlib.Core.Path.{◌≡◌, refl, sym, ap, ◌∙◌}
 use mathlib.Core.Bool.{Bool, true, false, cond}
-use mathlib.Core.List.{List, [], ◌++◌, append-nil}
+use mathlib.Core.List.{List, ◌++◌, append-nil}
 use native.Mathlib.Nat.{ne_of_lt}
 use native.Mathlib.Numerals.{lt_of_le_of_ne}
 use native.Mathlib.Omega.{arith}
@@ -82,20 +82,21 @@ module _ (i j : ℕ) (apart : i ≡ j → ⊥) where
           ∙ ap (λ (x : ℕ). get_or l x d) (sym (exch_other i j k ni nj))
 
 -- each entry of f stands where the places say
-abbrev pub Leads : ℕ → List (List ℕ) → List ℕ → List (List ℕ) → Type 0
-Leads n f to nodes = (k : ℕ) → k < n → get_or f (get_or to k 0) [] ≡ get_or nodes k []
+abbrev pub Leads : {A : Type 0} → A → ℕ → List A → List ℕ → List A → Type 0
+Leads d n f to nodes = (k : ℕ) → k < n → get_or f (get_or to k 0) d ≡ get_or nodes k d
 
 -- what every turn keeps
-pub record Moving (n i : ℕ) (nodes₀ : List (List ℕ)) (to₀ : List ℕ) (nodes : List (List ℕ)) (to : List ℕ) : Type 0
+pub record Moving {A : Type 0} (d : A) (n i : ℕ) (nodes₀ : List A) (to₀ : List ℕ) (nodes : List A)
+    (to : List ℕ) : Type 0
   where
     pub places : Places n to
     pub settled : (j : ℕ) → j < i → get_or to j 0 ≡ j
-    pub follows : (f : List (List ℕ)) → Leads n f to₀ nodes₀ → Leads n f to nodes
+    pub follows : (f : List A) → Leads d n f to₀ nodes₀ → Leads d n f to nodes
     pub rest : drop n nodes ≡ drop n nodes₀
 
-module _ (n i t : ℕ) (nodes₀ : List (List ℕ)) (to₀ : List ℕ) (nodes : List (List ℕ)) (to : List ℕ)
+module _ {A : Type 0} (d : A) (n i t : ℕ) (nodes₀ : List A) (to₀ : List ℕ) (nodes : List A) (to : List ℕ)
     (hi : i < n) (hn : n ≤ length nodes) (ht : n ≤ length to) (is-t : t ≡ get_or to i 0)
-    (m : Moving n i nodes₀ to₀ nodes to) where
+    (m : Moving d n i nodes₀ to₀ nodes to) where
   pub below_t : t < n
   below_t = omega (arith, m.places.within i hi)
 
@@ -103,7 +104,7 @@ module _ (n i t : ℕ) (nodes₀ : List (List ℕ)) (to₀ : List ℕ) (nodes : 
     moved_to : (k : ℕ) → get_or (swapped 0 to i t) k 0 ≡ get_or to (exch i t k) 0
     moved_to k = swapped_at i t apart 0 to k (omega arith) (omega (arith, below_t))
 
-    exchange : Moving n i nodes₀ to₀ (swapped [] nodes i t) (swapped 0 to i t)
+    exchange : Moving d n i nodes₀ to₀ (swapped d nodes i t) (swapped 0 to i t)
     exchange = record {
       places = record {
         within = λ k h. rw (moved_to k) (m.places.within (exch i t k) (exch_below i t apart n k hi below_t h));
@@ -115,22 +116,22 @@ module _ (n i t : ℕ) (nodes₀ : List (List ℕ)) (to₀ : List ℕ) (nodes : 
       };
       settled = λ j h. rw (moved_to j, exch_other i t j (ne_of_lt h) (λ e. not_t j h e)) (m.settled j h);
       follows = λ f e k h.
-          ap (λ (x : ℕ). get_or f x []) (moved_to k)
+          ap (λ (x : ℕ). get_or f x d) (moved_to k)
           ∙ m.follows f e (exch i t k) (exch_below i t apart n k hi below_t h)
-          ∙ sym (swapped_at i t apart [] nodes k (omega arith) (omega (arith, below_t)));
-      rest = drop-set-lt n (set nodes i (get_or nodes t [])) t (get_or nodes i []) below_t
-          ∙ drop-set-lt n nodes i (get_or nodes t []) hi ∙ m.rest;
+          ∙ sym (swapped_at i t apart d nodes k (omega arith) (omega (arith, below_t)));
+      rest = drop-set-lt n (set nodes i (get_or nodes t d)) t (get_or nodes i d) below_t
+          ∙ drop-set-lt n nodes i (get_or nodes t d) hi ∙ m.rest;
     }
       where
         not_t : (j : ℕ) → j < i → j ≡ t → ⊥
         not_t j h e = ne_of_lt h (m.places.apart j i (omega arith) hi (m.settled j h ∙ e ∙ is-t))
 
     -- as std's `swap` leaves them
-    pub exchanged : {nodes' : List (List ℕ)} {to' : List ℕ} → nodes' ≡ swap nodes i t → to' ≡ swap to i t
-        → Moving n i nodes₀ to₀ nodes' to'
+    pub exchanged : {nodes' : List A} {to' : List ℕ} → nodes' ≡ swap nodes i t → to' ≡ swap to i t
+        → Moving d n i nodes₀ to₀ nodes' to'
     exchanged e f =
         rw (
-          e ∙ sym (swap_is nodes i t [] (omega arith) (omega (arith, below_t))),
+          e ∙ sym (swap_is nodes i t d (omega arith) (omega (arith, below_t))),
           f
               ∙ sym (swap_is to i t 0 (omega arith) (omega (arith, below_t))),
         ) exchange
@@ -207,22 +208,22 @@ exchange_less n i t to hi ht is-t apart p =
     (at t ∙ ap (λ (x : ℕ). get_or to x 0) (exch_second i t) ∙ sym is-t)
 
 -- once all are settled, the entries are those of f
-pub arrived : (n : ℕ) (nodes₀ : List (List ℕ)) (to₀ : List ℕ) (nodes : List (List ℕ)) (to : List ℕ) → n
-    ≤ length nodes → Moving n n nodes₀ to₀ nodes to
-    → (f : List (List ℕ)) → length f ≡ n → Leads n f to₀ nodes₀ → nodes ≡ f ++ drop n nodes₀
-arrived n nodes₀ to₀ nodes to hn m f long e =
+pub arrived : {A : Type 0} (d : A) (n : ℕ) (nodes₀ : List A) (to₀ : List ℕ) (nodes : List A) (to : List ℕ) → n
+    ≤ length nodes → Moving d n n nodes₀ to₀ nodes to
+    → (f : List A) → length f ≡ n → Leads d n f to₀ nodes₀ → nodes ≡ f ++ drop n nodes₀
+arrived {A = A} d n nodes₀ to₀ nodes to hn m f long e =
     let short : length (take n nodes) ≡ n = length-take-le n nodes hn in
-    let front : take n nodes ≡ f = ext_get_or [] (take n nodes) f (short ∙ sym long) (λ k h.
+    let front : take n nodes ≡ f = ext_get_or d (take n nodes) f (short ∙ sym long) (λ k h.
     let lt : k < n = omega arith in
-    get_or-take n nodes k [] lt ∙ sym (m.follows f e k lt) ∙ ap (λ (x : ℕ). get_or f x []) (m.settled k lt)) in
-    sym (take-append-drop n nodes) ∙ ap (λ (x : List (List ℕ)). x ++ drop n nodes) front
-    ∙ ap (λ (x : List (List ℕ)). f ++ x) m.rest
+    get_or-take n nodes k d lt ∙ sym (m.follows f e k lt) ∙ ap (λ (x : ℕ). get_or f x d) (m.settled k lt)) in
+    sym (take-append-drop n nodes) ∙ ap (λ (x : List A). x ++ drop n nodes) front
+    ∙ ap (λ (x : List A). f ++ x) m.rest
 
 -- the same where all move
-pub all_arrived : (nodes₀ : List (List ℕ)) (to₀ : List ℕ) (nodes : List (List ℕ)) (to : List ℕ) (n i : ℕ) → i ≡ n
+pub all_arrived : {A : Type 0} (d : A) (nodes₀ : List A) (to₀ : List ℕ) (nodes : List A) (to : List ℕ) (n i : ℕ) → i ≡ n
     → n ≡ length nodes → n ≡ length nodes₀
-    → Moving n i nodes₀ to₀ nodes to → (f : List (List ℕ)) → length f ≡ n → Leads n f to₀ nodes₀ → nodes ≡ f
-all_arrived nodes₀ to₀ nodes to n i e h h₀ m f long leads =
-    let here : Moving n n nodes₀ to₀ nodes to = rw e at m in
-    arrived n nodes₀ to₀ nodes to (omega arith) here f long leads
-    ∙ ap (λ (x : List (List ℕ)). f ++ x) (drop_all n nodes₀ (omega arith)) ∙ append-nil f
+    → Moving d n i nodes₀ to₀ nodes to → (f : List A) → length f ≡ n → Leads d n f to₀ nodes₀ → nodes ≡ f
+all_arrived {A = A} d nodes₀ to₀ nodes to n i e h h₀ m f long leads =
+    let here : Moving d n n nodes₀ to₀ nodes to = rw e at m in
+    arrived d n nodes₀ to₀ nodes to (omega arith) here f long leads
+    ∙ ap (λ (x : List A). f ++ x) (drop_all n nodes₀ (omega arith)) ∙ append-nil f

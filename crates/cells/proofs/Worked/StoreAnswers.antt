@@ -1,6 +1,6 @@
 -- Answers at named inputs of the stores of own words, shorter lists, all links of a node and heightmaps.
 -- Assumes nothing.
-use Prim.Native.Nat.{ℕ, ◌*◌, ◌+◌}
+use Prim.Native.Nat.{ℕ}
 use mathlib.Core.Path.{◌≡◌, refl}
 use mathlib.Core.List.{List, [], ◌∷◌}
 use lib.ListN.{replicate}
@@ -8,12 +8,16 @@ use Rattle.records.specs.Put.{put}
 use Rattle.cells.specs.Memory.{Memory, memory, refuse, over_limit}
 use Rattle.cells.specs.Edit.{held_in}
 use Rattle.cells.specs.Add.{with_counts, done}
-use Rattle.cells.specs.AddLink.{ranged}
+use Rattle.cells.specs.Nodes.{no_entry, no_link, no_map, no_ref}
+use Rattle.cells.specs.EntryForms.{with_range}
 use Rattle.cells.specs.Truncate.{fewer, truncate_nodes, truncate_refs}
 use Rattle.cells.specs.Replace.{place_for, pool_after}
 use Rattle.cells.specs.PutLinks.{room_for_links, put_links}
 use Rattle.cells.specs.PutHeightmap.{room_for_map, mapped, put_heightmap}
 use Rattle.cells.specs.declared.ynd.Ynd.{Ynd}
+use Rattle.cells.specs.declared.node_entry.NodeEntry.{NodeEntry}
+use Rattle.cells.specs.declared.link.PathLink.{PathLink}
+use Rattle.cells.specs.declared.junction_entry.JunctionEntry.{JunctionEntry}
 use Rattle.std.specs.Prelude.{Err}
 use Rattle.numbers.specs.declared.refusal.Refusal.TheVariants.{TooShort, WrongSize, NoSuchPlace, AtLimit}
 use Rattle.numbers.specs.declared.refusal.Lent.TheVariants as lent
@@ -33,17 +37,28 @@ counts n l j h = record {
 }
 
 -- a node with c links from s and five tags, a junction with a map of this size from s, a link to a number
-abbrev node : ℕ → ℕ → List ℕ
-node c s = 7 ∷ 0 ∷ 0 ∷ 0 ∷ 0 ∷ 0 ∷ (5 + c * 65536) ∷ s ∷ 71 ∷ 72 ∷ 73 ∷ 74 ∷ 75 ∷ []
+abbrev node : ℕ → ℕ → NodeEntry
+node c s =
+    record no_entry {
+      area_id = 7;
+      flags2 = 5;
+      link_count = c;
+      link_id = s;
+      unused0 = 71;
+      unused1 = 72;
+      unused2 = 73;
+      unused3 = 74;
+      unused4 = 75;
+    }
 
-abbrev junction : ℕ → ℕ → ℕ → List ℕ
-junction width height s = 1 ∷ 2 ∷ 3 ∷ 4 ∷ (width + height * 256) ∷ s ∷ []
+abbrev junction : ℕ → ℕ → ℕ → JunctionEntry
+junction width height s = record no_map { width = width; height = height; heightmap_ptr = s }
 
-abbrev link : ℕ → List ℕ
-link k = 7 ∷ k ∷ 0 ∷ 0 ∷ []
+abbrev link : ℕ → PathLink
+link k = record no_link { area_id = 7; node_id = k }
 
 -- two nodes, with two links and one; two junctions, with two values and one; room for three links and four values more
-abbrev links : List (List ℕ)
+abbrev links : List PathLink
 links = link 1 ∷ link 2 ∷ link 3 ∷ link 0 ∷ link 0 ∷ link 0 ∷ []
 
 abbrev heights : List ℕ
@@ -51,7 +66,7 @@ heights = 11 ∷ 12 ∷ 13 ∷ 0 ∷ 0 ∷ 0 ∷ 0 ∷ []
 
 abbrev yard : Memory
 yard = memory (counts 2 3 2 3) (node 2 0 ∷ node 1 2 ∷ []) links (junction 2 1 0 ∷ junction 1 1 2 ∷ []) heights
-    (replicate 4 0 ∷ [])
+    (no_ref ∷ [])
 
 -- ---- all links of a node
 
@@ -59,27 +74,27 @@ yard = memory (counts 2 3 2 3) (node 2 0 ∷ node 1 2 ∷ []) links (junction 2 
 pub fewer_links : put_links yard 0 (link 8 ∷ [])
     ≡ done (memory (counts 2 3 2 3) (node 1 0 ∷ node 1 2 ∷ [])
     (link 8 ∷ link 2 ∷ link 3 ∷ link 0 ∷ link 0 ∷ link 0 ∷ []) yard.junctions heights yard.refs)
-unfolding put_links room_for_links over_limit place_for pool_after held_in ranged put with_counts
+unfolding put_links room_for_links over_limit place_for pool_after held_in with_range put with_counts
 fewer_links = refl
 
 -- as many, too
 pub as_many_links : put_links yard 0 (link 8 ∷ link 9 ∷ [])
     ≡ done (memory (counts 2 3 2 3) (node 2 0 ∷ node 1 2 ∷ [])
     (link 8 ∷ link 9 ∷ link 3 ∷ link 0 ∷ link 0 ∷ link 0 ∷ []) yard.junctions heights yard.refs)
-unfolding put_links room_for_links over_limit place_for pool_after held_in ranged put with_counts
+unfolding put_links room_for_links over_limit place_for pool_after held_in with_range put with_counts
 as_many_links = refl
 
 -- more stand behind all others
 pub more_links_law : put_links yard 0 (link 8 ∷ link 9 ∷ link 10 ∷ [])
     ≡ done (memory (counts 2 6 2 3) (node 3 3 ∷ node 1 2 ∷ [])
     (link 1 ∷ link 2 ∷ link 3 ∷ link 8 ∷ link 9 ∷ link 10 ∷ []) yard.junctions heights yard.refs)
-unfolding put_links room_for_links over_limit place_for pool_after held_in ranged put with_counts
+unfolding put_links room_for_links over_limit place_for pool_after held_in with_range put with_counts
 more_links_law = refl
 
 -- cleared
 pub no_links : put_links yard 1 []
     ≡ done (memory (counts 2 3 2 3) (node 2 0 ∷ node 0 0 ∷ []) links yard.junctions heights yard.refs)
-unfolding put_links room_for_links over_limit place_for pool_after held_in ranged put with_counts
+unfolding put_links room_for_links over_limit place_for pool_after held_in with_range put with_counts
 no_links = refl
 
 -- 13 before 14, 14 before 7, 7 with its place
@@ -131,10 +146,10 @@ pub larger_map : put_heightmap yard 0 2 2 (21 ∷ 22 ∷ 23 ∷ 24 ∷ [])
 unfolding put_heightmap room_for_map over_limit place_for pool_after held_in mapped put with_counts
 larger_map = refl
 
-pub no_map : put_heightmap yard 1 5 0 []
+pub no_values : put_heightmap yard 1 5 0 []
     ≡ done (memory (counts 2 3 2 3) yard.nodes links (junction 2 1 0 ∷ junction 5 0 0 ∷ []) heights yard.refs)
 unfolding put_heightmap room_for_map over_limit place_for pool_after held_in mapped put with_counts
-no_map = refl
+no_values = refl
 
 -- 12 before 7
 pub not_its_size : put_heightmap yard 1 2 3 (replicate 5 1) ≡ refuse WrongSize yard

@@ -1,5 +1,5 @@
 -- Document 01's starred pairs on writing, over the definitions that the contracts cite.
-use Prim.Native.Nat.{ℕ, ◌*◌, ◌≤◌}
+use Prim.Native.Nat.{ℕ, ◌≤◌}
 use native.Mathlib.Omega.{arith}
 use mathlib.Core.Path.{◌≡◌, refl, ap, ◌∙◌}
 use mathlib.Core.Bool.{Bool}
@@ -14,6 +14,7 @@ use Rattle.records.specs.Layout.{header_bytes, gap_for, start_of, offset, total,
 use Rattle.records.proofs.Laid.{section_length}
 use Rattle.cells.specs.Memory.{Memory, memory, over_limit, short_of}
 use Rattle.cells.specs.Entries.{links_in, file_node, file_link}
+use Rattle.cells.specs.Nodes.{no_entry, no_link}
 use Rattle.cells.specs.WriteChecks.{maps_cut, check_nodes, check_junctions}
 use Rattle.cells.specs.Blocks.{laid, arrays, blocks, root_for, written}
 use Rattle.cells.specs.Write.{WriteLeft, left, refuse, or_else, held, stored, write_held, write_call}
@@ -36,8 +37,8 @@ one_node count =
       heightmap_count = 0;
       ref_count = 0;
     })
-    ((0 ∷ 0 ∷ 0 ∷ 0 ∷ 0 ∷ 0 ∷ (count * 65536) ∷ 0 ∷ replicate 5 0) ∷ [])
-    (replicate count (replicate 4 0))
+    (record no_entry { link_count = count } ∷ [])
+    (replicate count no_link)
     []
     []
     []

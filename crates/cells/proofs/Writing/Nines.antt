@@ -25,18 +25,21 @@ use Rattle.numbers.specs.declared.refusal.Refusal.TheVariants.{TooShort, TooMany
 use Rattle.numbers.specs.declared.refusal.Refusal.TheVariants.{ValuesStartTooHigh, TooManyRefs, WrongSize, AtLimit}
 use Rattle.numbers.specs.declared.refusal.Lent.{Lent}
 use Rattle.numbers.specs.declared.refusal.Lent.TheVariants as lent
+use Rattle.cells.specs.Nodes.{no_entry}
+use Rattle.cells.specs.declared.node_entry.NodeEntry.{NodeEntry}
+use Rattle.cells.specs.declared.link.PathLink.{PathLink}
 
-module _ {B : Type 0} (links : List ℕ → List B) where
+module _ {A B : Type 0} (z : A) (links : A → List B) where
   -- the node that 9 names, where `before` links stand before the first of these nodes
-  pub record NineAt (before : ℕ) (nodes : List (List ℕ)) (p : ℕ) : Type 0 where
+  pub record NineAt (before : ℕ) (nodes : List A) (p : ℕ) : Type 0 where
     pub inside : p < length nodes
-    pub with_links : 0 < length (links (get_or nodes p []))
+    pub with_links : 0 < length (links (get_or nodes p z))
     pub behind : 65535 < before + length (joined links (take p nodes))
-    pub first : (i : ℕ) → i < p → 0 < length (links (get_or nodes i [])) → before
+    pub first : (i : ℕ) → i < p → 0 < length (links (get_or nodes i z)) → before
         + length (joined links (take i nodes)) ≤ 65535
-    pub few : (i : ℕ) → i ≤ p → length (links (get_or nodes i [])) ≤ 31
+    pub few : (i : ℕ) → i ≤ p → length (links (get_or nodes i z)) ≤ 31
 
-  module _ (before : ℕ) (n : List ℕ) (ns : List (List ℕ)) (few : length (links n) ≤ 31) where
+  module _ (before : ℕ) (n : A) (ns : List A) (few : length (links n) ≤ 31) where
     -- the node itself
     here : start_over before (length (links n)) ≡ true → NineAt before (n ∷ ns) 0
     unfolding joined
@@ -50,7 +53,7 @@ module _ {B : Type 0} (links : List ℕ → List B) where
           few = few_here;
         }
       where
-        few_here : (i : ℕ) → i ≤ 0 → length (links (get_or (n ∷ ns) i [])) ≤ 31
+        few_here : (i : ℕ) → i ≤ 0 → length (links (get_or (n ∷ ns) i z)) ≤ 31
         few_here zero le = few
         few_here (suc i) le = absurd (omega arith)
 
@@ -66,7 +69,7 @@ module _ {B : Type 0} (links : List ℕ → List B) where
       few = few_later;
     }
       where
-        first_later : (i : ℕ) → i < suc p → 0 < length (links (get_or (n ∷ ns) i []))
+        first_later : (i : ℕ) → i < suc p → 0 < length (links (get_or (n ∷ ns) i z))
             → before + length (joined links (take i (n ∷ ns))) ≤ 65535
         first_later zero lt s =
             let e = start_some before (length (links n)) s in
@@ -74,12 +77,12 @@ module _ {B : Type 0} (links : List ℕ → List B) where
         first_later (suc i) lt s =
             omega (arith, h.first i (omega arith) s, length-append (links n) (joined links (take i ns)))
 
-        few_later : (i : ℕ) → i ≤ suc p → length (links (get_or (n ∷ ns) i [])) ≤ 31
+        few_later : (i : ℕ) → i ≤ suc p → length (links (get_or (n ∷ ns) i z)) ≤ 31
         few_later zero le = few
         few_later (suc i) le = h.few i (omega arith)
 
   -- a place counted from the first of these nodes
-  record Found (place before : ℕ) (nodes : List (List ℕ)) (p : ℕ) : Type 0 where
+  record Found (place before : ℕ) (nodes : List A) (p : ℕ) : Type 0 where
     at : ℕ
     there : p ≡ place + at
     nine : NineAt before nodes at
@@ -87,7 +90,7 @@ module _ {B : Type 0} (links : List ℕ → List B) where
   eight : {P : Type 0} {a b : ℕ} → ◌≡◌ {A = Result ℕ Refusal} (Err (TooManyLinks a)) (Err (LinksStartTooHigh b)) → P
   eight e = let z : ◌≡◌ {A = ℕ} 8 9 = cc in absurd (omega arith)
 
-  told : (place before : ℕ) (nodes : List (List ℕ)) (p : ℕ)
+  told : (place before : ℕ) (nodes : List A) (p : ℕ)
       → check_nodes (λ n. length (links n)) place before nodes ≡ Err (LinksStartTooHigh p) → Found place before nodes p
   unfolding check_nodes
   told place before [] p e = cc
@@ -114,7 +117,7 @@ module _ {B : Type 0} (links : List ℕ → List B) where
         nine = later before n ns few r.at v r.nine;
       }
 
-  says : (place before : ℕ) (nodes : List (List ℕ)) (p : ℕ) → NineAt before nodes p
+  says : (place before : ℕ) (nodes : List A) (p : ℕ) → NineAt before nodes p
       → check_nodes (λ n. length (links n)) place before nodes ≡ Err (LinksStartTooHigh (place + p))
   unfolding check_nodes joined
   says place before [] p h = absurd (omega (arith, h.inside))
@@ -142,7 +145,7 @@ module _ {B : Type 0} (links : List ℕ → List B) where
       })
       ∙ ap (λ (k : ℕ). Err (LinksStartTooHigh k)) e)
 
-  module _ (nodes : List (List ℕ)) (p : ℕ) where
+  module _ (nodes : List A) (p : ℕ) where
     pub nine_only : check_nodes (λ n. length (links n)) 0 0 nodes ≡ Err (LinksStartTooHigh p) → NineAt 0 nodes p
     nine_only e =
         let r = told 0 0 nodes p e in
@@ -153,7 +156,7 @@ module _ {B : Type 0} (links : List ℕ → List B) where
 
 -- ---- at the call
 
-ten : (count : List ℕ → ℕ) (place before : ℕ) (js : List (List ℕ)) (cause : Refusal)
+ten : {A : Type 0} (count : A → ℕ) (place before : ℕ) (js : List A) (cause : Refusal)
     → check_junctions count place before js ≡ Err cause → number_of cause ≡ 10
 unfolding check_junctions
 ten count place before [] cause e = cc
@@ -186,12 +189,12 @@ seven m cause =
     go false false false false false e = cc
 
 -- the cell's own links of a node
-abbrev own : Memory → List ℕ → List (List ℕ)
+abbrev own : Memory → NodeEntry → List PathLink
 own m n = links_in (held m).links n
 
 module _ (m : Memory) (s : List ℕ) (p : ℕ) where
   -- a cell that writing refuses with 9
-  pub refused_nine : (write_call m s).answer ≡ Err (LinksStartTooHigh p) → NineAt (own m) 0 (held m).nodes p
+  pub refused_nine : (write_call m s).answer ≡ Err (LinksStartTooHigh p) → NineAt no_entry (own m) 0 (held m).nodes p
   unfolding write_call write_held stored
   refused_nine e =
       go (over_limit (held m).ynd) (maps_cut (held m).ynd.heightmap_count (held m).junctions)
@@ -214,10 +217,10 @@ module _ (m : Memory) (s : List ℕ) (p : ℕ) where
           (after a s (after b s (or_else c (refuse TooManyRefs s)
           (after d s (or_else f (refuse (TooShort lent.Section) s) wrote))))))
           ).answer ≡ Err (LinksStartTooHigh p)
-          → NineAt (own m) 0 (held m).nodes p
+          → NineAt no_entry (own m) 0 (held m).nodes p
       go true w a b c d f ea eb ed q = other (λ z. omega arith) q
       go false true a b c d f ea eb ed q = other (λ z. omega arith) q
-      go false false (Err x) b c d f ea eb ed q = nine_only (own m) (held m).nodes p (ea ∙ q)
+      go false false (Err x) b c d f ea eb ed q = nine_only no_entry (own m) (held m).nodes p (ea ∙ q)
       go false false (Ok l) (Err x) c d f ea eb ed q =
           other (λ z. omega (arith, ten (λ j. length (values_in (held m).heights j)) 0 0 (held m).junctions x eb)) q
       go false false (Ok l) (Ok v) true d f ea eb ed q = other (λ z. omega arith) q
@@ -227,6 +230,6 @@ module _ (m : Memory) (s : List ℕ) (p : ℕ) where
 
   -- such a cell, within the limits and with whole heightmaps, is refused so, and the section stays
   pub nine_refused : over_limit (held m).ynd ≡ false → maps_cut (held m).ynd.heightmap_count (held m).junctions ≡ false
-      → NineAt (own m) 0 (held m).nodes p → write_call m s ≡ refuse (LinksStartTooHigh p) s
+      → NineAt no_entry (own m) 0 (held m).nodes p → write_call m s ≡ refuse (LinksStartTooHigh p) s
   unfolding write_call write_held
-  nine_refused o w h = rw (o, w, nine_there (own m) (held m).nodes p h)
+  nine_refused o w h = rw (o, w, nine_there no_entry (own m) (held m).nodes p h)

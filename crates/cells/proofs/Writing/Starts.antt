@@ -13,6 +13,8 @@ use Rattle.cells.specs.Entries.{links_in, stored_start, file_node}
 use Rattle.cells.specs.WriteChecks.{start_over}
 use Rattle.cells.specs.Blocks.{node_record}
 use Rattle.cells.proofs.Sequences.Tests.{by_test, true_false}
+use Rattle.cells.specs.declared.node_entry.NodeEntry.{NodeEntry}
+use Rattle.cells.specs.declared.link.PathLink.{PathLink}
 
 module _ (before : ℕ) where
   -- T-05: a node without links stores start 0
@@ -48,7 +50,7 @@ module _ (before count : ℕ) where
       (λ f. rw f (le-ltb 65535 before (h (omega (arith, eqb-false count 0 f)))))
 
 -- the two bytes at 26 of a node's record are its start
-module _ (links : List (List ℕ)) (before : ℕ) (n : List ℕ) where
+module _ (links : List PathLink) (before : ℕ) (n : NodeEntry) where
   pub start_bytes : take 2 (drop 26 (node_record links before n))
       ≡ bytes16 (stored_start before (length (links_in links n)))
   unfolding file_node node_bytes number_bytes

@@ -35,7 +35,7 @@ module _ (s : List ℕ) where
   one false c x = refl
 
   -- 8 and 9; 10
-  nodes_listed : (count : List ℕ → ℕ) (place before : ℕ) (ns : List (List ℕ)) (x : WriteLeft)
+  nodes_listed : {A : Type 0} (count : A → ℕ) (place before : ℕ) (ns : List A) (x : WriteLeft)
       → after (check_nodes count place before ns) s x ≡ after (decided (node_causes count place before ns)) s x
   unfolding check_nodes node_causes
   nodes_listed count place before [] x = refl
@@ -53,7 +53,7 @@ module _ (s : List ℕ) where
       go false true e = refl
       go false false e = e
 
-  junctions_listed : (count : List ℕ → ℕ) (place before : ℕ) (js : List (List ℕ)) (x : WriteLeft)
+  junctions_listed : {A : Type 0} (count : A → ℕ) (place before : ℕ) (js : List A) (x : WriteLeft)
       → after (check_junctions count place before js) s x
       ≡ after (decided (junction_causes count place before js)) s x
   unfolding check_junctions junction_causes

@@ -18,39 +18,43 @@ use Rattle.cells.specs.Blocks.{refs_block, junctions_block, links_block, nodes_b
 use Rattle.cells.specs.Blocks.{written}
 use Rattle.cells.specs.Memory.{Memory, over_limit}
 use Rattle.cells.specs.Write.{WriteLeft, left, refuse, or_else, after, stored, write_held}
-use Rattle.cells.specs.WriteCounts.{write_counts, Cut, Counted}
+use Rattle.cells.specs.WriteCounts.{write_counts, Cut, Counted, Sized}
+use Rattle.std.specs.List.{All}
 use Rattle.cells.specs.declared.counts.Counts.{Counts}
 use Rattle.cells.proofs.Sequences.Tests.{by_test}
 use Rattle.cells.proofs.Forms.Limits.{within}
 use Rattle.cells.proofs.Writing.BlockLaws.{nodes_length, links_length, junctions_length, refs_length}
-use Rattle.cells.proofs.Writing.Ranges.{link_count_law, value_count_law, value_small, node_counts, junction_counts}
+use Rattle.cells.proofs.Writing.Ranges.{link_count_law, value_count_law, node_counts, junction_counts}
 use Rattle.cells.proofs.Writing.WriteTotals.{nodes_total, junctions_total}
 use Rattle.std.specs.Prelude.{Result, Ok, Err}
 use Rattle.numbers.specs.Refusals.{Answer, done, refuse_if, and_then}
 use Rattle.numbers.specs.declared.refusal.Refusal.{Refusal}
 use Rattle.numbers.specs.declared.refusal.Refusal.TheVariants.{TooManyRefs, WrongSize, AtLimit}
+use Rattle.cells.specs.declared.node_entry.NodeEntry.{NodeEntry}
+use Rattle.cells.specs.declared.link.PathLink.{PathLink}
+use Rattle.cells.specs.declared.junction_entry.JunctionEntry.{JunctionEntry}
 
 -- ---- the checks 14, 12 and 8 to 11
 
 -- the counts by the list, and by its length
-pub nodes_say : (links : List (List ℕ)) (place before : ℕ) (ns : List (List ℕ))
+pub nodes_say : (links : List PathLink) (place before : ℕ) (ns : List NodeEntry)
     → check_nodes (links_within (length links)) place before ns
     ≡ check_nodes (λ n. length (links_in links n)) place before ns
-nodes_say links place before ns = ap (λ (f : List ℕ → ℕ). check_nodes f place before ns) (sym (node_counts links))
+nodes_say links place before ns = ap (λ (f : NodeEntry → ℕ). check_nodes f place before ns) (sym (node_counts links))
 
-pub junctions_say : (heights : List ℕ) (place before : ℕ) (js : List (List ℕ))
+pub junctions_say : (heights : List ℕ) (place before : ℕ) (js : List JunctionEntry)
     → check_junctions (values_within (length heights)) place before js
     ≡ check_junctions (λ j. length (values_in heights j)) place before js
-junctions_say heights place before js = ap (λ (f : List ℕ → ℕ). check_junctions f place before js)
+junctions_say heights place before js = ap (λ (f : JunctionEntry → ℕ). check_junctions f place before js)
     (sym (junction_counts heights))
 
 module _ (h : Memory) where
   abbrev answer : Result Counts Refusal
   answer = write_counts h
 
-  pub ready : Cut h → (k : Counts) → answer ≡ Ok k → Counted h k
+  pub ready : Cut h → (k : Counts) → k.heights ≤ 131070 → All Sized h.junctions → answer ≡ Ok k → Counted h k
   unfolding write_counts
-  ready cut k told =
+  ready cut k heights sized told =
       by_test (over_limit h.ynd)
       (λ t.
       let r : Err AtLimit ≡ Ok k = rw t at told in
@@ -114,7 +118,7 @@ module _ (h : Memory) where
           let p = nodes_total (links_in h.links) (links_within (length h.links)) (link_count_law h.links) 0 0
           h.nodes l (omega arith) ea in
           let q = junctions_total (values_in h.heights) (values_within (length h.heights))
-          (value_count_law h.heights) (value_small (length h.heights)) 0 0 h.junctions v (omega arith) eb in
+          (value_count_law h.heights) 0 0 h.junctions v eb in
           let few = ltb-false 65535 h.ynd.ref_count u in
           let limits = within h.ynd o in
           record {
@@ -126,10 +130,11 @@ module _ (h : Memory) where
             links_few = omega (arith, ap (λ (x : Counts). x.links) e, p.1);
             junctions_are = sym (ap (λ (x : Counts). x.junctions) e);
             junctions_few = omega (arith, ap (λ (x : Counts). x.junctions) e, cut.junctions_cut, limits.1);
-            heights_are = omega (arith, ap (λ (x : Counts). x.heights) e, q.0);
-            heights_few = omega (arith, ap (λ (x : Counts). x.heights) e, q.1);
+            heights_are = omega (arith, ap (λ (x : Counts). x.heights) e, q);
+            heights_few = heights;
             refs_are = sym (ap (λ (x : Counts). x.refs) e);
             refs_few = omega (arith, ap (λ (x : Counts). x.refs) e, cut.refs_cut, few);
+            sized = sized;
             maps_told = w;
           })
 

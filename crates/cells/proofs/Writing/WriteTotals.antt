@@ -19,8 +19,8 @@ unless_sum : (b : Bool) (cause : Refusal) (next : Result ℕ Refusal) (n : ℕ) 
 unless_sum true cause next n e = cc
 unless_sum false cause next n e = (refl, e)
 
-module _ {B : Type 0} (f : List ℕ → List B) (count : List ℕ → ℕ) (same : (x : List ℕ) → length (f x) ≡ count x) where
-  pub nodes_total : (place before : ℕ) (ns : List (List ℕ)) (n : ℕ) → before ≤ 65566
+module _ {A B : Type 0} (f : A → List B) (count : A → ℕ) (same : (x : A) → length (f x) ≡ count x) where
+  pub nodes_total : (place before : ℕ) (ns : List A) (n : ℕ) → before ≤ 65566
       → check_nodes count place before ns ≡ Ok n → (n ≡ before + length (joined f ns)) × (n ≤ 65566)
   unfolding check_nodes joined
   nodes_total place before [] n h e = let q : before ≡ n = cc in (omega arith, omega arith)
@@ -34,15 +34,12 @@ module _ {B : Type 0} (f : List ℕ → List B) (count : List ℕ → ℕ) (same
       b.1 in
       (omega (arith, r.0, length-append (f x) (joined f xs), same x), r.1)
 
-  pub junctions_total : ((x : List ℕ) → count x ≤ 65025) → (place before : ℕ) (ns : List (List ℕ)) (n : ℕ) → before
-      ≤ 130560
-      → check_junctions count place before ns ≡ Ok n → (n ≡ before + length (joined f ns)) × (n ≤ 130560)
+  pub junctions_total : (place before : ℕ) (ns : List A) (n : ℕ) → check_junctions count place before ns ≡ Ok n → n
+      ≡ before + length (joined f ns)
   unfolding check_junctions joined
-  junctions_total small place before [] n h e = let q : before ≡ n = cc in (omega arith, omega arith)
-  junctions_total small place before (x ∷ xs) n h e =
+  junctions_total place before [] n e = let q : before ≡ n = cc in omega arith
+  junctions_total place before (x ∷ xs) n e =
       let rest = check_junctions count (place + 1) (before + count x) xs in
       let b = unless_sum (ltb 65535 before) (ValuesStartTooHigh place) rest n e in
-      let few = small x in
-      let low : before ≤ 65535 = ltb-false _ _ b.0 in
-      let r = junctions_total small (place + 1) (before + count x) xs n (omega arith) b.1 in
-      (omega (arith, r.0, length-append (f x) (joined f xs), same x), r.1)
+      let r = junctions_total (place + 1) (before + count x) xs n b.1 in
+      omega (arith, r, length-append (f x) (joined f xs), same x)

@@ -1,5 +1,6 @@
 -- A cell in memory as reading leaves it. That every call leaves it so: drawn TidyAsRead.
-use Prim.Native.Nat.{ℕ, ◌*◌, ◌≤◌}
+use Prim.Native.Nat.{ℕ, ◌*◌, ◌<◌, ◌≤◌}
+use Rattle.std.specs.List.{All}
 use mathlib.Core.Path.{◌≡◌}
 use mathlib.Core.Bool.{Bool, true}
 use lib.Dec.{eqb}
@@ -14,6 +15,11 @@ use Rattle.cells.specs.Memory.{Memory}
 abbrev pub whole_map : Junction → Bool
 whole_map j = eqb (length j.values) (j.width * j.height)
 
+-- its own counts are bytes
+pub record SizedMap (j : Junction) : Type 0 where
+  pub width : j.width < 256
+  pub height : j.height < 256
+
 -- how many links the nodes have, and how many values the junctions, each its own copy
 abbrev pub links_held : Cell → ℕ
 links_held c = length (joined (λ n. n.links) c.nodes)
@@ -26,6 +32,7 @@ values_held c = length (joined (λ j. j.values) c.junctions)
 pub record AsRead (m : Memory) : Type 0 where
   pub few_nodes : length (cell_of m).nodes ≤ 65536
   pub few_junctions : length (cell_of m).junctions ≤ 4096
+  pub sized : All SizedMap (cell_of m).junctions
   pub maps_whole : every whole_map (cell_of m).junctions ≡ true
   pub links_fit : links_held (cell_of m) ≤ length m.links
   pub values_fit : values_held (cell_of m) ≤ length m.heights

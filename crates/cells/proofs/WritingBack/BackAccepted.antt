@@ -1,17 +1,22 @@
 -- Write-then-read of a cell as reading leaves it is refused exactly as writing is: reading back never refuses.
-use Prim.Native.Nat.{ℕ, ◌-◌, ◌≤◌, min}
+use Prim.Native.Nat.{ℕ, ◌-◌, ◌≤◌, ◌<◌, min}
 use native.Mathlib.Omega.{arith}
 use mathlib.Core.Path.{◌≡◌, refl, sym, ap, ◌∙◌}
 use mathlib.Core.Bool.{Bool, true, false}
 use mathlib.Core.List.{List, [], ◌∷◌, ◌++◌, map}
 use lib.Dec.{ltb}
-use lib.ListN.{length, take, drop, length-map, length-take, length-drop}
+use lib.ListN.{length, get_or, take, drop, length-map, length-take, length-drop}
 use borrow.Author.Tests.{eqb-true, le-ltb}
 use Rattle.records.specs.Put.{joined}
 use Rattle.cells.specs.Lists.{every}
-use Rattle.cells.specs.NodeWords.{link_start, link_count, value_start, value_count}
-use Rattle.cells.specs.Cell.{Link, Node, Junction}
-use Rattle.cells.specs.CellOf.{link_of, node_with, junction_with, nodes_of, junctions_of, cell_of}
+use Rattle.cells.specs.Nodes.{no_map, value_count}
+use Rattle.cells.specs.WriteCounts.{Sized}
+use Rattle.std.specs.List.{All}
+use Rattle.std.proofs.lemmas.List.{get_or-map}
+use Rattle.std.proofs.lemmas.List.Elements.{All-get_or, All-from_get_or}
+use Rattle.cells.specs.declared.node_entry.NodeEntry.{NodeEntry}
+use Rattle.cells.specs.Cell.{Node, Junction}
+use Rattle.cells.specs.CellOf.{node_with, junction_with, nodes_of, junctions_of, cell_of}
 use Rattle.cells.specs.Memory.{Memory, over_limit, short}
 use Rattle.cells.specs.Read.{room_check, read_of}
 use Rattle.cells.specs.Entries.{links_in, values_in}
@@ -21,53 +26,47 @@ use Rattle.cells.specs.Write.{WriteLeft, left, refuse, or_else, after, held, sto
 use Rattle.cells.specs.WriteRead.{Both, if_read, if_written, write_read_of}
 use Rattle.cells.specs.BackCheck.{held_counts, lengths, back_check}
 use Rattle.cells.proofs.Sequences.Tests.{and_left, and_right}
-use Rattle.std.proofs.lemmas.List.{take-map, drop-map}
 use Rattle.cells.proofs.WritingBack.BackCheck.{tested_first}
 use Rattle.cells.proofs.Sequences.JoinedCounts.{count_map}
-use Rattle.cells.proofs.WritingBack.AsRead.{whole_map, AsRead}
+use Rattle.cells.proofs.WritingBack.AsRead.{whole_map, SizedMap, AsRead}
 use Rattle.std.specs.Prelude.{Result, Ok, Err}
 use Rattle.numbers.specs.Refusals.{Answer}
 use Rattle.numbers.specs.declared.refusal.Refusal.{Refusal}
 use Rattle.numbers.specs.declared.refusal.Refusal.TheVariants.{TooShort, TooManyRefs, WrongSize, AtLimit}
 use Rattle.numbers.specs.declared.refusal.Lent.TheVariants as lent
+use Rattle.cells.specs.declared.link.PathLink.{PathLink}
+use Rattle.cells.specs.declared.junction_entry.JunctionEntry.{JunctionEntry}
 
 -- ---- the cell, and the entries that hold it
 
-links_same : (ls ns : List (List ℕ)) → length (joined (λ n. n.links) (map (node_with (map link_of ls)) ns))
+links_same : (ls : List PathLink) (ns : List NodeEntry) → length (joined (λ n. n.links) (map (node_with ls) ns))
     ≡ length (joined (links_in ls) ns)
 unfolding links_in
-links_same ls ns = count_map (λ (n : Node). n.links) (node_with (map link_of ls)) (links_in ls) as_many ns
-  where
-    as_many : (w : List ℕ) → length (take (link_count w) (drop (link_start w) (map link_of ls)))
-        ≡ length (take (link_count w) (drop (link_start w) ls))
-    as_many w =
-        ap (λ (x : List Link). length (take (link_count w) x)) (drop-map link_of (link_start w) ls)
-        ∙ ap {A = List Link} length (take-map link_of (link_count w) (drop (link_start w) ls))
-        ∙ length-map (take (link_count w) (drop (link_start w) ls)) link_of
+links_same ls ns = count_map (λ (n : Node). n.links) (node_with ls) (links_in ls) (λ w. refl) ns
 
-values_same : (hs : List ℕ) (js : List (List ℕ)) → length (joined (λ j. j.values) (map (junction_with hs) js))
+values_same : (hs : List ℕ) (js : List JunctionEntry) → length (joined (λ j. j.values) (map (junction_with hs) js))
     ≡ length (joined (values_in hs) js)
 unfolding values_in
 values_same hs js = count_map (λ (j : Junction). j.values) (junction_with hs) (values_in hs) (λ w. refl) js
 
 -- ---- 12: heightmaps that are whole are not cut
 
-none_cut : (pool : ℕ) (hs : List ℕ) (js : List (List ℕ)) → every whole_map (map (junction_with (take pool hs)) js)
+none_cut : (pool : ℕ) (hs : List ℕ) (js : List JunctionEntry) → every whole_map (map (junction_with (take pool hs)) js)
     ≡ true → maps_cut pool js ≡ false
 unfolding maps_cut values_within every
 none_cut pool hs [] t = refl
 none_cut pool hs (j ∷ js) t =
     let all = eqb-true _ (value_count j) (and_left (whole_map (junction_with (take pool hs) j)) _ t) in
-    let fits : value_count j ≤ min (value_count j) (pool - value_start j) =
+    let fits : value_count j ≤ min (value_count j) (pool - j.heightmap_ptr) =
     omega (
       arith,
       all,
-      length-take (value_count j) (drop (value_start j) (take pool hs)),
+      length-take (value_count j) (drop j.heightmap_ptr (take pool hs)),
       length-drop
-          (value_start j) (take pool hs),
+          j.heightmap_ptr (take pool hs),
       length-take pool hs,
     ) in
-    rw (le-ltb (min (value_count j) (pool - value_start j)) (value_count j) fits)
+    rw (le-ltb (min (value_count j) (pool - j.heightmap_ptr)) (value_count j) fits)
     (none_cut pool hs js (and_right (whole_map (junction_with (take pool hs) j)) _ t))
 
 -- ---- a refused writing leaves the section
@@ -117,13 +116,13 @@ refused_leaves m s = held_leaves (held m) (short m) s
 -- ---- all of reading back
 
 module _ (m : Memory) (h : AsRead m) where
-  abbrev ns : List (List ℕ)
+  abbrev ns : List NodeEntry
   ns = take m.ynd.node_count m.nodes
 
-  abbrev ls : List (List ℕ)
+  abbrev ls : List PathLink
   ls = take m.ynd.link_count m.links
 
-  abbrev js : List (List ℕ)
+  abbrev js : List JunctionEntry
   js = take m.ynd.junction_count m.junctions
 
   abbrev hs : List ℕ
@@ -160,6 +159,16 @@ module _ (m : Memory) (h : AsRead m) where
   unfolding cell_of junctions_of held
   maps_kept = none_cut m.ynd.heightmap_count m.heights js h.maps_whole
 
+  sized : All Sized (held m).junctions
+  unfolding held cell_of junctions_of
+  sized =
+      let own = junction_with hs in
+      All-from_get_or Sized js no_map (λ i lt.
+      let h : SizedMap (own (get_or js i no_map)) = rw (← get_or-map own js i no_map (own no_map) lt)
+      (All-get_or SizedMap (map own js) i (own no_map)
+      (let l : i < length (map own js) = omega (arith, length-map js own) in l) h.sized) in
+      record { width = h.width; height = h.height })
+
   -- what an accepted writing is followed by
   wrote : (s : List ℕ) (n : ℕ) → (write_call m s).answer ≡ Ok n
       → write_read_of m s ≡ record {
@@ -170,7 +179,7 @@ module _ (m : Memory) (h : AsRead m) where
       }
   unfolding write_call
   wrote s n e =
-      tested_first m s n e
+      tested_first m sized s n e
       ∙ ap (λ (c : Answer). if_read n (write_call m s).section c (read_of (written (held m)) [] m).memory m s)
       back_done
 

@@ -19,7 +19,8 @@ use Rattle.records.specs.Sections.{bytes_of}
 use Rattle.records.specs.declared.root.Root.{Root}
 use Rattle.cells.specs.declared.arrays.Arrays.{Arrays}
 use Rattle.cells.specs.declared.counts.Counts.{Counts}
-use Rattle.cells.specs.WriteCounts.{Counted}
+use Rattle.cells.specs.WriteCounts.{Counted, Sized, SizedIfCounted}
+use Rattle.std.specs.List.{All}
 use Rattle.cells.proofs.Writing.WriteSteps.{counts_of, counts_refused, list_refused, goes_on}
 use Rattle.cells.proofs.WritingBack.WrittenBack.{Told, write_told}
 use Rattle.cells.proofs.WritingBack.BackCheck.{arrays_back, found_back, counted_back, refs_short, filled_back}
@@ -76,11 +77,11 @@ module _ (m : Memory) (s : List ℕ) where
   unfolding write_read_of
   refused_so cause e = ap (λ (w : WriteLeft). if_written w.answer w.section m s) (sym e)
 
-  stored_so : (k : Counts) → stored h s ≡ write_call m s
+  stored_so : (k : Counts) → All Sized h.junctions → stored h s ≡ write_call m s
       → stored h s ≡ left (Ok length_back) (written h ++ drop length_back s) → length_back ≤ length s → (d : Answer)
       → back ≡ d → Means (unless d (Ok k))
   unfolding write_call
-  stored_so k stores e room d f = go d f
+  stored_so k sized stores e room d f = go d f
     where
       now : (write_call m s).section ≡ written h ++ drop length_back s
       now = ap (λ (w : WriteLeft). w.section) (sym stores ∙ e)
@@ -90,7 +91,7 @@ module _ (m : Memory) (s : List ℕ) where
 
       tested : write_read_of m s ≡ if_read length_back (write_call m s).section back
           (read_of (written h) [] m).memory m s
-      tested = tested_first m s length_back answers
+      tested = tested_first m sized s length_back answers
 
       left_by : Answer → Told h → Left
       left_by c told = otherwise c m (record { answer = Ok tt; memory = filled_back h told m })
@@ -99,7 +100,7 @@ module _ (m : Memory) (s : List ℕ) where
       go (Err cause) t = tested ∙ ap (λ (c : Answer). if_read length_back (write_call m s).section c
           (read_of (written h) [] m).memory m s) t
       go (Ok tt) t =
-          let w = write_told m s length_back answers in
+          let w = write_told m sized s length_back answers in
           record {
             told = w.told;
             wrote = e;
@@ -113,44 +114,45 @@ module _ (m : Memory) (s : List ℕ) where
                 }) t;
           }
 
-  by_room : (k : Counts) → stored h s ≡ write_call m s → (b : Bool) → ltb (length s) length_back ≡ b
+  by_room : (k : Counts) → All Sized h.junctions → stored h s ≡ write_call m s → (b : Bool)
+      → ltb (length s) length_back ≡ b
       → Means (refuse_if b (TooShort Section) (unless back (Ok k)))
   unfolding stored
-  by_room k e true t = refused_so (TooShort Section)
+  by_room k sized e true t = refused_so (TooShort Section)
       (sym (ap (λ (b : Bool). or_else b (refuse (TooShort Section) s)
       (left (Ok length_back) (written h ++ drop length_back s))) t) ∙ e)
-  by_room k e false t = stored_so k e
+  by_room k sized e false t = stored_so k sized e
       (ap (λ (b : Bool). or_else b (refuse (TooShort Section) s)
       (left (Ok length_back) (written h ++ drop length_back s))) t) (ltb-false (length s) length_back t) back refl
 
-  by_lists : (k : Counts) → counts_of h ≡ Ok k → (c : Answer) → short m ≡ c
+  by_lists : (k : Counts) → All Sized h.junctions → counts_of h ≡ Ok k → (c : Answer) → short m ≡ c
       → Means (unless c (refuse_if (ltb (length s) length_back) (TooShort Section) (unless back (Ok k))))
   unfolding write_call
-  by_lists k e (Err cause) t = refused_so cause (list_refused h (short m) s k e cause t)
-  by_lists k e (Ok tt) t = by_room k (goes_on h (short m) s k e t) (ltb (length s) length_back) refl
+  by_lists k sized e (Err cause) t = refused_so cause (list_refused h (short m) s k e cause t)
+  by_lists k sized e (Ok tt) t = by_room k sized (goes_on h (short m) s k e t) (ltb (length s) length_back) refl
 
-  by_counts : (c : Result Counts Refusal) → counts_of h ≡ c
+  by_counts : SizedIfCounted h → (c : Result Counts Refusal) → counts_of h ≡ c
       → Means (and_then c λ k. unless (short m)
       (refuse_if (ltb (length s) length_back) (TooShort Section) (unless back (Ok k))))
   unfolding write_call
-  by_counts (Err cause) e = refused_so cause (counts_refused h (short m) s cause e)
-  by_counts (Ok k) e = by_lists k e (short m) refl
+  by_counts sized (Err cause) e = refused_so cause (counts_refused h (short m) s cause e)
+  by_counts sized (Ok k) e = by_lists k (sized k e) e (short m) refl
 
-  means : Means (back_answer h (lengths m) (length s))
+  means : SizedIfCounted h → Means (back_answer h (lengths m) (length s))
   unfolding back_answer held
-  means = by_counts (counts_of h) refl
+  means sized = by_counts sized (counts_of h) refl
 
   -- by the cell that is written, and the lists' lengths, as the call has them
   module _ {c : Memory} {lent : Counts} {r : Result Counts Refusal} (is-h : c ≡ h) (is-lent : lent ≡ lengths m)
-      (told : r ≡ back_answer c lent (length s)) where
+      (sized : SizedIfCounted c) (told : r ≡ back_answer c lent (length s)) where
     as_told : back_answer h (lengths m) (length s) ≡ r
     as_told = (λ i. back_answer (sym is-h i) (sym is-lent i) (length s)) ∙ sym told
 
     pub refused_back : {cause : Refusal} → r ≡ Err cause → write_read_of m s ≡ refused_by cause
-    refused_back e = subst Means (as_told ∙ e) means
+    refused_back e = subst Means (as_told ∙ e) (means (subst SizedIfCounted is-h sized))
 
     pub accepted_back : {k : Counts} → r ≡ Ok k → Accepted
-    accepted_back e = subst Means (as_told ∙ e) means
+    accepted_back e = subst Means (as_told ∙ e) (means (subst SizedIfCounted is-h sized))
 
   -- what the call finds in the section t, where the cell c was stored
   module _ (acc : Accepted) {c : Memory} {t : List ℕ} {r : Result ℕ Refusal} (is-h : c ≡ h)

@@ -1,5 +1,5 @@
 -- Reading back what an accepted writing wrote is refused exactly as `back_check` says: with 7, and never for the file.
-use Prim.Native.Nat.{ℕ, zero, suc, ◌+◌, ◌*◌, ◌/◌, ◌%◌, ◌≤◌, ◌<◌}
+use Prim.Native.Nat.{ℕ, zero, suc, ◌+◌, ◌*◌, ◌/◌, ◌≤◌, ◌<◌}
 use native.Mathlib.Omega.{arith}
 use native.Mathlib.Nat.{zero-add}
 use mathlib.Core.Path.{◌≡◌, refl, ap, ◌∙◌}
@@ -15,13 +15,16 @@ use Rattle.records.proofs.RecordBack.{junction_back, junction_length}
 use Rattle.records.specs.declared.section.Part.{Part}
 use Rattle.records.specs.declared.root.Root.{Root}
 use Rattle.cells.specs.Lists.{sum_to}
-use Rattle.cells.specs.Words.{to_node, to_junction}
 use Rattle.cells.specs.Checks.{root_read, too_few, sizes_check, opened, arrays_found, scan, links_at, values_at}
 use Rattle.cells.specs.Checks.{bad_node, bad_junction, nodes_scan, junctions_scan, counts_of, arrays_check}
 use Rattle.cells.specs.Memory.{Memory, Left, unless}
 use Rattle.cells.specs.Read.{filled, if_held, if_found, read_arrays, read_of}
-use Rattle.cells.specs.Entries.{links_in, values_in, file_node, file_junction}
-use Rattle.cells.specs.NodeWords.{value_count}
+use Rattle.cells.specs.Entries.{links_in, values_in, file_junction}
+use Rattle.cells.specs.Nodes.{no_entry, no_map, value_count}
+use Rattle.cells.specs.WriteCounts.{Sized}
+use Rattle.std.specs.List.{All}
+use Rattle.std.proofs.lemmas.List.Elements.{All-get_or}
+use Rattle.cells.specs.declared.node_entry.NodeEntry.{NodeEntry}
 use Rattle.cells.specs.WriteChecks.{values_within, maps_cut, accepted, check_nodes, check_junctions}
 use Rattle.cells.proofs.Writing.CheckTurns.{maps_at}
 use Rattle.cells.proofs.Writing.Ranges.{value_count_law}
@@ -36,7 +39,8 @@ use Rattle.cells.proofs.Reading.ReadLaws.{part_short}
 use Rattle.cells.proofs.Writing.Starts.{start_most}
 use Rattle.cells.proofs.Sequences.Joined.{laid_at}
 use Rattle.cells.proofs.Writing.BlockLaws.{nodes_length, links_length, junctions_length, refs_length}
-use Rattle.cells.proofs.WritingBack.BlocksBack.{junctions_ok, stands_at, junction_in_law, start_of, node_record_law}
+use Rattle.cells.proofs.WritingBack.BlocksBack.{junctions_ok, stands_at, junction_in_law}
+use Rattle.cells.proofs.WritingBack.BlocksBack.{start_of, start_law, flags_law}
 use Rattle.cells.proofs.WritingBack.BlocksBack.{high}
 use Rattle.cells.proofs.WritingBack.SectionBack.{Here, long_enough, root_read_law, nodes_here, links_here}
 use Rattle.cells.proofs.WritingBack.SectionBack.{junctions_here, heights_here, refs_here}
@@ -48,6 +52,8 @@ use Rattle.numbers.specs.declared.refusal.Refusal.{Refusal}
 use Rattle.numbers.specs.declared.refusal.Refusal.TheVariants.{LinksOutside, ValuesOutside, TooManyNodes}
 use Rattle.numbers.specs.declared.refusal.Refusal.TheVariants.{TooManyJunctions}
 use Rattle.numbers.specs.declared.refusal.Array.TheVariants as array
+use Rattle.cells.specs.declared.link.PathLink.{PathLink}
+use Rattle.cells.specs.declared.junction_entry.JunctionEntry.{JunctionEntry}
 
 -- ---- scans and sums
 
@@ -99,19 +105,17 @@ part_ends f (x ∷ xs) (suc i) z lt = omega (
 
 -- ---- what the records say, with no bound on the entries
 
-module _ (links nodes : List (List ℕ))
+module _ (links : List PathLink) (nodes : List NodeEntry)
     (ok : accepted (check_nodes (λ n. length (links_in links n)) 0 0 nodes) ≡ true) where
   abbrev block : List ℕ
   block = nodes_block links nodes
 
-  count_at : (i : ℕ) → i < length nodes → links_at block i ≡ length (links_in links (get_or nodes i []))
-  unfolding file_node to_node
-  count_at i lt = ap (λ r. r.link_count_flags / 8) (node_record_law links nodes ok i lt)
-      ∙ high (length (links_in links (get_or nodes i []))) (get_or (get_or nodes i []) 6 0 / 256 % 256)
+  count_at : (i : ℕ) → i < length nodes → links_at block i ≡ length (links_in links (get_or nodes i no_entry))
+  count_at i lt = ap (λ (b : ℕ). b / 8) (flags_law links nodes ok i lt)
+      ∙ high (length (links_in links (get_or nodes i no_entry))) (get_or nodes i no_entry).flags5
 
   start_at : (i : ℕ) → i < length nodes → (node_at block (i * 40)).link_id ≡ start_of links nodes i
-  unfolding file_node
-  start_at i lt = ap (λ r. r.link_id) (node_record_law links nodes ok i lt)
+  start_at i lt = start_law links nodes ok i lt
 
   size : length block / 40 ≡ length nodes
   size = omega (arith, nodes_length links nodes)
@@ -125,48 +129,51 @@ module _ (links nodes : List (List ℕ))
       (let q : (node_at block (i * 40)).link_id + links_at block i ≤ length (links_block links nodes) / 8 = omega (
         arith,
         start_at i lt,
-        start_most (length (joined (links_in links) (take i nodes))) (length (links_in links (get_or nodes i []))),
+        start_most (length (joined (links_in links) (take i nodes))) (length (links_in links
+            (get_or nodes i no_entry))),
         count_at i lt,
-        part_ends (links_in links) nodes i [] lt,
+        part_ends (links_in links) nodes i no_entry lt,
         links_length links nodes,
       ) in q))
       ∙ scan_none LinksOutside 0 (length nodes)
 
   pub links_sum : sum_to (links_at block) (length block / 40) ≡ length (joined (links_in links) nodes)
   links_sum = ap (sum_to (links_at block)) size
-      ∙ sum_same (links_at block) (λ i. length (links_in links (get_or nodes i []))) (length nodes) count_at
-      ∙ sum_joined (links_in links) nodes []
+      ∙ sum_same (links_at block) (λ i. length (links_in links (get_or nodes i no_entry))) (length nodes) count_at
+      ∙ sum_joined (links_in links) nodes no_entry
 
-module _ (heights : List ℕ) (js : List (List ℕ))
-    (ok : accepted (check_junctions (λ j. length (values_in heights j)) 0 0 js) ≡ true) where
+module _ (heights : List ℕ) (js : List JunctionEntry)
+    (ok : accepted (check_junctions (λ j. length (values_in heights j)) 0 0 js) ≡ true) (sized : All Sized js) where
   abbrev block_j : List ℕ
   block_j = junctions_block heights js
 
   junction_record_law : (i : ℕ) → i < length js
       → junction_at block_j (i * 12)
-      ≡ file_junction (length (joined (values_in heights) (take i js))) (to_junction (get_or js i []))
+      ≡ file_junction (length (joined (values_in heights) (take i js))) (get_or js i no_map)
   junction_record_law i lt =
-      let w = get_or js i [] in
+      let w = get_or js i no_map in
       let start = length (joined (values_in heights) (take i js)) in
       let low : 0 + start ≤ 65535 = junctions_ok (values_in heights) 0 0 js i ok lt in
-      junction_back (file_junction start (to_junction w)) (junction_in_law start w (omega (arith, low))) block_j
+      junction_back (file_junction start w) (junction_in_law start w (All-get_or Sized js i no_map lt sized) (omega
+      (arith, low))) block_j
       (i * 12)
-      (stands_at block_j (junction_record start w) 12 i (junction_length (file_junction start (to_junction w)))
+      (stands_at block_j (junction_record start w) 12 i (junction_length (file_junction start w))
       (laid_at (values_in heights) junction_record 12
-      (λ s j. junction_length (file_junction s (to_junction j))) 0 js i [] lt
-      ∙ ap (λ (s : ℕ). junction_bytes (file_junction s (to_junction w))) (zero-add start)))
+      (λ s j. junction_length (file_junction s j)) 0 js i no_map lt
+      ∙ ap (λ (s : ℕ). junction_bytes (file_junction s w)) (zero-add start)))
 
   size_j : length block_j / 12 ≡ length js
   size_j = omega (arith, junctions_length heights js)
 
   -- no heightmap is cut: all values are written
   module _ (pool : ℕ) (all : maps_cut pool js ≡ false) (lent : pool ≤ length heights) where
-    values_all : (i : ℕ) → i < length js → value_count (get_or js i []) ≡ length (values_in heights (get_or js i []))
+    values_all : (i : ℕ) → i < length js → value_count (get_or js i no_map)
+        ≡ length (values_in heights (get_or js i no_map))
     unfolding values_within
-    values_all i lt = omega (arith, maps_at pool js i all lt, value_count_law heights (get_or js i []), lent)
+    values_all i lt = omega (arith, maps_at pool js i no_map all lt, value_count_law heights (get_or js i no_map), lent)
 
-    count_j : (i : ℕ) → i < length js → values_at block_j i ≡ length (values_in heights (get_or js i []))
-    unfolding file_junction to_junction
+    count_j : (i : ℕ) → i < length js → values_at block_j i ≡ length (values_in heights (get_or js i no_map))
+    unfolding file_junction
     count_j i lt = ap (λ r. r.heightmap_dim_x * r.heightmap_dim_y) (junction_record_law i lt) ∙ values_all i lt
 
     start_j : (i : ℕ) → i < length js → (junction_at block_j (i * 12)).heightmap_ptr
@@ -182,13 +189,13 @@ module _ (heights : List ℕ) (js : List (List ℕ))
         le-ltb (length (heights_block heights js)) ((junction_at block_j (i * 12)).heightmap_ptr + values_at block_j i)
         (let q : (junction_at block_j (i * 12)).heightmap_ptr + values_at block_j i ≤ length
         (heights_block heights js) = omega
-        (arith, start_j i lt, count_j i lt, part_ends (values_in heights) js i [] lt) in q))
+        (arith, start_j i lt, count_j i lt, part_ends (values_in heights) js i no_map lt) in q))
         ∙ scan_none ValuesOutside 0 (length js)
 
     pub heights_sum : sum_to (values_at block_j) (length block_j / 12) ≡ length (joined (values_in heights) js)
     heights_sum = ap (sum_to (values_at block_j)) size_j
-        ∙ sum_same (values_at block_j) (λ i. length (values_in heights (get_or js i []))) (length js) count_j
-        ∙ sum_joined (values_in heights) js []
+        ∙ sum_same (values_at block_j) (λ i. length (values_in heights (get_or js i no_map))) (length js) count_j
+        ∙ sum_joined (values_in heights) js no_map
 
 -- ---- from the section
 
@@ -250,9 +257,10 @@ module _ (h : Memory) (told : Told h) where
   counts_are = λ i. record {
     nodes = size h.links h.nodes told.nodes_told i;
     links = links_sum h.links h.nodes told.nodes_told i;
-    junctions = size_j h.heights h.junctions told.junctions_told i;
+    junctions = size_j h.heights h.junctions told.junctions_told told.sized i;
     heights =
-        heights_sum h.heights h.junctions told.junctions_told h.ynd.heightmap_count told.maps_told told.values_lent i;
+        heights_sum h.heights h.junctions told.junctions_told told.sized h.ynd.heightmap_count told.maps_told
+        told.values_lent i;
     refs = (let e : length rs / 8 ≡ length h.refs = omega (arith, refs_length h.refs) in e) i;
   }
 
@@ -260,10 +268,11 @@ module _ (h : Memory) (told : Told h) where
   unfolding arrays_check
   arrays_counted =
       (λ i. refuse_if (ltb 65536 (size h.links h.nodes told.nodes_told i)) TooManyNodes
-      (refuse_if (ltb 4096 (size_j h.heights h.junctions told.junctions_told i)) TooManyJunctions
+      (refuse_if (ltb 4096 (size_j h.heights h.junctions told.junctions_told told.sized i)) TooManyJunctions
       (otherwise (no_4 h.links h.nodes told.nodes_told i)
       (otherwise
-      (no_5 h.heights h.junctions told.junctions_told h.ynd.heightmap_count told.maps_told told.values_lent i)
+      (no_5 h.heights h.junctions told.junctions_told told.sized h.ynd.heightmap_count told.maps_told
+      told.values_lent i)
       (Ok (counts_are i))))))
       ∙ (λ i. refuse_if (le-ltb 65536 (length h.nodes) told.nodes_few i) TooManyNodes
       (refuse_if (le-ltb 4096 (length h.junctions) told.junctions_few i) TooManyJunctions (Ok (held_counts h))))
@@ -318,21 +327,22 @@ module _ (h : Memory) (told : Told h) where
       room_done (Err a) x = refl
 
 -- So no call writes a section that reading refuses, whatever memory it is lent, but for lists that are too short (7).
-pub read_after_write : (m lent : Memory) (s : List ℕ) (n : ℕ) → (write_call m s).answer ≡ Ok n
+pub read_after_write : (m lent : Memory) → All Sized (held m).junctions → (s : List ℕ) (n : ℕ)
+    → (write_call m s).answer ≡ Ok n
     → (read_of (take n (write_call m s).section) [] lent).answer ≡ back_tests (held_counts (held m)) (lengths lent)
 unfolding back_check
-read_after_write m lent s n e =
-    let w = write_told m s n e in
+read_after_write m lent sized s n e =
+    let w = write_told m sized s n e in
     ap (λ (x : List ℕ). (read_of x [] lent).answer) w.bytes ∙ read_back_done (held m) w.told lent
 
 -- so write-then-read may test first, and write only what will be read back
-pub tested_first : (m : Memory) (s : List ℕ) (n : ℕ) → (write_call m s).answer ≡ Ok n
+pub tested_first : (m : Memory) → All Sized (held m).junctions → (s : List ℕ) (n : ℕ) → (write_call m s).answer ≡ Ok n
     → write_read_of m s ≡ if_read n (write_call m s).section (back_check (held m) (lengths m))
     (read_of (written (held m)) [] m).memory m s
 unfolding write_read_of
-tested_first m s n e =
+tested_first m sized s n e =
     let t = (write_call m s).section in
-    let w = write_told m s n e in
+    let w = write_told m sized s n e in
     ap (λ (a : Result ℕ Refusal). if_written a t m s) e
     ∙ ap (λ (x : List ℕ). if_read n t (read_of x [] m).answer (read_of x [] m).memory m s) w.bytes
     ∙ ap (λ (c : Answer). if_read n t c (read_of (written (held m)) [] m).memory m s)

@@ -1,53 +1,67 @@
 -- The cells that storing keeps: coordinates in whole steps, flags5 in three bits, numbers that fit their fields,
 -- whole heightmaps.
 -- Every cell that was read is one, and renumbering gives one again.
-use Prim.Native.Nat.{ℕ, ◌*◌, ◌%◌}
-use mathlib.Core.Bool.{Bool, ◌&&◌}
-use lib.Dec.{eqb, ltb}
+use Prim.Native.Nat.{ℕ, ◌*◌, ◌<◌}
+use mathlib.Core.Path.{◌≡◌}
 use lib.ListN.{length}
 use lib.Ieee.{binary32, of_bits, to_bits}
+use Rattle.std.specs.List.{All}
 use Rattle.numbers.specs.Steps.{step_of, unstep}
-use Rattle.cells.specs.Cell.{Link, NodeBody, Node, Junction, Ref, Cell}
-use Rattle.cells.specs.Lists.{every}
+use Rattle.records.proofs.RecordBack.{RefFits}
+use Rattle.cells.specs.declared.node_entry.NodeEntry.{NodeEntry}
+use Rattle.cells.specs.Cell.{Node, Junction, Cell}
+use Rattle.cells.proofs.Forms.EntryFits.{LinkFits}
 
 -- the bits of a coordinate in whole steps
-unfoldable pub kept_step : ℕ → ℕ → Bool
-kept_step k b = eqb (to_bits binary32 (unstep k (step_of k (of_bits binary32 b)))) b
+abbrev pub InSteps : ℕ → ℕ → Type 0
+InSteps k b = to_bits binary32 (unstep k (step_of k (of_bits binary32 b))) ≡ b
 
-abbrev pub kept_link : Link → Bool
-kept_link l = ltb l.area 65536 && ltb l.number 65536
+pub record BodyFits (m : NodeEntry) : Type 0 where
+  pub street_name : m.street_name < 4294967296
+  pub flags0 : m.flags0 < 256
+  pub flags1 : m.flags1 < 256
+  pub flags2 : m.flags2 < 256
+  pub flags3 : m.flags3 < 256
+  pub flags4 : m.flags4 < 256
+  pub flags5 : m.flags5 < 256
+  pub unused0 : m.unused0 < 4294967296
+  pub unused1 : m.unused1 < 4294967296
+  pub unused2 : m.unused2 < 4294967296
+  pub unused3 : m.unused3 < 4294967296
+  pub unused4 : m.unused4 < 65536
 
-abbrev pub kept_body : NodeBody → Bool
-kept_body b = kept_step 2 b.position.x
-    && (kept_step 2 b.position.y && (kept_step 5 b.position.z && eqb (b.marks.flags5 % 8) b.marks.flags5))
+pub record KeptNode (n : Node) : Type 0 where
+  pub area : n.area < 65536
+  pub number : n.number < 65536
+  pub x : InSteps 2 n.body.position.x
+  pub y : InSteps 2 n.body.position.y
+  pub z : InSteps 5 n.body.position.z
+  pub body : BodyFits n.body
+  pub flags5 : n.body.flags5 < 8
+  pub links : All LinkFits n.links
 
-abbrev pub kept_links : Node → Bool
-kept_links n = every kept_link n.links
+abbrev pub IsByte : ℕ → Type 0
+IsByte v = v < 256
 
-abbrev pub kept_node : Node → Bool
-kept_node n = kept_body n.body && kept_links n
+abbrev pub IsWord : ℕ → Type 0
+IsWord v = v < 4294967296
 
-abbrev pub is_byte : ℕ → Bool
-is_byte v = ltb v 256
+pub record KeptJunction (j : Junction) : Type 0 where
+  pub x : InSteps 2 j.x
+  pub y : InSteps 2 j.y
+  pub low : InSteps 5 j.low
+  pub high : InSteps 5 j.high
+  pub width : j.width < 256
+  pub height : j.height < 256
+  pub full : length j.values ≡ j.width * j.height
+  pub values : All IsByte j.values
 
-abbrev pub is_word : ℕ → Bool
-is_word v = ltb v 4294967296
-
-abbrev pub kept_values : Junction → Bool
-kept_values j = every is_byte j.values
-
-abbrev pub kept_junction : Junction → Bool
-kept_junction j =
-    kept_step 2 j.x && (kept_step 2 j.y
-    && (kept_step 5 j.low && (kept_step 5 j.high && (eqb (length j.values) (j.width * j.height)
-    && kept_values j))))
-
-abbrev pub kept_ref : Ref → Bool
-kept_ref r = ltb r.area 65536 && (ltb r.number 65536 && (ltb r.junction 65536 && ltb r.unk0 65536))
-
-abbrev pub kept_root : Cell → Bool
-kept_root c = is_word c.vehicles && (is_word c.peds && (is_word c.vft
-    && (eqb (length c.words) 7 && every is_word c.words)))
-
-unfoldable pub kept : Cell → Bool
-kept c = every kept_node c.nodes && (every kept_junction c.junctions && (every kept_ref c.refs && kept_root c))
+pub record Kept (c : Cell) : Type 0 where
+  pub nodes : All KeptNode c.nodes
+  pub junctions : All KeptJunction c.junctions
+  pub refs : All RefFits c.refs
+  pub vehicles : IsWord c.vehicles
+  pub peds : IsWord c.peds
+  pub vft : IsWord c.vft
+  pub seven : length c.words ≡ 7
+  pub words : All IsWord c.words

@@ -2,7 +2,7 @@
 -- what it was.
 use Prim.Native.Nat.{ℕ, ◌≤◌, ◌<◌}
 use native.Mathlib.Omega.{arith}
-use mathlib.Core.Path.{◌≡◌, refl, ap, ◌∙◌}
+use mathlib.Core.Path.{◌≡◌, refl, sym, ap, ◌∙◌, subst}
 use mathlib.Core.Bool.{Bool, and-true}
 use mathlib.Core.List.{List, [], ◌∷◌}
 use lib.Dec.{ltb}
@@ -27,7 +27,7 @@ use Rattle.cells.specs.Write.{WriteLeft, held, stored, write_held, write_call}
 use Rattle.cells.specs.WriteRead.{write_read_of}
 use Rattle.cells.proofs.Reading.FileRead.{read_cell}
 use Rattle.cells.proofs.Reading.UndrawnCell.{undrawn_read, undrawn_size}
-use Rattle.cells.proofs.WritingBack.KeptCells.{kept}
+use Rattle.cells.proofs.WritingBack.KeptCells.{Kept}
 use Rattle.cells.proofs.WritingBack.Kept.{read_kept}
 use Rattle.cells.proofs.WritingBack.WrittenBack.{write_read_same}
 use Rattle.cells.proofs.Worked.WritePairs.{wrote}
@@ -35,6 +35,10 @@ use Rattle.std.specs.Prelude.{Result, Ok}
 use Rattle.numbers.specs.declared.refusal.Refusal.{Refusal}
 use Rattle.numbers.specs.declared.refusal.Refusal.TheVariants.{SystemTooShort, SystemTooLong, GraphicsTooLong}
 use Rattle.cells.specs.declared.counts.Counts.{Counts}
+use Rattle.cells.specs.declared.node_entry.NodeEntry.{NodeEntry}
+use Rattle.cells.specs.declared.link.PathLink.{PathLink}
+use Rattle.cells.specs.declared.junction_entry.JunctionEntry.{JunctionEntry}
+use Rattle.records.specs.declared.junction_ref.NodeJunctionRef.{NodeJunctionRef}
 
 -- ---- a section that holds something
 
@@ -72,7 +76,8 @@ count_drawn (b ∷ bs) g h = ap (λ (t : Bool). count_with t (b ∷ bs) g) (few_
 
 -- ---- a yard not drawn yet, written
 
-module _ (nodes links junctions : List (List ℕ)) (heights : List ℕ) (refs : List (List ℕ)) where
+module _ (nodes : List NodeEntry) (links : List PathLink) (junctions : List JunctionEntry) (heights : List ℕ)
+    (refs : List NodeJunctionRef) where
   abbrev undrawn : Memory
   undrawn = memory new_ynd nodes links junctions heights refs
 
@@ -106,4 +111,4 @@ pub undrawn_kept : (g : List ℕ) (m : Memory) (s : List ℕ) → length g ≤ 1
 undrawn_kept g m s h =
     let e : cell_of (read_of [] g m).memory ≡ file_cell [] g =
     read_cell [] g m (ap (λ (l : Left). l.answer) (undrawn_read g m h)) in
-    write_read_same (read_of [] g m).memory s (ap kept e ∙ read_kept [] g) ∙ e
+    write_read_same (read_of [] g m).memory s (subst Kept (sym e) (read_kept [] g)) ∙ e

@@ -1,7 +1,6 @@
 -- T-10: a node's five unused fields are read, moved with it by renumbering, stored and read back as they were.
 use Prim.Native.Nat.{ℕ, ◌*◌, ◌/◌, ◌<◌}
-use mathlib.Core.Path.{◌≡◌, sym, ap, ◌∙◌}
-use mathlib.Core.Bool.{true}
+use mathlib.Core.Path.{◌≡◌, sym, ap, ◌∙◌, subst}
 use mathlib.Core.List.{List, [], map}
 use lib.ListN.{length, get_or, take}
 use Rattle.records.specs.Sections.{array_at}
@@ -9,10 +8,10 @@ use Rattle.records.specs.Records.{node_at}
 use Rattle.cells.specs.Checks.{root_read}
 use Rattle.cells.specs.Memory.{Memory}
 use Rattle.cells.specs.Read.{read_of}
-use Rattle.cells.specs.Words.{path_node}
+use Rattle.cells.specs.Paths.{path_node}
 use Rattle.cells.specs.Cell.{Cell}
 use Rattle.cells.specs.Cell as held-cell
-use Rattle.cells.specs.CellOf.{cell_of}
+use Rattle.cells.specs.CellOf.{cell_of, nodes_of, junctions_of, refs_of}
 use Rattle.cells.specs.FileCell.{file_node_of, file_nodes, cell_from, cell_by, file_cell}
 use Rattle.cells.specs.Renumber.{renumber}
 use Rattle.cells.specs.Unused.{unused_of, unused_in}
@@ -20,9 +19,9 @@ use Rattle.cells.specs.Write.{held, write_call}
 use Rattle.cells.proofs.Reading.FileRead.{map_up_to, read_cell}
 use Rattle.cells.proofs.Renumbering.NewCell.{new_node_law}
 use Rattle.cells.proofs.Renumbering.CellRenumbered.{done_call, places_tell}
-use Rattle.cells.proofs.WritingBack.KeptCells.{kept}
+use Rattle.cells.proofs.WritingBack.KeptCells.{Kept}
 use Rattle.cells.proofs.WritingBack.Kept.{read_kept}
-use Rattle.cells.proofs.WritingBack.WrittenBack.{section_back, whole_held, write_told}
+use Rattle.cells.proofs.WritingBack.WrittenBack.{section_back, whole_held, write_told, kept_sized}
 use Rattle.cells.proofs.WritingBack.WrittenFew.{written_few}
 use Rattle.std.specs.Prelude.{Ok}
 
@@ -54,13 +53,16 @@ unused_moved m places scratch e p lt =
 pub cell_stored : (s g : List ℕ) (m : Memory) → (read_of s g m).answer ≡ Ok tt
     → (section : List ℕ) (n : ℕ) → (write_call (read_of s g m).memory section).answer ≡ Ok n
     → file_cell (take n (write_call (read_of s g m).memory section).section) [] ≡ file_cell s g
+unfolding cell_of held nodes_of junctions_of refs_of
 cell_stored s g m e section n w =
     let h = held (read_of s g m).memory in
-    let wrote = write_told (read_of s g m).memory section n w in
+    let wrote = write_told (read_of s g m).memory (kept_sized (read_of s g m).memory (subst Kept (sym
+    (read_cell s g m e))
+    (read_kept s g))) section n w in
     let same = read_cell s g m e in
-    let fit : kept (cell_of (read_of s g m).memory) ≡ true = ap kept same ∙ read_kept s g in
+    let fit : Kept (cell_of (read_of s g m).memory) = subst Kept (sym same) (read_kept s g) in
     ap (λ (x : List ℕ). file_cell x []) wrote.bytes
-    ∙ section_back h wrote.told (written_few h wrote.told) (ap kept (whole_held (read_of s g m).memory) ∙ fit)
+    ∙ section_back h wrote.told (written_few h wrote.told) fit
     ∙ whole_held (read_of s g m).memory
     ∙ same
 

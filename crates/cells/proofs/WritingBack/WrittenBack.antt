@@ -4,28 +4,30 @@ use native.Mathlib.Omega.{arith}
 use mathlib.Core.Path.{◌≡◌, refl, sym, ap, ◌∙◌}
 use mathlib.Core.Bool.{Bool, true, false}
 use mathlib.Core.List.{List, [], ◌∷◌, ◌++◌, map}
-use lib.Dec.{eqb, ltb}
-use lib.ListN.{length, take, drop, length-take}
+use lib.Dec.{ltb}
+use lib.ListN.{length, get_or, take, drop, length-take, length-map}
 use lib.Seq.{take-append_seam}
-use borrow.Author.Tests.{eqb-true, ltb-true, ltb-false}
+use borrow.Author.Tests.{ltb-false}
 use Rattle.records.specs.Sections.{bytes_of}
 use Rattle.records.specs.declared.root.Root.{Root}
-use Rattle.cells.specs.Lists.{every}
 use Rattle.cells.specs.Checks.{root_read, sizes_check, arrays_found}
 use Rattle.cells.specs.Memory.{Memory, unless, over_limit, short}
 use Rattle.cells.specs.Read.{if_found, read_arrays, read_of}
 use Rattle.cells.specs.Cell.{Cell}
-use Rattle.cells.specs.CellOf.{link_of, ref_of, node_with, junction_with, nodes_of, junctions_of, refs_of, cell_of}
+use Rattle.cells.specs.CellOf.{node_with, junction_with, nodes_of, junctions_of, refs_of, cell_of}
 use Rattle.cells.specs.FileCell.{cell_from, cell_by, file_cell}
-use Rattle.cells.proofs.WritingBack.KeptCells.{kept_node, kept_junction, kept_ref, is_word, kept_root, kept}
+use Rattle.cells.proofs.WritingBack.KeptCells.{KeptJunction, IsWord, Kept}
+use Rattle.std.specs.List.{All}
+use Rattle.std.proofs.lemmas.List.{get_or-map}
+use Rattle.std.proofs.lemmas.List.Elements.{All-get_or, All-from_get_or}
+use Rattle.cells.specs.Nodes.{no_map}
 use Rattle.cells.specs.Entries.{links_in, values_in}
 use Rattle.cells.specs.WriteChecks.{maps_cut, accepted, check_nodes, check_junctions}
 use Rattle.cells.specs.Blocks.{refs_block, heights_block, junctions_block, links_block, nodes_block, blocks}
 use Rattle.cells.specs.Blocks.{root_for, written}
 use Rattle.cells.specs.Write.{WriteLeft, left, refuse, or_else, after, held, stored, write_held, write_call}
-use Rattle.cells.specs.WriteCounts.{Cut}
+use Rattle.cells.specs.WriteCounts.{Cut, Sized}
 use Rattle.cells.specs.WriteRead.{if_read, if_written, write_read_of}
-use Rattle.cells.proofs.Sequences.Tests.{and_left, and_right}
 use Rattle.cells.proofs.Forms.Limits.{within}
 use Rattle.cells.proofs.Reading.Fits.{whole as whole_lists}
 use Rattle.cells.proofs.Reading.ReadLaws.{small}
@@ -41,11 +43,10 @@ use Rattle.numbers.specs.declared.refusal.Lent.TheVariants as lent
 
 -- ---- the section that was written, read
 
-pub whole : (n : ℕ) → is_word n ≡ true → n % 4294967296 ≡ n
-whole n t = let h : n < 4294967296 = ltb-true n 4294967296 t in omega arith
+pub whole : (n : ℕ) → n < 4294967296 → n % 4294967296 ≡ n
+whole n h = omega arith
 
-pub seven_back : (u : List ℕ) → length u ≡ 7 → every is_word u ≡ true → seven_of u ≡ u
-unfolding every
+pub seven_back : (u : List ℕ) → length u ≡ 7 → All IsWord u → seven_of u ≡ u
 seven_back [] e t = absurd (omega arith)
 seven_back (a ∷ []) e t = absurd (omega arith)
 seven_back (a ∷ b ∷ []) e t = absurd (omega arith)
@@ -53,16 +54,9 @@ seven_back (a ∷ b ∷ c ∷ []) e t = absurd (omega arith)
 seven_back (a ∷ b ∷ c ∷ d ∷ []) e t = absurd (omega arith)
 seven_back (a ∷ b ∷ c ∷ d ∷ f ∷ []) e t = absurd (omega arith)
 seven_back (a ∷ b ∷ c ∷ d ∷ f ∷ g ∷ []) e t = absurd (omega arith)
-seven_back (a ∷ b ∷ c ∷ d ∷ f ∷ g ∷ h ∷ []) e t =
-    let t₁ = and_right (is_word a) _ t in
-    let t₂ = and_right (is_word b) _ t₁ in
-    let t₃ = and_right (is_word c) _ t₂ in
-    let t₄ = and_right (is_word d) _ t₃ in
-    let t₅ = and_right (is_word f) _ t₄ in
-    let t₆ = and_right (is_word g) _ t₅ in
-    λ i. whole a (and_left _ _ t) i ∷ whole b (and_left _ _ t₁) i ∷ whole c (and_left _ _ t₂) i ∷ whole d
-    (and_left _ _ t₃) i ∷ whole f (and_left _ _ t₄) i ∷ whole g (and_left _ _ t₅) i ∷ whole h (and_left _ _ t₆) i
-    ∷ []
+seven_back (a ∷ b ∷ c ∷ d ∷ f ∷ g ∷ h ∷ []) e t = λ i. whole a (t 0 0 (omega arith)) i ∷ whole b (t 1 0 (omega arith)) i
+    ∷ whole c (t 2 0 (omega arith)) i ∷ whole d (t 3 0 (omega arith)) i ∷ whole f (t 4 0 (omega arith)) i
+    ∷ whole g (t 5 0 (omega arith)) i ∷ whole h (t 6 0 (omega arith)) i ∷ []
 seven_back (a ∷ b ∷ c ∷ d ∷ f ∷ g ∷ h ∷ k ∷ l) e t = absurd (omega arith)
 
 -- what an accepted writing of h says
@@ -72,15 +66,16 @@ pub record Told (h : Memory) : Type 0 where
   pub refs_told : length h.refs ≤ 65535
   pub nodes_few : length h.nodes ≤ 65536
   pub junctions_few : length h.junctions ≤ 4096
+  pub sized : All Sized h.junctions
   pub maps_told : maps_cut h.ynd.heightmap_count h.junctions ≡ false
   pub values_lent : h.ynd.heightmap_count ≤ length h.heights
 
 -- the cell whose lists are h, each whole
 abbrev pub whole_of : Memory → Cell
 whole_of h = record {
-  nodes = map (node_with (map link_of h.links)) h.nodes;
+  nodes = map (node_with h.links) h.nodes;
   junctions = map (junction_with h.heights) h.junctions;
-  refs = map ref_of h.refs;
+  refs = h.refs;
   vehicles = h.ynd.vehicle_node_count;
   peds = h.ynd.ped_node_count;
   vft = h.ynd.vft;
@@ -109,43 +104,19 @@ module _ (h : Memory) (told : Told h) (small : length (written h) ≤ 16777216) 
       (heights_here h r small) i)
       (array_back root.refs root.ref_count 8 w (refs_block h.refs) (refs_here h r small) i))
 
-  module _ (t : kept (whole_of h) ≡ true) where
-    t_nodes : every kept_node (whole_of h).nodes ≡ true
-    unfolding kept
-    t_nodes = and_left _ _ t
-
-    t_junctions : every kept_junction (whole_of h).junctions ≡ true
-    unfolding kept
-    t_junctions = and_left _ _ (and_right (every kept_node (whole_of h).nodes) _ t)
-
-    t_refs : every kept_ref (whole_of h).refs ≡ true
-    unfolding kept
-    t_refs = and_left _ _ (and_right (every kept_junction (whole_of h).junctions) _
-        (and_right (every kept_node (whole_of h).nodes) _ t))
-
-    t_root : kept_root (whole_of h) ≡ true
-    unfolding kept
-    t_root = and_right (every kept_ref (whole_of h).refs) _
-        (and_right (every kept_junction (whole_of h).junctions) _
-        (and_right (every kept_node (whole_of h).nodes) _ t))
-
+  module _ (t : Kept (whole_of h)) where
     from_blocks : cell_from (stored_root root) (nodes_block h.links h.nodes) (links_block h.links h.nodes)
         (junctions_block h.heights h.junctions) (heights_block h.heights h.junctions) (refs_block h.refs) ≡ whole_of h
     unfolding cell_from root_for
-    from_blocks =
-        let t₁ = and_right (is_word h.ynd.vehicle_node_count) _ t_root in
-        let t₂ = and_right (is_word h.ynd.ped_node_count) _ t₁ in
-        let t₃ = and_right (is_word h.ynd.vft) _ t₂ in
-        λ i. record {
-          nodes = nodes_back h.links h.nodes told.nodes_told t_nodes i;
-          junctions = junctions_back h.heights h.junctions told.junctions_told t_junctions i;
-          refs = refs_back h.refs t_refs i;
-          vehicles = whole h.ynd.vehicle_node_count (and_left _ _ t_root) i;
-          peds = whole h.ynd.ped_node_count (and_left _ _ t₁) i;
-          vft = whole h.ynd.vft (and_left _ _ t₂) i;
-          words = seven_back h.ynd.unknowns (eqb-true (length h.ynd.unknowns) 7 (and_left _ _ t₃))
-              (and_right (eqb (length h.ynd.unknowns) 7) _ t₃) i;
-        }
+    from_blocks = λ i. record {
+      nodes = nodes_back h.links h.nodes told.nodes_told t.nodes i;
+      junctions = junctions_back h.heights h.junctions told.junctions_told t.junctions i;
+      refs = refs_back h.refs t.refs i;
+      vehicles = whole h.ynd.vehicle_node_count t.vehicles i;
+      peds = whole h.ynd.ped_node_count t.peds i;
+      vft = whole h.ynd.vft t.vft i;
+      words = seven_back h.ynd.unknowns t.seven t.words i;
+    }
 
     pub section_back : file_cell (written h) [] ≡ whole_of h
     section_back = blocks_back ∙ from_blocks
@@ -175,6 +146,12 @@ pub record Held (h : Memory) (l : WriteLeft) (n : ℕ) : Type 0 where
   pub told : Told h
   pub bytes : take n l.section ≡ written h
 
+-- the same of any memory, also of one with a junction whose sides fit no byte
+pub record Wrote (h : Memory) (l : WriteLeft) (n : ℕ) : Type 0 where
+  pub told : All Sized h.junctions → Told h
+  pub refs_told : length h.refs ≤ 65535
+  pub bytes : take n l.section ≡ written h
+
 stored_told_law : (h : Memory) (s : List ℕ) (n : ℕ) → (stored h s).answer ≡ Ok n → take n (stored h s).section
     ≡ written h
 unfolding stored
@@ -198,7 +175,7 @@ held_cut m =
       refs_cut = few m.ynd.ref_count m.refs;
     }
   where
-    few : (n : ℕ) (l : List (List ℕ)) → length (take n l) ≤ n
+    few : {A : Type 0} (n : ℕ) (l : List A) → length (take n l) ≤ n
     few n l = omega (arith, length-take n l)
 
 -- the heightmap values are all lent, where no list is too short
@@ -206,10 +183,10 @@ values_all : (m : Memory) → short m ≡ Ok tt → m.ynd.heightmap_count ≤ le
 unfolding held
 values_all m t = omega (arith, length-take m.ynd.heightmap_count m.heights, (whole_lists m t).heights_fit)
 
-held_told : (h : Memory) → Cut h → (lack : Answer) → (lack ≡ Ok tt → h.ynd.heightmap_count ≤ length h.heights)
-    → (s : List ℕ) (n : ℕ) → (write_held h lack s).answer ≡ Ok n → Held h (write_held h lack s) n
+held_wrote : (h : Memory) → Cut h → (lack : Answer) → (lack ≡ Ok tt → h.ynd.heightmap_count ≤ length h.heights)
+    → (s : List ℕ) (n : ℕ) → (write_held h lack s).answer ≡ Ok n → Wrote h (write_held h lack s) n
 unfolding write_held
-held_told h cut lack lent s n e₀ =
+held_wrote h cut lack lent s n e₀ =
     let l₄ = stored h s in
     let l₃ = after lack s l₄ in
     let l₂ = or_else (ltb 65535 h.ynd.ref_count) (refuse TooManyRefs s) l₃ in
@@ -229,23 +206,43 @@ held_told h cut lack lent s n e₀ =
     let e₃ : l₃.answer ≡ Ok n = ap (λ (l : WriteLeft). l.answer) (sym r₃.1) ∙ e₂ in
     let r₄ = list_told lack s l₄ n e₃ in
     let e₄ : l₄.answer ≡ Ok n = ap (λ (l : WriteLeft). l.answer) (sym r₄.1) ∙ e₃ in
+    let few_refs : length h.refs ≤ 65535 = omega (arith, ltb-false 65535 h.ynd.ref_count r₃.0, cut.refs_cut) in
     record {
-      told = record {
+      told = λ sized. record {
         nodes_told = r₁.0;
         junctions_told = r₂.0;
-        refs_told = omega (arith, ltb-false 65535 h.ynd.ref_count r₃.0, cut.refs_cut);
+        refs_told = few_refs;
         nodes_few = omega (arith, limits.0, cut.nodes_cut);
         junctions_few = omega (arith, limits.1, cut.junctions_cut);
+        sized = sized;
         maps_told = r₅.0;
         values_lent = lent r₄.0;
       };
+      refs_told = few_refs;
       bytes = ap (λ (l : WriteLeft). take n l.section) (r₀.1 ∙ r₅.1 ∙ r₁.1 ∙ r₂.1 ∙ r₃.1 ∙ r₄.1)
           ∙ stored_told_law h s n e₄;
     }
 
-pub write_told : (m : Memory) (s : List ℕ) (n : ℕ) → (write_call m s).answer ≡ Ok n → Held (held m) (write_call m s) n
+pub write_wrote : (m : Memory) (s : List ℕ) (n : ℕ) → (write_call m s).answer ≡ Ok n
+    → Wrote (held m) (write_call m s) n
 unfolding write_call held
-write_told m s n e = held_told (held m) (held_cut m) (short m) (values_all m) s n e
+write_wrote m s n e = held_wrote (held m) (held_cut m) (short m) (values_all m) s n e
+
+pub write_told : (m : Memory) → All Sized (held m).junctions → (s : List ℕ) (n : ℕ) → (write_call m s).answer ≡ Ok n
+    → Held (held m) (write_call m s) n
+write_told m sized s n e = let w = write_wrote m s n e in record { told = w.told sized; bytes = w.bytes }
+
+-- the junctions of a cell that storing keeps are sized
+pub kept_sized : (m : Memory) → Kept (cell_of m) → All Sized (held m).junctions
+unfolding held cell_of junctions_of
+kept_sized m k =
+    let js = take m.ynd.junction_count m.junctions in
+    let own = junction_with (take m.ynd.heightmap_count m.heights) in
+    All-from_get_or Sized js no_map (λ i lt.
+    let h : KeptJunction (own (get_or js i no_map)) = rw (← get_or-map own js i no_map (own no_map) lt)
+    (All-get_or KeptJunction (map own js) i (own no_map)
+    (let l : i < length (map own js) = omega (arith, length-map js own) in l) k.junctions) in
+    record { width = h.width; height = h.height })
 
 -- an accepted reading is of at most 16,777,216 bytes
 read_few : (s g : List ℕ) (m : Memory) → (read_of s g m).answer ≡ Ok tt → length s ≤ 16777216
@@ -265,9 +262,9 @@ unfolding held cell_of nodes_of junctions_of refs_of
 whole_held m = refl
 
 -- write-then-read, accepted or not, leaves a cell that storing keeps
-pub write_read_same : (m : Memory) (s : List ℕ) → kept (cell_of m) ≡ true → cell_of (write_read_of m s).memory
+pub write_read_same : (m : Memory) (s : List ℕ) → Kept (cell_of m) → cell_of (write_read_of m s).memory
     ≡ cell_of m
-unfolding write_read_of
+unfolding write_read_of cell_of held nodes_of junctions_of refs_of
 write_read_same m s k = go (write_call m s).answer refl
   where
     t : List ℕ
@@ -281,9 +278,10 @@ write_read_same m s k = go (write_call m s).answer refl
         read_cell (take n t) [] m e ∙ ap (λ (w : List ℕ). file_cell w []) b
         ∙ section_back (held m) told
         (let q : length (written (held m)) ≤ 16777216 = omega (arith, read_few (take n t) [] m e, ap length b) in
-        q) (ap kept (whole_held m) ∙ k)
+        q) k
         ∙ whole_held m
 
     go : (a : Result ℕ Refusal) → (write_call m s).answer ≡ a → cell_of (if_written a t m s).memory ≡ cell_of m
     go (Err x) e = refl
-    go (Ok n) e = let w = write_told m s n e in reading n w.bytes w.told (read_of (take n t) [] m).answer refl
+    go (Ok n) e = let w = write_told m (kept_sized m k) s n e in reading n w.bytes w.told (read_of
+        (take n t) [] m).answer refl

@@ -1,6 +1,7 @@
 -- `thresholds::text`: a line more behind the lines so far.
-use Rattle.std.proofs.Common.{◌≡◌, length, ap, arith}
-use Rattle.std.proofs.lemmas.List.{length-append}
+use Rattle.std.proofs.Common.{◌≡◌, ◌*◌, ◌≤◌, length, ap, sym, ◌∙◌, refl, subst, arith}
+use borrow.Rule.Slice.PartMut.{same_len_mid}
+use Rattle.numbers.specs.ThresholdSearch.{LineOfLeast}
 use Rattle.thresholds.proofs.TextLaws.{lines_kept, line_nine}
 use Rattle.thresholds.proofs.text.Goals as goal
 
@@ -8,11 +9,13 @@ pub loop-k-preserved : goal.loop-k-preserved
 loop-k-preserved c =
     let l = c.loop-k in
     let line = c.threshold_line-line.result in
-    let grown = c.in_ok-extend_from_slice.ensures.items in
-    let nine : length line ≡ 9 = line_nine l.k line (omega arith) c.threshold_line-line.ensures in
+    let put = c.copy_from_slice.new.self in
+    let same : put ≡ line = c.copy_from_slice.ensures.after in
+    let nine : length put ≡ 9 = ap length same ∙ line_nine l.k line (omega arith) c.threshold_line-line.ensures in
+    let room : 9 * l.k ≤ length l.bytes = omega (arith, l.invariant.long) in
     record {
       within = omega arith;
-      long = omega (arith, ap length grown, length-append l.bytes.items line, nine, l.invariant.long);
-      lines = lines_kept l.k l.bytes.items _ line grown l.invariant.long nine l.invariant.lines
-          c.threshold_line-line.ensures;
+      long = same_len_mid _ _ l.bytes put c.copy_from_slice.ensures.len ∙ l.invariant.long;
+      lines = lines_kept l.k l.bytes _ put _ refl room nine l.invariant.lines
+          (subst (LineOfLeast l.k) (sym same) c.threshold_line-line.ensures);
     }

@@ -6,6 +6,6 @@ use Rattle.thresholds.proofs.text.Given as goal
 abbrev pub invariant-loop-k : goal.invariant-loop-k
 invariant-loop-k l = record {
   within : l.k ≤ 256;
-  long : length l.bytes.items ≡ 9 * l.k;
-  lines : (j : ℕ) → j < l.k → LineOfLeast j (take 9 (drop (9 * j) l.bytes.items));
+  long : length l.bytes ≡ 2304;
+  lines : (j : ℕ) → j < l.k → LineOfLeast j (take 9 (drop (9 * j) l.bytes));
 }

@@ -6,9 +6,9 @@ use Rattle.cells.specs.WriteChecks.{values_within, accepted, check_junctions}
 use Rattle.cells.specs.Blocks.{laid, junction_record, junctions_block}
 use Rattle.cells.proofs.blocks.put_junctions.Given as goal
 
-abbrev pub invariant-loop-w : goal.invariant-loop-w
-invariant-loop-w l =
-    (l.p ≡ l.at + 12 * l.w-index) × (accepted (check_junctions (values_within (length l.heights)) l.w-index l.before
-    (drop l.w-index l.junctions)) ≡ true)
-    × (put l.section l.p (laid (values_in l.heights) junction_record l.before (drop l.w-index l.junctions))
+abbrev pub invariant-loop-j : goal.invariant-loop-j
+invariant-loop-j l =
+    (l.p ≡ l.at + 12 * l.j-index) × (accepted (check_junctions (values_within (length l.heights)) l.j-index l.before
+    (drop l.j-index l.junctions)) ≡ true)
+    × (put l.section l.p (laid (values_in l.heights) junction_record l.before (drop l.j-index l.junctions))
     ≡ put l.initial.section l.at (junctions_block l.heights l.junctions))

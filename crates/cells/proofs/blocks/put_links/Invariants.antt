@@ -4,9 +4,9 @@ use Rattle.records.specs.Put.{put, joined}
 use Rattle.cells.specs.Blocks.{links_records}
 use Rattle.cells.proofs.blocks.put_links.Given as goal
 
-abbrev pub invariant-loop-w : goal.invariant-loop-w
-invariant-loop-w l =
-    (l.p + length (joined (links_records l.links) (drop l.w-index l.nodes)) ≡ l.at
+abbrev pub invariant-loop-n : goal.invariant-loop-n
+invariant-loop-n l =
+    (l.p + length (joined (links_records l.links) (drop l.n-index l.nodes)) ≡ l.at
     + length (joined (links_records l.links) l.nodes))
-    × (put l.section l.p (joined (links_records l.links) (drop l.w-index l.nodes))
+    × (put l.section l.p (joined (links_records l.links) (drop l.n-index l.nodes))
     ≡ put l.initial.section l.at (joined (links_records l.links) l.nodes))

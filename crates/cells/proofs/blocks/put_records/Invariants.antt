@@ -6,5 +6,5 @@ use Rattle.cells.proofs.blocks.put_records.Given as goal
 abbrev pub invariant-loop-e : goal.invariant-loop-e
 invariant-loop-e g l =
     (l.p ≡ l.at + 8 * l.e-index)
-    × ((f : List ℕ → List ℕ) → ((x r : List ℕ) → goal.F-post g l.bytes_of x r → r ≡ f x)
+    × ((f : _ → List ℕ) → ((x : _) (r : List ℕ) → goal.F-post g l.bytes_of x r → r ≡ f x)
     → put l.section l.p (joined f (drop l.e-index l.entries)) ≡ put l.initial.section l.at (joined f l.entries))

@@ -1,5 +1,5 @@
 use Rattle.std.proofs.Common.{map, take}
-use Rattle.cells.specs.NodeWords.{number_of}
+use Rattle.cells.specs.Nodes.{number_of}
 use Rattle.cells.specs.RenumberParts.{Indexed}
 use Rattle.cells.proofs.number_index.index_numbers.Given as goal
 

@@ -1,6 +1,9 @@
-use Rattle.std.proofs.Common.{arith, rules}
+use Rattle.std.proofs.Common.{arith}
+use Rattle.std.proofs.lemmas.Grind.{common_steps}
 use Rattle.cells.proofs.Renumbering.Placed.{placing_starts, turn_ped, turn_vehicle, placed, all_placed}
+use Rattle.cells.specs.Nodes.{no_entry}
 use Rattle.cells.proofs.order.fill_places.Goals as goal
+use Rattle.cells.specs.Nodes.{no_entry}
 use Rattle.cells.proofs.order.fill_places.Goals.{then-is_ped, else-is_ped}
 
 pub loop-i-init : goal.loop-i-init
@@ -21,15 +24,16 @@ loop-i-preserved c =
         few_vehicles = omega arith;
         few_peds = omega arith;
         placing = placed w.places-is w.v-is w.p-is
-            (turn_ped a.nodes.now a.places.now l.places l.i l.v l.p (omega arith) (omega arith) l.invariant.placing
-            (search rules));
+            (turn_ped a.nodes.now a.places.now l.places l.i l.v l.p no_entry (omega arith)
+            (omega arith) l.invariant.placing
+            (grind (arith, common_steps)));
       }
       | else-is_ped w ↦ record {
         few_vehicles = omega arith;
         few_peds = omega arith;
         placing = placed w.places-is w.v-is w.p-is
-            (turn_vehicle a.nodes.now a.places.now l.places l.i l.v l.p (omega arith) (omega arith)
-            l.invariant.placing (search rules));
+            (turn_vehicle a.nodes.now a.places.now l.places l.i l.v l.p no_entry (omega arith) (omega arith)
+            l.invariant.placing (grind (arith, common_steps)));
       }
     ]
 

@@ -1,5 +1,5 @@
 use Rattle.std.proofs.Common.{ap, ◌∙◌}
-use Rattle.cells.specs.NodeWords.{is_ped, number_from, reordered}
+use Rattle.cells.specs.Nodes.{is_ped, number_from, reordered}
 use Rattle.cells.specs.Order.{parted}
 use Rattle.cells.proofs.Renumbering.Reordered.{they_lead}
 use Rattle.cells.proofs.Renumbering.CellRenumbered.{parted_length}

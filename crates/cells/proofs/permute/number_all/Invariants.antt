@@ -1,5 +1,5 @@
 use Rattle.std.proofs.Common.{◌≡◌, ◌++◌, take, drop}
-use Rattle.cells.specs.NodeWords.{number_from}
+use Rattle.cells.specs.Nodes.{number_from}
 use Rattle.cells.proofs.permute.number_all.Given as goal
 
 abbrev pub invariant-loop-i : goal.invariant-loop-i

@@ -1,4 +1,4 @@
-use Rattle.cells.specs.NodeWords.{number_at}
+use Rattle.cells.specs.Nodes.{number_at}
 use Rattle.paths.proofs.IndexLaws.{no_heads}
 use Rattle.paths.proofs.index.enter_all.Goals as goal
 

@@ -1,6 +1,6 @@
 use lib.ListN.{length}
 use Rattle.paths.specs.Index.{head_at, next_at, Index}
-use Rattle.cells.specs.NodeWords.{number_at}
+use Rattle.cells.specs.Nodes.{number_at}
 use Rattle.paths.proofs.index.enter_all.Given as goal
 
 abbrev pub invariant-loop-i : goal.invariant-loop-i

@@ -33,7 +33,8 @@ invariant_of-search c =
     (sym c.check_asked.ensures ∙ c.in_ok-check_asked.was) in
     record {
       lent = own_lent a.ynd a.nodes.now a.links.now
-          (lent_so a.ynd a.nodes.now a.links.now a.from a.to (length a.scratch.now) ok);
+          (lent_so a.ynd a.nodes.now a.links.now a.from a.to
+          (length a.scratch.now) ok c.short_counts.ensures c.short_links.ensures);
       whole = length-take-le a.ynd.node_count a.nodes.now ok.nodes_fit;
       inside = ok.from_in;
     }

@@ -3,4 +3,4 @@ use Rattle.printround.proofs.text.line.Goals as goal
 
 pub returns : goal.returns
 unfolding line_of
-returns c = rw (c.number_of.ensures, c.steps_of.ensures) at c.line_with.ensures
+returns c = rw c.steps_of.ensures at c.line_with.ensures

@@ -13,7 +13,7 @@ loop-k-preserved c =
     let grown = c.in_ok-push_str.ensures.bytes ∙ ap (λ x. text ++ x) c.as_str.ensures.value in
     λ links.
     line_more links a.nodes.now a.places.now text (string_bytes c.in_ok-next.next)
-    (string_bytes c.push_str.new.self) _ c.words_at-w.result c.loop-k.k c.loop-k-test.true c.words_at-w.ensures
+    (string_bytes c.push_str.new.self) _ c.entry_at-n.result c.loop-k.k c.loop-k-test.true c.entry_at-n.ensures
     c.in_ok-next.ensures grown (c.loop-k.invariant links)
 
 pub returns : goal.returns

@@ -1,7 +1,7 @@
 -- `printround::text::round`: the head, the lines, the end.
 use Rattle.std.proofs.Common.{string_bytes, ap, ◌∙◌, ◌++◌}
 use lib.Seq.{take-length}
-use Rattle.cells.specs.NodeWords.{first_area}
+use Rattle.cells.specs.Nodes.{first_area}
 use Rattle.printround.proofs.Lines.{round_said}
 use Rattle.printround.proofs.text.round.Goals as goal
 
@@ -15,5 +15,6 @@ returns c =
     λ links.
     round_said links a.nodes.now a.choices a.end a.places.now c.own_area-area.result head
     (string_bytes c.in_ok-visited.visited) (string_bytes c.in_ok-last.last) (string_bytes c.push_str.new.self)
-    (string_bytes c.push_str-2.new.self) (c.own_area-area.ensures ∙ ap first_area (take-length a.nodes.now)) c.in_ok-text.ensures
+    (string_bytes c.push_str-2.new.self) (c.own_area-area.ensures ∙ ap first_area (take-length a.nodes.now))
+    c.in_ok-text.ensures
     (c.in_ok-visited.ensures links) c.in_ok-last.ensures first second

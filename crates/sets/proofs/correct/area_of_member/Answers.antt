@@ -1,6 +1,6 @@
 use Rattle.std.proofs.Common.{ap, refl, ◌∙◌}
 use Rattle.std.proofs.Math.Seq.{take-length}
-use Rattle.cells.specs.NodeWords.{first_area}
+use Rattle.cells.specs.Nodes.{first_area}
 use Rattle.sets.proofs.CorrectLaws.{area_at_start}
 use Rattle.sets.proofs.correct.area_of_member.Goals as goal
 

@@ -1,4 +1,4 @@
-use Rattle.std.proofs.Common.{ap, get_or, List, ℕ}
+use Rattle.std.proofs.Common.{refl}
 use Rattle.walks.specs.WalkParts.{lent}
 use Rattle.paths.proofs.EdgeLaws.{edge_there}
 use Rattle.paths.proofs.search.Search.follow.Goals as goal
@@ -6,6 +6,6 @@ use Rattle.paths.proofs.search.Search.follow.Goals as goal
 pub returns : goal.returns
 returns c =
     let s = c.args.self.now in
-    edge_there (lent s.ynd s.nodes.now s.links.now) s.whole c.args.p c.args.b c.link_at.ensures _ c.in_ok-w.was
+    edge_there (lent s.ynd s.nodes.now s.links.now) s.whole c.args.p c.args.b c.link_at.ensures _ c.in_ok-l.was
     c.own_area.ensures c.belongs_to.ensures c.if-not-belongs_to.false c.node_in.ensures _ c.in_ok-to.was
-    _ (ap (λ (l : List ℕ). get_or l 1 0) c.to_le_bytes.ensures)
+    _ refl

@@ -3,7 +3,7 @@ use Rattle.cells.specs.Order.{Old}
 use Rattle.sets.specs.CorrectParts.{Tells, relabelled}
 use Rattle.sets.proofs.correct.Renamed.relabel_all.Given as goal
 
-abbrev pub invariant-loop-w : goal.invariant-loop-w
-invariant-loop-w l =
+abbrev pub invariant-loop-l : goal.invariant-loop-l
+invariant-loop-l l =
     (o : Old) → Tells o l.self.table.now
-    → l.links ≡ map (relabelled o l.self.area) (take l.w-index l.initial.links) ++ drop l.w-index l.initial.links
+    → l.links ≡ map (relabelled o l.self.area) (take l.l-index l.initial.links) ++ drop l.l-index l.initial.links

@@ -1,7 +1,7 @@
 use Rattle.std.proofs.Common.{map, length, refl, arith, rules, tests, ◌∙◌}
 use Rattle.std.proofs.lemmas.Iterator.{YieldsList-from_range}
 use Rattle.std.proofs.lemmas.Iterator.Search.{all_from_yields_List}
-use Rattle.cells.specs.NodeWords.{number_of}
+use Rattle.cells.specs.Nodes.{number_of}
 use Rattle.sets.proofs.ArrivalLaws.{meets_by, meets_all}
 use Rattle.sets.proofs.world.World.members_meet.Goals as goal
 
