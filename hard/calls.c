@@ -65,6 +65,17 @@ static void use_scratch(const lent *m, uint32_t *scratch)
         scratch[i] = (uint32_t)(i % (m->n + 1));
 }
 
+/* What an indexed walk leaves in that scratch: each number's first place where it was accepted, else nothing new. */
+static void check_index(const lent *m, const uint32_t *scratch, bool accepted)
+{
+    uint32_t *index = block(YND_SCRATCH * sizeof *index);
+    use_scratch(m, index);
+    for (size_t p = accepted ? m->ynd->node_count : 0; p-- > 0;)
+        index[m->nodes[p].node_id] = (uint32_t)p;
+    CHECK(memcmp(scratch, index, YND_SCRATCH * sizeof *index) == 0);
+    unblock(index, YND_SCRATCH * sizeof *index);
+}
+
 /* The walk by an index leaves all that ynd_walk left; a scratch of too few entries is refused before the visited
  * list. */
 static void same_indexed(const lent *m, size_t start, const uint8_t *choices, size_t n, const uint32_t *list,
@@ -79,13 +90,11 @@ static void same_indexed(const lent *m, size_t start, const uint8_t *choices, si
         m->ynd, NODES(m), LINKS(m), start, choices, n, visited, room, scratch, YND_SCRATCH - 1, end, got, place);
     CHECK(few == (before ? number : YND_LENT_TOO_SHORT) && *place == (before ? at : YND_SCRATCH_LIST));
     CHECK(*got == KEPT_SIZE);
-    for (size_t i = 0; i < YND_SCRATCH; i++)
-        CHECK(scratch[i] == i % (m->n + 1));
+    check_index(m, scratch, false);
     uint32_t same = ynd_walk_indexed(
         m->ynd, NODES(m), LINKS(m), start, choices, n, visited, room, scratch, YND_SCRATCH, end, got, place);
     CHECK(answer(WALK_INDEXED, same, *place) == number && *place == at);
-    for (size_t i = 0; before && i < YND_SCRATCH; i++)
-        CHECK(scratch[i] == i % (m->n + 1));
+    check_index(m, scratch, number == 0);
     CHECK(*got == count && memcmp(end, how, sizeof *how) == 0 && memcmp(visited, list, room * sizeof *list) == 0);
     unblock(place, sizeof *place);
     unblock(got, sizeof *got);

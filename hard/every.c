@@ -283,4 +283,5 @@ void every_call(void)
     most_choices_of_area();
     every_version();
     two_members();
+    orders_of_causes();
 }

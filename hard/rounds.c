@@ -102,19 +102,19 @@ static uint16_t own_area(const lent *m)
     return m->n > 0 && m->ynd->node_count > 0 ? m->nodes[0].area_id : 0;
 }
 
-/* What is refused before the walk: the version, the struct, the nodes' list, another area, a number that no node has,
+/* What is refused before the walk: the version, another area, the struct, the nodes' list, a number that no node has,
  * the links' list. */
 static uint32_t no_walk(const lent *m, head r, size_t *list)
 {
     *list = 0;
     if (r.version != 1 && r.version != 2)
         return YND_NO_ROUND_FILE;
+    if (r.version == 2 && r.area != own_area(m))
+        return YND_OTHER_AREA;
     if (over_limit(m))
         return YND_AT_LIMIT;
     if (m->n < m->ynd->node_count)
         return YND_LENT_TOO_SHORT;
-    if (r.version == 2 && r.area != own_area(m))
-        return YND_OTHER_AREA;
     if (model_node(m, r.start) == SIZE_MAX)
         return YND_NO_SUCH_PLACE;
     *list = m->l < m->ynd->link_count ? YND_LINKS : 0;

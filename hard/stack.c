@@ -23,6 +23,8 @@ static ynd_ref_entry *refs, ref;
 static uint32_t *scratch, *places, visited[65], area;
 static bool yes;
 static volatile uint8_t length;
+/* what a call returns is kept, and not looked at: what is measured is its stack */
+static volatile uint32_t number;
 
 #define NODES nodes, counts.nodes + 1
 #define LINKS links, counts.links + 1
@@ -36,31 +38,31 @@ static void *list(size_t n, size_t size)
     return p;
 }
 
-static void do_count(void) { ynd_count(section, section_len, NULL, 0, &counts, &place); }
-static void do_read(void) { ynd_read(&ynd, section, section_len, NULL, 0, LISTS, &place); }
-static void do_sound(void) { ynd_sound(&ynd, NODES, LINKS, refs, counts.refs + 1, scratch, YND_SCRATCH, &yes, &place); }
-static void do_renumber(void) { ynd_renumber(&ynd, LISTS, scratch, YND_SCRATCH, places, counts.nodes + 1, &place); }
-static void do_write(void) { ynd_write(&ynd, LISTS, section, section_len, &count, &place); }
-static void do_write_then_read(void) { ynd_write_then_read(&ynd, LISTS, section, section_len, &count, &place); }
-static void do_walk(void) { static uint8_t choices[64]; ynd_walk_end end; ynd_walk(&ynd, NODES, LINKS, 0, choices, 64, visited, 65, &end, &count, &place); }
-static void do_within(void) { ynd_within(&ynd, NODES, 0, 0, 400, places, counts.nodes + 1, &count, &place); }
-static void do_nearest(void) { static uint64_t square; ynd_nearest(&ynd, NODES, 0, 0, &yes, &at, &square, &place); }
-static void do_read_round(void) { static uint8_t to[64]; static uint16_t start; ynd_read_round(section, 73, to, 64, &start, &count, &place); }
-static void do_write_round(void) { static uint8_t choices[64]; ynd_write_round(7, choices, 64, section, section_len, &count, &place); }
-static void do_follow_round(void) { static uint8_t choices[64]; ynd_walk_end end; ynd_follow_round(&ynd, NODES, LINKS, 0, choices, 64, visited, 65, &end, &count, &place); }
+static void do_count(void) { number = ynd_count(section, section_len, NULL, 0, &counts, &place); }
+static void do_read(void) { number = ynd_read(&ynd, section, section_len, NULL, 0, LISTS, &place); }
+static void do_sound(void) { number = ynd_sound(&ynd, NODES, LINKS, refs, counts.refs + 1, scratch, YND_SCRATCH, &yes, &place); }
+static void do_renumber(void) { number = ynd_renumber(&ynd, LISTS, scratch, YND_SCRATCH, places, counts.nodes + 1, &place); }
+static void do_write(void) { number = ynd_write(&ynd, LISTS, section, section_len, &count, &place); }
+static void do_write_then_read(void) { number = ynd_write_then_read(&ynd, LISTS, section, section_len, &count, &place); }
+static void do_walk(void) { static uint8_t choices[64]; ynd_walk_end end; number = ynd_walk(&ynd, NODES, LINKS, 0, choices, 64, visited, 65, &end, &count, &place); }
+static void do_within(void) { number = ynd_within(&ynd, NODES, 0, 0, 400, places, counts.nodes + 1, &count, &place); }
+static void do_nearest(void) { static uint64_t square; number = ynd_nearest(&ynd, NODES, 0, 0, &yes, &at, &square, &place); }
+static void do_read_round(void) { static uint8_t to[64]; static uint16_t start; number = ynd_read_round(section, 73, to, 64, &start, &count, &place); }
+static void do_write_round(void) { static uint8_t choices[64]; number = ynd_write_round(7, choices, 64, section, section_len, &count, &place); }
+static void do_follow_round(void) { static uint8_t choices[64]; ynd_walk_end end; number = ynd_follow_round(&ynd, NODES, LINKS, 0, choices, 64, visited, 65, &end, &count, &place); }
 static void do_follow_version(void)
 {
     static uint8_t choices[64];
     ynd_walk_end end;
-    ynd_follow_round_versioned(&ynd, NODES, LINKS, 1, 0, 0, choices, 64, visited, 65, &end, &count, &place);
+    number = ynd_follow_round_versioned(&ynd, NODES, LINKS, 1, 0, 0, choices, 64, visited, 65, &end, &count, &place);
 }
-static void do_node(void) { ynd_node(&ynd, NODES, 3, &yes, &at, &place); }
-static void do_add_node(void) { ynd_add_node(&ynd, NODES, 489, 1, 2, 3, &place); }
-static void do_add_link(void) { ynd_add_link(&ynd, NODES, LINKS, 0, &link_to, &place); }
-static void do_add_ref(void) { ynd_add_ref(&ynd, refs, counts.refs + 1, &ref, &place); }
-static void do_put_node(void) { ynd_put_node(&ynd, NODES, 0, &node, &place); }
-static void do_shown_node(void) { static ynd_seen_node seen; ynd_shown_node(&ynd, NODES, LINKS, junctions, counts.junctions + 1, refs, counts.refs + 1, 0, &seen, &place); }
-static void do_file_name(void) { static uint8_t name[13]; ynd_cell_file_name(25, 4, name, &count, &place); }
+static void do_node(void) { number = ynd_node(&ynd, NODES, 3, &yes, &at, &place); }
+static void do_add_node(void) { number = ynd_add_node(&ynd, NODES, 489, 1, 2, 3, &place); }
+static void do_add_link(void) { number = ynd_add_link(&ynd, NODES, LINKS, 0, &link_to, &place); }
+static void do_add_ref(void) { number = ynd_add_ref(&ynd, refs, counts.refs + 1, &ref, &place); }
+static void do_put_node(void) { number = ynd_put_node(&ynd, NODES, 0, &node, &place); }
+static void do_shown_node(void) { static ynd_seen_node seen; number = ynd_shown_node(&ynd, NODES, LINKS, junctions, counts.junctions + 1, refs, counts.refs + 1, 0, &seen, &place); }
+static void do_file_name(void) { static uint8_t name[13]; number = ynd_cell_file_name(25, 4, name, &count, &place); }
 static void do_area(void) { static const uint8_t NAME[] = "nodes489.ynd"; yes = ynd_area_id_from_file_name(NAME, 12, &area); }
 /* lengths at and beside each whole metre, so that the table of thresholds is looked at */
 static void do_length(void)
@@ -149,12 +151,12 @@ static void do_member_put_words(void)
 static void do_member_add_junction(void)
 {
     static const ynd_junction_entry empty;
-    ynd_member_add_junction(&member, 1, SET_JUNCTIONS, SET_HEIGHTS, 0, &empty, NULL, 0, &place);
+    number = ynd_member_add_junction(&member, 1, SET_JUNCTIONS, SET_HEIGHTS, 0, &empty, NULL, 0, &place);
 }
 
 static void do_member_add_node(void)
 {
-    ynd_member_add_node(&member, 1, SET_NODES, 0, 489, 1, 2, 3, &place);
+    number = ynd_member_add_node(&member, 1, SET_NODES, 0, 489, 1, 2, 3, &place);
 }
 
 static void do_member_node(void)
@@ -177,10 +179,18 @@ static void do_set_leave(void)
 static size_t touched(void (*call)(void))
 {
     memset(painted, PAINT, STACK);
+#ifdef __aarch64__
+    __asm__ volatile("mov x19, sp\n\tmov sp, %1\n\tblr %0\n\tmov sp, x19"
+        : : "r"(call), "r"(painted + STACK)
+        : "x0", "x1", "x2", "x3", "x4", "x5", "x6", "x7", "x8", "x9", "x10", "x11", "x12", "x13", "x14", "x15", "x16", "x17",
+          "x19", "x30", "memory", "cc", "v0", "v1", "v2", "v3", "v4", "v5", "v6", "v7", "v16", "v17", "v18", "v19", "v20",
+          "v21", "v22", "v23", "v24", "v25", "v26", "v27", "v28", "v29", "v30", "v31");
+#else
     __asm__ volatile("movq %%rsp, %%rbx\n\tmovq %1, %%rsp\n\tcallq *%0\n\tmovq %%rbx, %%rsp"
         : : "r"(call), "r"(painted + STACK)
         : "rbx", "rax", "rcx", "rdx", "rsi", "rdi", "r8", "r9", "r10", "r11", "memory", "cc", "xmm0", "xmm1", "xmm2", "xmm3", "xmm4", "xmm5", "xmm6",
           "xmm7", "xmm8", "xmm9", "xmm10", "xmm11", "xmm12", "xmm13", "xmm14", "xmm15");
+#endif
     size_t i = 0;
     while (i < STACK && painted[i] == PAINT)
         i++;

@@ -9,10 +9,15 @@
  * not be NULL, and are aligned as their type says.
  *
  * Refusals. A call that can be refused returns the refusal's number, or 0 (YND_ACCEPTED), and always sets *place: to
- * the place that the number speaks of, or 0. A refusal changes nothing else that was lent. Where several causes fit,
- * the first one in the order given with the call is returned, with the lowest place. "14 over a limit" is a struct
- * made by hand, with over 65,536 nodes or 4,096 junctions, whichever lists the call is lent. A place, link or value
- * that the struct counts and the lists don't hold is 7.
+ * the place that the number speaks of, or 0. A refusal changes nothing else that was lent, but for the scratch of
+ * ynd_shortest_path, which says so. Where several causes fit, the first one in the order given with the call is
+ * returned, with the lowest place. "14 over a limit" is a struct made by hand, with over 65,536 nodes or 4,096
+ * junctions, whichever lists the call is lent. A place, link or value that the struct counts and the lists don't hold
+ * is 7.
+ *
+ * Rounding. The processor has to round to nearest while a call runs, as it does when a C program begins (fesetround);
+ * else cells of the grid and lengths may be off by one, for one. Flushing subnormal numbers to zero changes no answer.
+ * docs/LINKING.md, "Rounding", has what was tried.
  *
  * Threads. There is no state beside what is lent: calls on different memory may run at the same time.
  *
@@ -34,11 +39,21 @@
 /* The version of this header. ynd_version() is that of the library that a program runs with: the same number, or a
  * later one with the same major number. What each version changed for a caller: CHANGELOG.md. */
 #define BOFRASHEM_VERSION_MAJOR 1
-#define BOFRASHEM_VERSION_MINOR 1
+#define BOFRASHEM_VERSION_MINOR 2
 #define BOFRASHEM_VERSION_PATCH 0
-#define BOFRASHEM_VERSION "1.1.0"
+#define BOFRASHEM_VERSION "1.2.0"
 #define BOFRASHEM_VERSION_NUMBER \
     (BOFRASHEM_VERSION_MAJOR * 10000 + BOFRASHEM_VERSION_MINOR * 100 + BOFRASHEM_VERSION_PATCH)
+
+#if defined(__cplusplus) && __cplusplus >= 201703L     /* where a refusal is dropped the compiler warns */
+#define YND_NODISCARD [[nodiscard]]
+#elif !defined(__cplusplus) && defined(__STDC_VERSION__) && __STDC_VERSION__ >= 202000L
+#define YND_NODISCARD [[nodiscard]]
+#elif defined(__GNUC__)
+#define YND_NODISCARD __attribute__((warn_unused_result))
+#else
+#define YND_NODISCARD
+#endif
 
 #ifdef __cplusplus
 extern "C" {
@@ -63,8 +78,8 @@ extern "C" {
  * | 10 | heightmap bytes before a junction over 65,535 on writing | the junction |
  * | 11 | refs over 65,535 on writing | 0 |
  * | 12 | heightmap values not width × height | 0 |
- * | 13 | no such place, a round's start that no node has, or a grid number over 31 | 0 |
- * | 14 | the cell is at or over a limit: 65,536 nodes, 4,096 junctions, 255 links of a node | 0 |
+ * | 13 | no such place or member, area not in the set, round's start that no node has, or grid number over 31 | 0 |
+ * | 14 | over a limit: 65,536 nodes of cell or set, 4,096 junctions, 255 links a node, 9 members, 32-bit counts | 0 |
  * | 15 | a round file's first five bytes aren't the mark and a version that the reader takes | 0 |
  * | 16 | a round file under 9 bytes (version 2: 11), or not that plus its count; over 65,535 choices on writing | 0 |
  * | 17 | no walk joins the two places | 0 |
@@ -149,8 +164,8 @@ typedef struct ynd_cell {
     uint32_t ref_count;
 } ynd_cell;
 
-/* A node. Its links are link_count entries of the links, from link_start on. The five unused fields of the file's record
- * are the caller's: they stay with the node and are written (T-10). */
+/* A node. Its links are link_count entries of the links, from link_start on. The five unused fields of the file's
+ * record are the caller's: they stay with the node and are written. */
 typedef struct ynd_node_entry {
     uint16_t area_id;
     uint16_t node_id;
@@ -238,7 +253,8 @@ typedef struct ynd_addresses {
     uint64_t refs, heightmap, junctions, links, nodes;
 } ynd_addresses;
 
-/* The archive is x86-64 code and sees words where these structs have fields: their layouts have to be these. */
+/* The archive is 64-bit and little-endian code for x86-64 or aarch64. It has these structs too, so their layouts have
+ * to be these. */
 YND_ASSERT(sizeof(size_t) == 8 && sizeof(float) == 4 && sizeof(bool) == 1, "a 64-bit machine");
 YND_ASSERT(FLT_RADIX == 2 && FLT_MANT_DIG == 24 && FLT_MAX_EXP == 128, "float is IEEE 754 binary32");
 #ifdef __BYTE_ORDER__
@@ -261,6 +277,7 @@ YND_ASSERT(sizeof(ynd_member) == 20 * 4 && offsetof(ynd_member, nodes) == 15 * 4
 YND_ASSERT(sizeof(ynd_counts) == 5 * 8 && sizeof(ynd_walk_end) == 3 * 4 && sizeof(ynd_seen_node) == 19 * 8
     && sizeof(ynd_seen_junction) == 6 * 4 && sizeof(ynd_seen_link) == 5 && sizeof(ynd_part) == 3 * 8
     && sizeof(ynd_addresses) == 5 * 8, "answers");
+#undef YND_ASSERT
 
 /* ---- Version and texts ---- */
 
@@ -280,6 +297,7 @@ size_t ynd_refusal_text(uint32_t number, char *text, size_t text_len);
  * file. Ranges may overlap, so that a small file can count far more than its bytes hold: hold the counts to a limit
  * of your own before memory is asked for (docs/LINKING.md, "Files that nobody vouches for"). Refused, in this
  * order: 2, 1, 3, 6, 4, 5. */
+YND_NODISCARD
 uint32_t ynd_count(
     const uint8_t *system, size_t system_len, const uint8_t *graphics, size_t graphics_len, ynd_counts *counts,
     size_t *place);
@@ -292,6 +310,7 @@ void ynd_new(ynd_cell *ynd);
  * cell of ynd_new and leaves the lists. The sections may be given back after the call. Time: linear in what
  * ynd_count says. Refused, in this order: 2, 1, 3, 6, 4, 5, then 7 at 0 to 4 where a list is shorter than ynd_count
  * says. */
+YND_NODISCARD
 uint32_t ynd_read(
     ynd_cell *ynd, const uint8_t *system, size_t system_len, const uint8_t *graphics, size_t graphics_len,
     ynd_node_entry *nodes, size_t nodes_len, ynd_link_entry *links, size_t links_len,
@@ -308,6 +327,7 @@ uint32_t ynd_read(
  * at each old place. The scratch holds anything after an accepted call. Time: linear in n, l and r. Refused, in
  * this order: 14 over a limit; 7 at 0 to 4 where a list is shorter than its count, 7 at 6 where the scratch has
  * under YND_SCRATCH entries, 7 at 7 where `places` has fewer entries than there are nodes. */
+YND_NODISCARD
 uint32_t ynd_renumber(
     ynd_cell *ynd, ynd_node_entry *nodes, size_t nodes_len, ynd_link_entry *links, size_t links_len,
     const ynd_junction_entry *junctions, size_t junctions_len, const uint8_t *heights, size_t heights_len,
@@ -319,8 +339,10 @@ uint32_t ynd_renumber(
 /* Writes the cell into `section`, from its first byte on; later bytes stay. `length` gets how many bytes were
  * written. Time: linear in what is written. Refused, in this order: 14 over a limit, 12 where a junction made by
  * hand has fewer than width × height of the values that the struct counts, 8 and 9 node by node, 10, 11, 7 at 0 to
- * 4 where a list is shorter than its count, 7 at 5 where the section is too short. What is written is never refused
- * on reading, but for memory (7). */
+ * 4 where a list is shorter than its count, 7 at 5 where the section is too short. Of a list that is shorter than its
+ * count 12 and 8 to 10 are asked of the entries that are lent: a node of 32 links, of which 31 are lent, is 7 at 1.
+ * What is written is never refused on reading, but for memory (7). */
+YND_NODISCARD
 uint32_t ynd_write(
     const ynd_cell *ynd, const ynd_node_entry *nodes, size_t nodes_len,
     const ynd_link_entry *links, size_t links_len, const ynd_junction_entry *junctions, size_t junctions_len,
@@ -331,6 +353,7 @@ uint32_t ynd_write(
  * bytes were written. Time: linear in what is written. Refused as ynd_write is; a cell made by hand is also refused
  * with 7 at 0 to 4 where a list is too short for copies of ranges that overlap. A refusal leaves cell, lists and
  * section as they were. */
+YND_NODISCARD
 uint32_t ynd_write_then_read(
     ynd_cell *ynd, ynd_node_entry *nodes, size_t nodes_len, ynd_link_entry *links, size_t links_len,
     ynd_junction_entry *junctions, size_t junctions_len, uint8_t *heights, size_t heights_len,
@@ -344,16 +367,19 @@ uint32_t ynd_write_then_read(
  * where numbers are not places each may look at n nodes: renumber a cell that was read before long walks, or bound
  * the choices. Refused, in this order: 13 no such place; 14 over a limit; 7 at 0 and 1 where a list is shorter than
  * its count; 7 at 8 where `visited` is too short (choices_len + 1 entries always do). */
+YND_NODISCARD
 uint32_t ynd_walk(
     const ynd_cell *ynd, const ynd_node_entry *nodes, size_t nodes_len,
     const ynd_link_entry *links, size_t links_len, size_t start, const uint8_t *choices, size_t choices_len,
     uint32_t *visited, size_t visited_len, ynd_walk_end *end, size_t *count, size_t *place);
 
 /* As ynd_walk, with a scratch by which the node with a number is found at once: for long walks in a cell that isn't
- * renumbered. The scratch may hold anything afterwards, after 7 at 8 too; other refusals leave it as it was. Time:
- * linear in n and in the choices, whatever the numbers. Refused, in this order: 13 no such place; 14 over a limit; 7
- * at 0 and 1 where a list is shorter than its count; 7 at 6 where the scratch has under YND_SCRATCH entries; 7 at 8
- * where `visited` is too short (choices_len + 1 entries always do). */
+ * renumbered. The scratch then holds at each number the first place that has it, its other entries stay; a refusal
+ * leaves it as it was. Time: linear in n and in the choices, whatever the numbers, but that of ynd_walk where
+ * `visited` has no more entries than there are choices. Refused, in this order: 13 no such place; 14 over a limit;
+ * 7 at 0 and 1 where a list is shorter than its count; 7 at 6 where the scratch has under YND_SCRATCH entries; 7 at 8
+ * where `visited` is too short (choices_len + 1 entries always do, and spare that). */
+YND_NODISCARD
 uint32_t ynd_walk_indexed(
     const ynd_cell *ynd, const ynd_node_entry *nodes, size_t nodes_len,
     const ynd_link_entry *links, size_t links_len, size_t start, const uint8_t *choices, size_t choices_len,
@@ -364,6 +390,7 @@ uint32_t ynd_walk_indexed(
  * names a node of the cell. The scratch then holds at each number the last place that has it. Time: linear in n,
  * the nodes' links and r. Refused, in this order: 14 over a limit; 7 at 0, 1 and 4 where a list is shorter than its
  * count; 7 at 6 where the scratch has under YND_SCRATCH entries. */
+YND_NODISCARD
 uint32_t ynd_sound(
     const ynd_cell *ynd, const ynd_node_entry *nodes, size_t nodes_len,
     const ynd_link_entry *links, size_t links_len, const ynd_ref_entry *refs, size_t refs_len,
@@ -373,6 +400,7 @@ uint32_t ynd_sound(
 
 /* What a walk shows of the node at place `at`. Fills `shown`. Time: linear in r. Refused, in this order: 13 no such
  * place; 14 over a limit; 7 at 0, 1, 2 and 4 where a list is shorter than its count. */
+YND_NODISCARD
 uint32_t ynd_shown_node(
     const ynd_cell *ynd, const ynd_node_entry *nodes, size_t nodes_len,
     const ynd_link_entry *links, size_t links_len, const ynd_junction_entry *junctions, size_t junctions_len,
@@ -380,6 +408,7 @@ uint32_t ynd_shown_node(
 
 /* What a walk shows of the junction at place `at`, its values aside (ynd_shown_values). Fills `shown`. Refused, in
  * this order: 13 no such place; 14 over a limit; 7 at 2 where a list is shorter than its count. */
+YND_NODISCARD
 uint32_t ynd_shown_junction(
     const ynd_cell *ynd, const ynd_junction_entry *junctions, size_t junctions_len, size_t at,
     ynd_seen_junction *shown, size_t *place);
@@ -388,6 +417,7 @@ uint32_t ynd_shown_junction(
  * many they are into `count`: 65,025 entries always do. Time: linear in the values. Refused, in this order: 13 no
  * such place; 14 over a limit; 7 at 2 and 3 where a list is shorter than its count; 7 at 3 where `values` is too
  * short. */
+YND_NODISCARD
 uint32_t ynd_shown_values(
     const ynd_cell *ynd, const ynd_junction_entry *junctions, size_t junctions_len,
     const uint8_t *heights, size_t heights_len, size_t at, uint8_t *values, size_t values_len, size_t *count,
@@ -396,6 +426,7 @@ uint32_t ynd_shown_values(
 /* What a walk shows of the link that a byte chooses at place `at`: `shown` gets found = 1 and the link's flags and
  * length, or five zeros where there is no such link. Refused, in this order: 13 no such place; 14 over a limit; 7
  * at 0 and 1 where a list is shorter than its count. */
+YND_NODISCARD
 uint32_t ynd_shown_link(
     const ynd_cell *ynd, const ynd_node_entry *nodes, size_t nodes_len,
     const ynd_link_entry *links, size_t links_len, size_t at, uint8_t choice, ynd_seen_link *shown,
@@ -406,6 +437,7 @@ uint32_t ynd_shown_link(
 /* The place of the node that has a number: `found` says whether there is one, `at` gets its place (else `at`
  * stays). Time: at once where the node at the place of that number has it, else linear in n. Refused: 14 over a
  * limit; 7 at 0 where a list is shorter than its count. */
+YND_NODISCARD
 uint32_t ynd_node(
     const ynd_cell *ynd, const ynd_node_entry *nodes, size_t nodes_len, uint16_t node_id, bool *found,
     size_t *at, size_t *place);
@@ -413,6 +445,7 @@ uint32_t ynd_node(
 /* The place of the junction that the refs give to a node, by area and number: `found`, and then `at` (else `at`
  * stays). A ref of the own area counts as naming the first node's area, with the island's bit. Time: linear in r.
  * Refused: 14 over a limit; 7 at 0 and 4 where a list is shorter than its count. */
+YND_NODISCARD
 uint32_t ynd_junction_of(
     const ynd_cell *ynd, const ynd_node_entry *nodes, size_t nodes_len,
     const ynd_ref_entry *refs, size_t refs_len, uint16_t area_id, uint16_t node_id, bool *found, size_t *at,
@@ -420,6 +453,7 @@ uint32_t ynd_junction_of(
 
 /* The cell's own area, the first node's: `found` is false in a cell with no node, and `area` stays. Refused: 14
  * over a limit; 7 at 0 where a list is shorter than its count. */
+YND_NODISCARD
 uint32_t ynd_area_of_cell(
     const ynd_cell *ynd, const ynd_node_entry *nodes, size_t nodes_len, bool *found, uint32_t *area,
     size_t *place);
@@ -433,6 +467,7 @@ uint32_t ynd_area_of_cell(
  * `places` is shorter than n. Refused, in this order: 14 a struct over a limit; 7 at 0 where a list is shorter than
  * its count; 7 at 8 where `places` has fewer entries than there are such nodes (node_count entries always do, and
  * spare a count). */
+YND_NODISCARD
 uint32_t ynd_within(
     const ynd_cell *ynd, const ynd_node_entry *nodes, size_t nodes_len, int16_t x, int16_t y, uint16_t radius,
     uint32_t *places, size_t places_len, size_t *count, size_t *place);
@@ -440,6 +475,7 @@ uint32_t ynd_within(
 /* The node nearest to the point, the lowest place where distances are equal: `found` is false in a cell with no
  * node; else `at` gets its place and `square` its squared distance (else they stay). Time: linear in n. Refused, in
  * this order: 14 a struct over a limit; 7 at 0 where a list is shorter than its count. */
+YND_NODISCARD
 uint32_t ynd_nearest(
     const ynd_cell *ynd, const ynd_node_entry *nodes, size_t nodes_len, int16_t x, int16_t y, bool *found,
     size_t *at, uint64_t *square, size_t *place);
@@ -451,12 +487,14 @@ uint32_t ynd_nearest(
  * the choices, later entries stay (YND_CHOICES_MOST entries always do). Time: linear in the choices. Refused, in
  * this order: 15 the first five bytes aren't the mark and version 1; 16 under 9 bytes, or another length than 9
  * plus the count; 7 at 8 where `choices` has fewer entries than the count. */
+YND_NODISCARD
 uint32_t ynd_read_round(
     const uint8_t *file, size_t file_len, uint8_t *choices, size_t choices_len, uint16_t *start, size_t *count,
     size_t *place);
 
 /* Writes a round file of 9 + choices_len bytes: `length` gets how many they are, later bytes of `file` stay. Time:
  * linear in the choices. Refused, in this order: 16 over 65,535 choices; 7 at 8 where `file` is shorter. */
+YND_NODISCARD
 uint32_t ynd_write_round(
     uint16_t start, const uint8_t *choices, size_t choices_len, uint8_t *file, size_t file_len, size_t *length,
     size_t *place);
@@ -466,16 +504,18 @@ uint32_t ynd_write_round(
  * so write it again with the node's new number. Time: that of ynd_node and of ynd_walk. Refused, in this order: 14
  * over a limit; 7 at 0 where the nodes are fewer than their count; 13 no node has the number; 7 at 1 where the
  * links are fewer than their count; 7 at 8 where `visited` is too short (choices_len + 1 entries always do). */
+YND_NODISCARD
 uint32_t ynd_follow_round(
     const ynd_cell *ynd, const ynd_node_entry *nodes, size_t nodes_len,
     const ynd_link_entry *links, size_t links_len, uint16_t start, const uint8_t *choices, size_t choices_len,
     uint32_t *visited, size_t visited_len, ynd_walk_end *end, size_t *count, size_t *place);
 
 /* As ynd_follow_round, with a scratch as ynd_walk_indexed has it: for long rounds in a cell that isn't renumbered.
- * The scratch may hold anything afterwards, after 7 at 8 too; other refusals leave it as it was. Time: linear in n and
- * in the choices, whatever the numbers. Refused, in this order: 14 over a limit; 7 at 0 where the nodes are fewer than
- * their count; 13 no node has the number; 7 at 1 where the links are fewer than their count; 7 at 6 where the scratch
- * has under YND_SCRATCH entries; 7 at 8 where `visited` is too short (choices_len + 1 entries always do). */
+ * What is said there of the scratch and of time holds here. Refused, in this order: 14 over a limit; 7 at 0 where the
+ * nodes are fewer than their count; 13 no node has the number; 7 at 1 where the links are fewer than their count; 7 at
+ * 6 where the scratch has under YND_SCRATCH entries; 7 at 8 where `visited` is too short (choices_len + 1 entries
+ * always do). */
+YND_NODISCARD
 uint32_t ynd_follow_round_indexed(
     const ynd_cell *ynd, const ynd_node_entry *nodes, size_t nodes_len,
     const ynd_link_entry *links, size_t links_len, uint16_t start, const uint8_t *choices, size_t choices_len,
@@ -490,6 +530,7 @@ uint32_t ynd_follow_round_indexed(
  * in the choices. Refused, in this order: 15 the first five bytes aren't the mark and version 1 or 2; 16 under 9
  * bytes, or another length than 9 plus the count (in version 2: 11); 7 at 8 where `choices` has fewer entries than
  * the count. */
+YND_NODISCARD
 uint32_t ynd_read_round_versioned(
     const uint8_t *file, size_t file_len, uint8_t *choices, size_t choices_len, uint16_t *version, uint16_t *area,
     uint16_t *start, size_t *count, size_t *place);
@@ -498,6 +539,7 @@ uint32_t ynd_read_round_versioned(
  * at), 11 + choices_len in version 2; `length` gets how many they are, later bytes of `file` stay. Time: linear in
  * the choices. Refused, in this order: 15 a version that is neither 1 nor 2; 16 over 65,535 choices; 7 at 8 where
  * `file` is shorter. */
+YND_NODISCARD
 uint32_t ynd_write_round_versioned(
     uint16_t version, uint16_t area, uint16_t start, const uint8_t *choices, size_t choices_len,
     uint8_t *file, size_t file_len, size_t *length, size_t *place);
@@ -505,9 +547,10 @@ uint32_t ynd_write_round_versioned(
 /* Follows a round of this version, as ynd_follow_round follows one of version 1: of version 2 only in the cell
  * whose own area (the first node's, with the island's bit; 0 in a cell with no node) is `area`. In version 1 `area`
  * is not looked at. Time: that of ynd_node and of ynd_walk. Refused, in this order: 15 a version that is neither 1
- * nor 2; 14 over a limit; 7 at 0 where the nodes are fewer than their count; 19 a version 2 round whose area isn't
- * the cell's; 13 no node has the number; 7 at 1 where the links are fewer than their count; 7 at 8 where `visited`
- * is too short (choices_len + 1 entries always do). */
+ * nor 2; 19 a version 2 round whose area isn't the cell's, asked of the nodes that are lent; 14 over a limit; 7 at 0
+ * where the nodes are fewer than their count; 13 no node has the number; 7 at 1 where the links are fewer than their
+ * count; 7 at 8 where `visited` is too short (choices_len + 1 entries always do). */
+YND_NODISCARD
 uint32_t ynd_follow_round_versioned(
     const ynd_cell *ynd, const ynd_node_entry *nodes, size_t nodes_len,
     const ynd_link_entry *links, size_t links_len, uint16_t version, uint16_t area, uint16_t start,
@@ -517,8 +560,9 @@ uint32_t ynd_follow_round_versioned(
 /* ---- Sets of cells. A set is a list of members beside five lists, which hold all members' nodes, links, junctions,
  * heights and refs, one member's part after the other's in the order of joining. A part may have more entries than
  * the member's cell holds. At most YND_MEMBERS_MOST members, of YND_NODES_MOST nodes together. A member's area is
- * its cell's own, 0 if it has no node. "14 over a limit" is a set made by hand; "7 at 0 to 4" is one of the five
- * lists that is shorter than the members' parts together, or a member's part that is shorter than its count ---- */
+ * its cell's own, 0 if it has no node. "14 over a limit" is a set made by hand: over nine members, over 65,536 nodes
+ * together, or a member over a cell's limits. "7 at 0 to 4" is one of the five lists that is shorter than the members'
+ * parts together, or a member's part that is shorter than its count, as the entries of `members` say both ---- */
 
 /* A cell joins: what `ynd` says of its lists is copied behind the other members' parts, and its own parts get
  * `sizes` entries, at least as many as the cell holds. The set's members are the first `count` of `members`;
@@ -526,6 +570,7 @@ uint32_t ynd_follow_round_versioned(
  * area; 14 a tenth member, more than 65,536 nodes together, or over a limit; 7 at 0 to 4 where the set's list has
  * no room for `sizes` entries more, the cell's list is shorter than its count, or `sizes` is less than that or
  * passes 32 bits; 7 at 10 where `members` has no free entry. */
+YND_NODISCARD
 uint32_t ynd_set_join(
     size_t *count, ynd_member *members, size_t members_len, ynd_node_entry *nodes, size_t nodes_len,
     ynd_link_entry *links, size_t links_len, ynd_junction_entry *junctions, size_t junctions_len,
@@ -538,6 +583,7 @@ uint32_t ynd_set_join(
 /* The member of this area leaves, the first joined of several; the parts behind its own move up. `members` are the
  * set's and no more; `count` gets how many are left, the first of `members`. Time: linear in the parts that move
  * up. Refused, in this order: 13 no member has the area; 14 over a limit; 7 at 0 to 4. */
+YND_NODISCARD
 uint32_t ynd_set_leave(
     ynd_member *members, size_t members_len, ynd_node_entry *nodes, size_t nodes_len,
     ynd_link_entry *links, size_t links_len, ynd_junction_entry *junctions, size_t junctions_len,
@@ -549,6 +595,7 @@ uint32_t ynd_set_leave(
  * matter), the five lists its entries from their front on; later entries stay. `members` are the set's and no more.
  * Time: linear in what is copied. Refused, in this order: 13 no member has the area; 14 over a limit; 7 at 0 to 4;
  * 7 at 0 to 4 where the caller's own list is shorter than the cell's count. */
+YND_NODISCARD
 uint32_t ynd_set_hand_back(
     const ynd_member *members, size_t members_len, const ynd_node_entry *nodes, size_t nodes_len,
     const ynd_link_entry *links, size_t links_len, const ynd_junction_entry *junctions, size_t junctions_len,
@@ -564,6 +611,7 @@ uint32_t ynd_set_hand_back(
  * same node goes the same way in a sound set. Time: linear in the member's n, l and r, in YND_SCRATCH and in the
  * links of the others. Refused, in this order: 13 no such member; 14 over a limit; 7 at 0 to 4; 7 at 6 where the
  * scratch has under YND_SCRATCH entries; 7 at 7 where `places` has fewer entries than the member has nodes. */
+YND_NODISCARD
 uint32_t ynd_set_renumber(
     ynd_member *members, size_t members_len, ynd_node_entry *nodes, size_t nodes_len,
     ynd_link_entry *links, size_t links_len, const ynd_junction_entry *junctions, size_t junctions_len,
@@ -575,6 +623,7 @@ uint32_t ynd_set_renumber(
  * number. `visited` gets member and place of each node. `members` are the set's and no more. Time: that of
  * ynd_walk, in each member by its own numbers. Refused, in this order: 13 no such member or place; 14 over a limit;
  * 7 at 0 and 1; 7 at 8 where `visited` is too short (choices_len + 1 entries always do). */
+YND_NODISCARD
 uint32_t ynd_set_crossing_walk(
     const ynd_member *members, size_t members_len, const ynd_node_entry *nodes, size_t nodes_len,
     const ynd_link_entry *links, size_t links_len, size_t member, size_t start,
@@ -586,6 +635,7 @@ uint32_t ynd_set_crossing_walk(
  * after the other, each with its last place. Time: linear in all nodes, their links and refs for each member: at
  * most nine times the whole set. Refused, in this order: 14 over a limit; 7 at 0, 1 and 4; 7 at 6 where the scratch
  * has under YND_SCRATCH entries. */
+YND_NODISCARD
 uint32_t ynd_set_sound(
     const ynd_member *members, size_t members_len, const ynd_node_entry *nodes, size_t nodes_len,
     const ynd_link_entry *links, size_t links_len, const ynd_ref_entry *refs, size_t refs_len,
@@ -601,8 +651,10 @@ void ynd_set_member_of_area(
  * `start` in the member of `area` (version 2, `member` is not looked at) or in the member named (version 1, `area`
  * is not looked at). `members` are the set's and no more. Time: that of ynd_member_node and of
  * ynd_set_crossing_walk. Refused, in this order: 15 a version that is neither 1 nor 2; 19 a version 2 round whose
- * area is no member's; 13 no such member; 14 over a limit; 7 at 0 and 1; 13 no node of the member has the number; 7
- * at 8 where `visited` is too short (choices_len + 1 entries always do). */
+ * area is no member's; 13 no such member; 14 over a limit; 7 at 0 to 4, at 2 to 4 for a member's part alone, since
+ * those lists aren't lent; 13 no node of the member has the number; 7 at 8 where `visited` is too short (choices_len
+ * + 1 entries always do). */
+YND_NODISCARD
 uint32_t ynd_set_follow_round(
     const ynd_member *members, size_t members_len, const ynd_node_entry *nodes, size_t nodes_len,
     const ynd_link_entry *links, size_t links_len, uint16_t version, uint16_t area, size_t member, uint16_t start,
@@ -613,12 +665,14 @@ uint32_t ynd_set_follow_round(
  * (the set's and no more) is the cell, and its lists are its parts of the five lists. So 7 where a list has no free
  * entry is here 7 where the member's part has none, whatever stands behind it. All else in the six lists stays: the
  * other members, and what is behind all parts. Each is refused first, in this order, with "the set's": 13 no such
- * member; 14 over a limit; 7 at 0 to 4, of which the lists that a call isn't lent count as long enough. What follows
- * with each call are the cell's own causes. Time: that of the cell's call ---- */
+ * member; 14 over a limit; 7 at 0 to 4. A list that a call isn't lent counts as long enough for the parts, but 7 comes
+ * for it too where a member's part, by its entry, is shorter than its count. What follows with each call are the
+ * cell's own causes. Time: that of the cell's call ---- */
 
 /* Writes the member as ynd_write does a cell: into `section` from its first byte on; `length` gets how many bytes
  * were written. Refused, in this order: the set's; 12, 8 and 9 node by node, 10 and 11 as ynd_write is; 7 at 5 where
  * the section is too short. */
+YND_NODISCARD
 uint32_t ynd_member_write(
     const ynd_member *members, size_t members_len, const ynd_node_entry *nodes, size_t nodes_len,
     const ynd_link_entry *links, size_t links_len, const ynd_junction_entry *junctions, size_t junctions_len,
@@ -628,6 +682,7 @@ uint32_t ynd_member_write(
 /* Writes the member and reads just those bytes back into its own parts, as ynd_write_then_read does a cell. Refused as
  * ynd_member_write is; a member made by hand is also refused with 7 at 0 to 4 where its part is too short for copies
  * of ranges that overlap. A refusal leaves all members and the section as they were. */
+YND_NODISCARD
 uint32_t ynd_member_write_then_read(
     ynd_member *members, size_t members_len, ynd_node_entry *nodes, size_t nodes_len,
     ynd_link_entry *links, size_t links_len, ynd_junction_entry *junctions, size_t junctions_len,
@@ -636,6 +691,7 @@ uint32_t ynd_member_write_then_read(
 
 /* What a walk shows of the member's node at place `at`, as ynd_shown_node. Refused, in this order: the set's; 13 no
  * such place. */
+YND_NODISCARD
 uint32_t ynd_member_shown_node(
     const ynd_member *members, size_t members_len, const ynd_node_entry *nodes, size_t nodes_len,
     const ynd_link_entry *links, size_t links_len, const ynd_junction_entry *junctions, size_t junctions_len,
@@ -643,12 +699,14 @@ uint32_t ynd_member_shown_node(
 
 /* What a walk shows of the member's junction at place `at`, as ynd_shown_junction. Refused, in this order: the set's;
  * 13 no such place. */
+YND_NODISCARD
 uint32_t ynd_member_shown_junction(
     const ynd_member *members, size_t members_len, const ynd_junction_entry *junctions, size_t junctions_len,
     size_t member, size_t at, ynd_seen_junction *shown, size_t *place);
 
 /* Copies the heightmap values of the member's junction at place `at` to the front of `values`, as ynd_shown_values.
  * Refused, in this order: the set's; 13 no such place; 7 at 3 where `values` is too short. */
+YND_NODISCARD
 uint32_t ynd_member_shown_values(
     const ynd_member *members, size_t members_len, const ynd_junction_entry *junctions, size_t junctions_len,
     const uint8_t *heights, size_t heights_len, size_t member, size_t at, uint8_t *values, size_t values_len,
@@ -656,17 +714,20 @@ uint32_t ynd_member_shown_values(
 
 /* What a walk shows of the link that a byte chooses at place `at` of the member, as ynd_shown_link. Refused, in this
  * order: the set's; 13 no such place. */
+YND_NODISCARD
 uint32_t ynd_member_shown_link(
     const ynd_member *members, size_t members_len, const ynd_node_entry *nodes, size_t nodes_len,
     const ynd_link_entry *links, size_t links_len, size_t member, size_t at, uint8_t choice, ynd_seen_link *shown,
     size_t *place);
 
 /* The place of the member's node that has a number, as ynd_node. Refused: the set's. */
+YND_NODISCARD
 uint32_t ynd_member_node(
     const ynd_member *members, size_t members_len, const ynd_node_entry *nodes, size_t nodes_len, size_t member,
     uint16_t node_id, bool *found, size_t *at, size_t *place);
 
 /* The place of the junction that the member's refs give to a node, as ynd_junction_of. Refused: the set's. */
+YND_NODISCARD
 uint32_t ynd_member_junction_of(
     const ynd_member *members, size_t members_len, const ynd_node_entry *nodes, size_t nodes_len,
     const ynd_ref_entry *refs, size_t refs_len, size_t member, uint16_t area_id, uint16_t node_id, bool *found,
@@ -674,24 +735,29 @@ uint32_t ynd_member_junction_of(
 
 /* The member's own area, as ynd_area_of_cell: `found` is false in a member with no node, whose area in the set is 0.
  * Refused: the set's. */
+YND_NODISCARD
 uint32_t ynd_member_area(
     const ynd_member *members, size_t members_len, const ynd_node_entry *nodes, size_t nodes_len, size_t member,
     bool *found, uint32_t *area, size_t *place);
 
 /* Adds a node behind all others of the member, as ynd_add_node. Refused, in this order: the set's, 14 also where the
  * set has 65,536 nodes together; 7 at 0 where the member's part has no free entry. */
+YND_NODISCARD
 uint32_t ynd_member_add_node(
     ynd_member *members, size_t members_len, ynd_node_entry *nodes, size_t nodes_len, size_t member,
     uint16_t area_id, float x, float y, float z, size_t *place);
 
 /* Adds a link as the last one of the member's node at place `at`, as ynd_add_link. Refused, in this order: the set's;
- * 13 no such place; 14 at 255 links of the node; 7 at 1 where the member's part has no free entry. */
+ * 13 no such place; 14 where link_count would pass 32 bits, or at 255 links of the node; 7 at 1 where the member's
+ * part has no free entry. */
+YND_NODISCARD
 uint32_t ynd_member_add_link(
     ynd_member *members, size_t members_len, ynd_node_entry *nodes, size_t nodes_len,
     ynd_link_entry *links, size_t links_len, size_t member, size_t at, const ynd_link_entry *link, size_t *place);
 
 /* Adds a ref behind all others of the member, as ynd_add_ref. Refused, in this order: the set's; 14 where the count
  * would pass 32 bits; 7 at 4 where the member's part has no free entry. */
+YND_NODISCARD
 uint32_t ynd_member_add_ref(
     ynd_member *members, size_t members_len, ynd_ref_entry *refs, size_t refs_len, size_t member,
     const ynd_ref_entry *added, size_t *place);
@@ -699,104 +765,122 @@ uint32_t ynd_member_add_ref(
 /* Adds a junction behind all others of the member, with its heightmap values, as ynd_add_junction. Refused, in this
  * order: the set's; 14 at 4,096 junctions, or where the count of values would pass 32 bits; 12 where the values are
  * not width times height; 7 at 2 and 3 where the member's part has no room. */
+YND_NODISCARD
 uint32_t ynd_member_add_junction(
     ynd_member *members, size_t members_len, ynd_junction_entry *junctions, size_t junctions_len,
     uint8_t *heights, size_t heights_len, size_t member, const ynd_junction_entry *junction,
     const uint8_t *values, size_t values_len, size_t *place);
 
 /* Copies the member's own words, and how many entries it holds. Fills `ynd`. Refused: the set's. */
+YND_NODISCARD
 uint32_t ynd_member_get_cell(
     const ynd_member *members, size_t members_len, size_t member, ynd_cell *ynd, size_t *place);
 
 /* Copies the member's node at place `at`, as ynd_get_node. Refused, in this order: the set's; 13 no such place. */
+YND_NODISCARD
 uint32_t ynd_member_get_node(
     const ynd_member *members, size_t members_len, const ynd_node_entry *nodes, size_t nodes_len, size_t member,
     size_t at, ynd_node_entry *node, size_t *place);
 
 /* Copies link k of the member's node at place `at`, as ynd_get_link. Refused, in this order: the set's; 13 no such
  * node or link. */
+YND_NODISCARD
 uint32_t ynd_member_get_link(
     const ynd_member *members, size_t members_len, const ynd_node_entry *nodes, size_t nodes_len,
     const ynd_link_entry *links, size_t links_len, size_t member, size_t at, size_t k, ynd_link_entry *link,
     size_t *place);
 
 /* Copies the member's ref at place `at`, as ynd_get_ref. Refused, in this order: the set's; 13 no such place. */
+YND_NODISCARD
 uint32_t ynd_member_get_ref(
     const ynd_member *members, size_t members_len, const ynd_ref_entry *refs, size_t refs_len, size_t member,
     size_t at, ynd_ref_entry *taken, size_t *place);
 
 /* Copies the member's junction at place `at`, as ynd_get_junction. Refused, in this order: the set's; 13 no such
  * place. */
+YND_NODISCARD
 uint32_t ynd_member_get_junction(
     const ynd_member *members, size_t members_len, const ynd_junction_entry *junctions, size_t junctions_len,
     size_t member, size_t at, ynd_junction_entry *junction, size_t *place);
 
 /* Copies heightmap value k of the member's junction at place `at`, as ynd_get_height. Refused, in this order: the
  * set's; 13 no such junction or value. */
+YND_NODISCARD
 uint32_t ynd_member_get_height(
     const ynd_member *members, size_t members_len, const ynd_junction_entry *junctions, size_t junctions_len,
     const uint8_t *heights, size_t heights_len, size_t member, size_t at, size_t k, uint8_t *value, size_t *place);
 
 /* Stores every field of the member's node at place `at` but where its links are, as ynd_put_node. Refused, in this
  * order: the set's; 13 no such place. */
+YND_NODISCARD
 uint32_t ynd_member_put_node(
     const ynd_member *members, size_t members_len, ynd_node_entry *nodes, size_t nodes_len, size_t member, size_t at,
     const ynd_node_entry *node, size_t *place);
 
 /* Stores a position, in whole steps, of the member's node at place `at`, as ynd_set_position. Refused, in this order:
  * the set's; 13 no such place. */
+YND_NODISCARD
 uint32_t ynd_member_set_position(
     const ynd_member *members, size_t members_len, ynd_node_entry *nodes, size_t nodes_len, size_t member, size_t at,
     float x, float y, float z, size_t *place);
 
 /* Stores link k of the member's node at place `at`, as ynd_put_link. Refused, in this order: the set's; 13 no such
  * node or link. */
+YND_NODISCARD
 uint32_t ynd_member_put_link(
     const ynd_member *members, size_t members_len, const ynd_node_entry *nodes, size_t nodes_len,
     ynd_link_entry *links, size_t links_len, size_t member, size_t at, size_t k, const ynd_link_entry *link,
     size_t *place);
 
 /* Stores the member's ref at place `at`, as ynd_put_ref. Refused, in this order: the set's; 13 no such place. */
+YND_NODISCARD
 uint32_t ynd_member_put_ref(
     const ynd_member *members, size_t members_len, ynd_ref_entry *refs, size_t refs_len, size_t member, size_t at,
     const ynd_ref_entry *put, size_t *place);
 
 /* Stores every field of the member's junction at place `at` but where its heightmap starts, as ynd_put_junction.
  * Refused, in this order: the set's; 13 no such place; 12 where width times height is not what it was. */
+YND_NODISCARD
 uint32_t ynd_member_put_junction(
     const ynd_member *members, size_t members_len, ynd_junction_entry *junctions, size_t junctions_len,
     size_t member, size_t at, const ynd_junction_entry *junction, size_t *place);
 
 /* Stores heightmap value k of the member's junction at place `at`, as ynd_put_height. Refused, in this order: the
  * set's; 13 no such junction or value. */
+YND_NODISCARD
 uint32_t ynd_member_put_height(
     const ynd_member *members, size_t members_len, const ynd_junction_entry *junctions, size_t junctions_len,
     uint8_t *heights, size_t heights_len, size_t member, size_t at, size_t k, uint8_t value, size_t *place);
 
 /* Stores the member's own words: vft, the counts of nodes that are no ped nodes and of ped nodes, and unk24, unk34,
  * unk48, unk4c, unk5c, unk68 and unk6c. How many entries it holds stays. Refused: the set's. */
+YND_NODISCARD
 uint32_t ynd_member_put_words(
     ynd_member *members, size_t members_len, size_t member, uint32_t vft, uint32_t vehicle_node_count,
     uint32_t ped_node_count, const uint32_t unknowns[7], size_t *place);
 
 /* The first `count` nodes of the member stay, as ynd_truncate_nodes; its part stays as long. Refused, in this order:
  * the set's; 13 where there are fewer. */
+YND_NODISCARD
 uint32_t ynd_member_truncate_nodes(
     ynd_member *members, size_t members_len, size_t member, size_t count, size_t *place);
 
 /* The first `count` junctions of the member stay, as ynd_truncate_junctions. Refused, in this order: the set's; 13
  * where there are fewer. */
+YND_NODISCARD
 uint32_t ynd_member_truncate_junctions(
     ynd_member *members, size_t members_len, size_t member, size_t count, size_t *place);
 
 /* The first `count` refs of the member stay, as ynd_truncate_refs. Refused, in this order: the set's; 13 where there
  * are fewer. */
+YND_NODISCARD
 uint32_t ynd_member_truncate_refs(
     ynd_member *members, size_t members_len, size_t member, size_t count, size_t *place);
 
 /* The links of the member's node at place `at` are the given ones, as ynd_put_links. Refused, in this order: the
  * set's; 13 no such place; 14 over 255 given links, or where link_count would pass 32 bits; 7 at 1 where the member's
  * part is shorter than its count afterwards (link_count + given_len entries always do). */
+YND_NODISCARD
 uint32_t ynd_member_put_links(
     ynd_member *members, size_t members_len, ynd_node_entry *nodes, size_t nodes_len,
     ynd_link_entry *links, size_t links_len, size_t member, size_t at, const ynd_link_entry *given,
@@ -806,6 +890,7 @@ uint32_t ynd_member_put_links(
  * ynd_put_heightmap. Refused, in this order: the set's; 13 no such place; 14 where heightmap_count would pass 32 bits;
  * 12 where the values are not width times height; 7 at 3 where the member's part is shorter than its count afterwards
  * (heightmap_count + values_len entries always do). */
+YND_NODISCARD
 uint32_t ynd_member_put_heightmap(
     ynd_member *members, size_t members_len, ynd_junction_entry *junctions, size_t junctions_len,
     uint8_t *heights, size_t heights_len, size_t member, size_t at, uint8_t width, uint8_t height,
@@ -823,6 +908,7 @@ uint32_t ynd_member_put_heightmap(
  * 7 at 9 where the scratch has under YND_PATH_SCRATCH * node_count entries; 17 where no walk joins the two places;
  * 7 at 8 where `choices` or `places` has under node_count entries. From 17 on, and where the call is accepted, the
  * scratch may hold anything; all else that was lent stays on a refusal. */
+YND_NODISCARD
 uint32_t ynd_shortest_path(
     const ynd_cell *ynd, const ynd_node_entry *nodes, size_t nodes_len,
     const ynd_link_entry *links, size_t links_len, size_t from, size_t to, uint32_t *scratch, size_t scratch_len,
@@ -833,20 +919,23 @@ uint32_t ynd_shortest_path(
 
 /* Adds a node behind all others, with no flags and no links; its number is its place, its position is stored in
  * whole steps. Refused: 14 over a limit, or at 65,536 nodes; 7 at 0 where `nodes` has no free entry. */
+YND_NODISCARD
 uint32_t ynd_add_node(
     ynd_cell *ynd, ynd_node_entry *nodes, size_t nodes_len, uint16_t area_id, float x, float y, float z,
     size_t *place);
 
 /* Adds a link as the last one of the node at place `at`; the links behind it move up by one, and so do the ranges
  * there. Time: linear in n and in the links that move: to draw many links, store each node's at once by
- * ynd_put_links. Refused, in this order: 13 no such place; 14 over a limit, or at 255 links of the node; 7 at 0
- * where `nodes` is shorter than its count, 7 at 1 where `links` has no free entry. */
+ * ynd_put_links. Refused, in this order: 13 no such place; 14 over a limit, where link_count would pass 32 bits, or at
+ * 255 links of the node; 7 at 0 where `nodes` is shorter than its count, 7 at 1 where `links` has no free entry. */
+YND_NODISCARD
 uint32_t ynd_add_link(
     ynd_cell *ynd, ynd_node_entry *nodes, size_t nodes_len, ynd_link_entry *links, size_t links_len, size_t at,
     const ynd_link_entry *link, size_t *place);
 
 /* Adds a ref behind all others. Refused: 14 over a limit, or where the count would pass 32 bits; 7 at 4 where
  * `refs` has no free entry. */
+YND_NODISCARD
 uint32_t ynd_add_ref(
     ynd_cell *ynd, ynd_ref_entry *refs, size_t refs_len, const ynd_ref_entry *added, size_t *place);
 
@@ -854,6 +943,7 @@ uint32_t ynd_add_ref(
  * its heightmap_start is not looked at. Time: linear in the values. Refused, in this order: 14 over a limit, at
  * 4,096 junctions, or where the count of values would pass 32 bits; 12 where the values are not width times height;
  * 7 at 2 and 3 where `junctions` or `heights` have no room. */
+YND_NODISCARD
 uint32_t ynd_add_junction(
     ynd_cell *ynd, ynd_junction_entry *junctions, size_t junctions_len, uint8_t *heights, size_t heights_len,
     const ynd_junction_entry *junction, const uint8_t *values, size_t values_len, size_t *place);
@@ -862,54 +952,63 @@ uint32_t ynd_add_junction(
 
 /* Copies the node at place `at`. Refused: 13 no such place; 14 over a limit; 7 at 0 where a list is shorter than
  * its count. */
+YND_NODISCARD
 uint32_t ynd_get_node(
     const ynd_cell *ynd, const ynd_node_entry *nodes, size_t nodes_len, size_t at, ynd_node_entry *node,
     size_t *place);
 
 /* Copies link k of the node at place `at`. Refused: 13 no such node or link; 14 over a limit; 7 at 0 and 1 where a
  * list is shorter than its count. */
+YND_NODISCARD
 uint32_t ynd_get_link(
     const ynd_cell *ynd, const ynd_node_entry *nodes, size_t nodes_len,
     const ynd_link_entry *links, size_t links_len, size_t at, size_t k, ynd_link_entry *link, size_t *place);
 
 /* Copies the ref at place `at`. Refused: 13 no such place; 14 over a limit; 7 at 4 where a list is shorter than its
  * count. */
+YND_NODISCARD
 uint32_t ynd_get_ref(
     const ynd_cell *ynd, const ynd_ref_entry *refs, size_t refs_len, size_t at, ynd_ref_entry *taken,
     size_t *place);
 
 /* Copies the junction at place `at`. Refused: 13 no such place; 14 over a limit; 7 at 2 where a list is shorter
  * than its count. */
+YND_NODISCARD
 uint32_t ynd_get_junction(
     const ynd_cell *ynd, const ynd_junction_entry *junctions, size_t junctions_len, size_t at,
     ynd_junction_entry *junction, size_t *place);
 
 /* Copies heightmap value k of the junction at place `at`. Refused: 13 no such junction or value; 14 over a limit; 7
  * at 2 and 3 where a list is shorter than its count. */
+YND_NODISCARD
 uint32_t ynd_get_height(
     const ynd_cell *ynd, const ynd_junction_entry *junctions, size_t junctions_len,
     const uint8_t *heights, size_t heights_len, size_t at, size_t k, uint8_t *value, size_t *place);
 
 /* Stores every field of the node at place `at` but where its links are (link_start, link_count); the position is
  * taken as it is. Refused: 13 no such place; 14 over a limit; 7 at 0 where a list is shorter than its count. */
+YND_NODISCARD
 uint32_t ynd_put_node(
     const ynd_cell *ynd, ynd_node_entry *nodes, size_t nodes_len, size_t at, const ynd_node_entry *node,
     size_t *place);
 
 /* Stores a position, in whole steps, of the node at place `at`. Refused: 13 no such place; 14 over a limit; 7 at 0
  * where a list is shorter than its count. */
+YND_NODISCARD
 uint32_t ynd_set_position(
     const ynd_cell *ynd, ynd_node_entry *nodes, size_t nodes_len, size_t at, float x, float y, float z,
     size_t *place);
 
 /* Stores link k of the node at place `at`. Refused: 13 no such node or link; 14 over a limit; 7 at 0 and 1 where a
  * list is shorter than its count. */
+YND_NODISCARD
 uint32_t ynd_put_link(
     const ynd_cell *ynd, const ynd_node_entry *nodes, size_t nodes_len, ynd_link_entry *links, size_t links_len,
     size_t at, size_t k, const ynd_link_entry *link, size_t *place);
 
 /* Stores the ref at place `at`. Refused: 13 no such place; 14 over a limit; 7 at 4 where a list is shorter than its
  * count. */
+YND_NODISCARD
 uint32_t ynd_put_ref(
     const ynd_cell *ynd, ynd_ref_entry *refs, size_t refs_len, size_t at, const ynd_ref_entry *put,
     size_t *place);
@@ -917,12 +1016,14 @@ uint32_t ynd_put_ref(
 /* Stores every field of the junction at place `at` but where its heightmap starts. Refused, in this order: 13 no
  * such place; 14 over a limit; 12 where width times height is not what it was; 7 at 2 where a list is shorter than
  * its count. */
+YND_NODISCARD
 uint32_t ynd_put_junction(
     const ynd_cell *ynd, ynd_junction_entry *junctions, size_t junctions_len, size_t at,
     const ynd_junction_entry *junction, size_t *place);
 
 /* Stores heightmap value k of the junction at place `at`. Refused: 13 no such junction or value; 14 over a limit; 7
  * at 2 and 3 where a list is shorter than its count. */
+YND_NODISCARD
 uint32_t ynd_put_height(
     const ynd_cell *ynd, const ynd_junction_entry *junctions, size_t junctions_len,
     uint8_t *heights, size_t heights_len, size_t at, size_t k, uint8_t value, size_t *place);
@@ -943,14 +1044,17 @@ void ynd_set_unknowns(ynd_cell *ynd, const uint32_t unknowns[7]);
 
 /* The first `count` nodes stay; only node_count changes. Refused, in this order: 13 where there are fewer; 14 over
  * 65,536 nodes or 4,096 junctions. */
+YND_NODISCARD
 uint32_t ynd_truncate_nodes(ynd_cell *ynd, size_t count, size_t *place);
 
 /* The first `count` junctions stay; only junction_count changes. Refused, in this order: 13 where there are fewer;
  * 14 over 65,536 nodes or 4,096 junctions. */
+YND_NODISCARD
 uint32_t ynd_truncate_junctions(ynd_cell *ynd, size_t count, size_t *place);
 
 /* The first `count` refs stay; only ref_count changes. Refused, in this order: 13 where there are fewer; 14 over
  * 65,536 nodes or 4,096 junctions. */
+YND_NODISCARD
 uint32_t ynd_truncate_refs(ynd_cell *ynd, size_t count, size_t *place);
 
 /* The links of the node at place `at` are the given ones, in their order; none clear it. No more than the node has
@@ -959,6 +1063,7 @@ uint32_t ynd_truncate_refs(ynd_cell *ynd, size_t count, size_t *place);
  * over 65,536 nodes or 4,096 junctions, over 255 given links, or where link_count would pass 32 bits; 7 at 0 where
  * `nodes` is shorter than its count, 7 at 1 where `links` is shorter than its count afterwards (link_count +
  * given_len entries always do). */
+YND_NODISCARD
 uint32_t ynd_put_links(
     ynd_cell *ynd, ynd_node_entry *nodes, size_t nodes_len, ynd_link_entry *links, size_t links_len, size_t at,
     const ynd_link_entry *given, size_t given_len, size_t *place);
@@ -968,6 +1073,7 @@ uint32_t ynd_put_links(
  * 65,536 nodes or 4,096 junctions, or where heightmap_count would pass 32 bits; 12 where the values are not width
  * times height; 7 at 2 where `junctions` is shorter than its count, 7 at 3 where `heights` is shorter than its
  * count afterwards (heightmap_count + values_len entries always do). */
+YND_NODISCARD
 uint32_t ynd_put_heightmap(
     ynd_cell *ynd, ynd_junction_entry *junctions, size_t junctions_len, uint8_t *heights, size_t heights_len,
     size_t at, uint8_t width, uint8_t height, const uint8_t *values, size_t values_len, size_t *place);
@@ -1182,6 +1288,7 @@ float ynd_lane_offset(uint8_t offset_value, bool negative);
 void ynd_cell_for_position(float x, float y, uint32_t cell[2]);
 
 /* The area number of a grid cell, 32 cy + cx, into `area`. Refused: 13 at 0 where cx or cy is over 31. */
+YND_NODISCARD
 uint32_t ynd_area_id(uint32_t cx, uint32_t cy, uint32_t *area, size_t *place);
 
 /* The grid cell that an area names, the island's bit (1024) left aside. Fills `cell`. Never refused. */
@@ -1195,12 +1302,14 @@ bool ynd_same_cell(uint32_t a, uint32_t b);
 
 /* The corners of a grid cell in metres: x0, y0, x1, y1. Fills `bounds`. Refused: 13 at 0 where cx or cy is over
  * 31. */
+YND_NODISCARD
 uint32_t ynd_cell_bounds(uint32_t cx, uint32_t cy, float bounds[4], size_t *place);
 
 /* ---- Names of cell files ---- */
 
 /* The file name of a grid cell: its bytes into `name`, zero behind them, and how many they are into `count`.
  * Refused: 13 at 0 where cx or cy is over 31. */
+YND_NODISCARD
 uint32_t ynd_cell_file_name(uint32_t cx, uint32_t cy, uint8_t name[13], size_t *count, size_t *place);
 
 /* Whether a file name names an area, which then goes into `area` (else `area` stays). Only what follows the last /
@@ -1217,25 +1326,31 @@ bool ynd_locate(
 
 /* The root that reading goes by, as it is written (28 words; word 1 is 1); of no bytes that of ynd_new. Fills `words`.
  * Refused, in this order: 2 at 0 over YND_SECTION_MOST bytes; 1 from 1 to 111 bytes. */
+YND_NODISCARD
 uint32_t ynd_root(const uint8_t *section, size_t section_len, uint32_t words[28], size_t *place);
 
 /* The node record at an offset of a section, as it is written. Fills `bytes`. Refused: 3 at 0 where it does not end
  * inside the section. */
+YND_NODISCARD
 uint32_t ynd_node_record(const uint8_t *section, size_t section_len, uint32_t at, uint8_t bytes[40], size_t *place);
 
 /* The link record at an offset of a section, as it is written. Fills `bytes`. Refused: 3 at 1 likewise. */
+YND_NODISCARD
 uint32_t ynd_link_record(const uint8_t *section, size_t section_len, uint32_t at, uint8_t bytes[8], size_t *place);
 
 /* The junction record at an offset of a section, as it is written. Fills `bytes`. Refused: 3 at 2 likewise. */
+YND_NODISCARD
 uint32_t ynd_junction_record(
     const uint8_t *section, size_t section_len, uint32_t at, uint8_t bytes[12], size_t *place);
 
 /* The ref record at an offset of a section, as it is written. Fills `bytes`. Refused: 3 at 4 likewise. */
+YND_NODISCARD
 uint32_t ynd_ref_record(const uint8_t *section, size_t section_len, uint32_t at, uint8_t bytes[8], size_t *place);
 
 /* Where the five blocks of a written section lie, by their counts: each address (0 for an empty one) into
  * `addresses`, the length of the whole into `total`. ynd_write needs that many bytes. Refused, in this order: 14
  * over 65,536 nodes or 4,096 junctions; 2 at 0 where the whole is over YND_SECTION_MOST bytes. */
+YND_NODISCARD
 uint32_t ynd_lay_out(
     uint32_t refs, uint32_t heightmap, uint32_t junctions, uint32_t links, uint32_t nodes,
     ynd_addresses *addresses, size_t *total, size_t *place);
