@@ -7,7 +7,7 @@
 #   make bench           times of both sides, as the table of docs/BENCHMARKS.md
 #   make vectors         writes the vectors file anew, from the Rust's answers
 # YND_RUST_SRC names the folder of the Rust's published text; SEED and SECONDS steer the random inputs.
-YND_RUST_SRC ?= $(abspath ../shared/docs/src/src)
+YND_RUST_SRC ?= $(CURDIR)/../shared/docs/src/src
 SEED ?= 1
 SECONDS ?= 100
 LISTS ?= 1000000
@@ -15,7 +15,7 @@ VECTORS = crates/vectors/stdin
 JUDGE = judge/target/release/judge
 DROP_IN = judge/target/drop-in/release/judge
 DROP_IN_SECONDS ?= 12
-JUDGE_CARGO = cd judge && YND_ARCHIVE=$(abspath $(YND_ARCHIVE)) cargo build --offline --release
+JUDGE_CARGO = cd judge && YND_ARCHIVE=$(call whole,$(YND_ARCHIVE)) cargo build --offline --release
 export YND_RUST_SRC
 
 .PHONY: judge diff drop-in soak slips bench vectors

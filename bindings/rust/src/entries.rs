@@ -52,7 +52,15 @@ pub struct Junction {
 impl Junction {
     /// A junction of this corner, least and most height, and size of its heightmap.
     pub fn new(corner: [f32; 2], [min_z, max_z]: [f32; 2], width: u8, height: u8) -> Junction {
-        Junction { corner, min_z, max_z, width, height, zero: 0, heightmap_start: 0 }
+        Junction {
+            corner,
+            min_z,
+            max_z,
+            width,
+            height,
+            zero: 0,
+            heightmap_start: 0,
+        }
     }
 }
 
@@ -69,10 +77,27 @@ pub struct Ref {
 
 impl PartialEq for Node {
     fn eq(&self, o: &Node) -> bool {
-        (self.area_id, self.node_id, self.street_name, self.position, self.flags, self.link_count)
-            == (o.area_id, o.node_id, o.street_name, o.position, o.flags, o.link_count)
-            && (self.unused0, self.unused1, self.unused2, self.unused3, self.unused4)
-                == (o.unused0, o.unused1, o.unused2, o.unused3, o.unused4)
+        (
+            self.area_id,
+            self.node_id,
+            self.street_name,
+            self.position,
+            self.flags,
+            self.link_count,
+        ) == (
+            o.area_id,
+            o.node_id,
+            o.street_name,
+            o.position,
+            o.flags,
+            o.link_count,
+        ) && (
+            self.unused0,
+            self.unused1,
+            self.unused2,
+            self.unused3,
+            self.unused4,
+        ) == (o.unused0, o.unused1, o.unused2, o.unused3, o.unused4)
     }
 }
 
@@ -96,16 +121,35 @@ pub(crate) fn size(e: &Entry, list: usize) -> usize {
 
 /// So many more.
 pub(crate) fn add_to_size(e: &mut Entry, list: usize, more: usize) {
-    *[&mut e.nodes, &mut e.links, &mut e.junctions, &mut e.heights, &mut e.refs][list] += more as u32;
+    *[
+        &mut e.nodes,
+        &mut e.links,
+        &mut e.junctions,
+        &mut e.heights,
+        &mut e.refs,
+    ][list] += more as u32;
 }
 
 /// A node that a crossing walk visits: its member, by the order of joining, and its place there.
-#[repr(C)]
 #[derive(Clone, Copy, Debug, Default, PartialEq, Eq, Hash)]
 #[allow(missing_docs)]
 pub struct Location {
-    pub member: u32,
-    pub place: u32,
+    pub member: usize,
+    pub place: usize,
+}
+
+impl From<ffi::ynd_location> for Location {
+    fn from(l: ffi::ynd_location) -> Location {
+        Location {
+            member: l.member as usize,
+            place: l.place as usize,
+        }
+    }
+}
+
+/// The places of a list that the library filled, as indices.
+pub(crate) fn places(filled: &[u32]) -> Vec<usize> {
+    filled.iter().map(|&p| p as usize).collect()
 }
 
 /// The entries as the library sees them.
@@ -127,4 +171,3 @@ macro_rules! laid_out_as {
 }
 
 laid_out_as!(Node is ynd_node_entry, Link is ynd_link_entry, Junction is ynd_junction_entry, Ref is ynd_ref_entry);
-laid_out_as!(Location is ynd_location);

@@ -9,15 +9,17 @@
 //! let mut cell = bofrashem::Cell::read(&std::fs::read("../../samples/dock.section")?, &[])?;
 //! let first = cell.walk(0, &[0, 1, 1])?;
 //! let places = cell.renumber()?;
-//! let again = cell.walk(places[0] as usize, &[0, 1, 1])?;
+//! let again = cell.walk(places[0], &[0, 1, 1])?;
 //! assert_eq!(first.end, again.end);
 //! # Ok::<(), Box<dyn std::error::Error>>(())
 //! ```
 //!
 //! The wrapper is tested, not proved; the calls beneath it are `bofrashem-sys`, whose build script finds the library.
-//! It is x86-64 code: `make archive` at the repository's root makes it.
+//! It is code for x86-64 or aarch64: `make archive` at the repository's root makes it.
 #![deny(missing_docs, unsafe_op_in_unsafe_fn)]
 mod cell;
+#[cfg(feature = "container")]
+pub mod container;
 mod edits;
 mod entries;
 mod fields;
@@ -27,6 +29,7 @@ mod member_edits;
 pub mod numbers;
 mod paths;
 mod reach;
+mod read;
 mod refusal;
 mod rounds;
 mod stores;
@@ -34,13 +37,14 @@ mod walks;
 mod yard;
 pub mod ynd;
 
-pub use cell::{count, Cell, Counts};
+pub use cell::Cell;
 pub use entries::{Junction, Link, Location, Node, Ref};
 pub use fields::special_is_ped;
 pub use member::Member;
 pub use member_edits::MemberMut;
 pub use paths::Path;
 pub use reach::NearNode;
+pub use read::{count, Counts};
 pub use refusal::Refusal;
 pub use rounds::{Round, VersionedRound};
 pub use walks::{End, SeenJunction, SeenLink, SeenNode, Walk};

@@ -1,10 +1,11 @@
 //! A member of a yard: lookups, entries, and what a walk shows.
-use bofrashem_sys as ffi;
-use crate::cell::{lookup, Counts};
+use crate::cell::lookup;
 use crate::entries::{Junction, Link, Node, Ref, Words};
+use crate::read::Counts;
 use crate::refusal::{answered, Refusal};
 use crate::walks::{SeenJunction, SeenLink, SeenNode};
 use crate::yard::Yard;
+use bofrashem_sys as ffi;
 
 /// A member of a [`Yard`], to look at.
 #[derive(Clone, Copy, Debug)]
@@ -15,12 +16,18 @@ pub struct Member<'a> {
 
 impl Member<'_> {
     pub(crate) fn of(yard: &Yard, at: usize) -> Result<Member<'_>, Refusal> {
-        if at < yard.len() { Ok(Member { yard, at }) } else { Err(Refusal::NoSuchPlace) }
+        if at < yard.len() {
+            Ok(Member { yard, at })
+        } else {
+            Err(Refusal::NoSuchPlace)
+        }
     }
 
     pub(crate) fn words(&self) -> Words {
         let (y, mut words) = (self.yard, Words::default());
-        lookup(|place| unsafe { ffi::ynd_member_get_cell(y.members.as_ptr(), y.len(), self.at, &mut words, place) });
+        lookup(|place| unsafe {
+            ffi::ynd_member_get_cell(y.members.as_ptr(), y.len(), self.at, &mut words, place)
+        });
         words
     }
 
@@ -37,20 +44,35 @@ impl Member<'_> {
     }
 
     /// The root's vft.
-    pub fn vft(&self) -> u32 { self.words().vft }
+    pub fn vft(&self) -> u32 {
+        self.words().vft
+    }
 
     /// The counts of nodes that are no ped nodes and of ped nodes: as read, and set by renumbering.
-    pub fn kind_counts(&self) -> [u32; 2] { [self.words().vehicle_node_count, self.words().ped_node_count] }
+    pub fn kind_counts(&self) -> [u32; 2] {
+        [self.words().vehicle_node_count, self.words().ped_node_count]
+    }
 
     /// The root's words unk24, unk34, unk48, unk4c, unk5c, unk68 and unk6c.
-    pub fn unknowns(&self) -> [u32; 7] { self.words().unknowns }
+    pub fn unknowns(&self) -> [u32; 7] {
+        self.words().unknowns
+    }
 
     /// The member's own area: its first node's.
     pub fn area(&self) -> Option<u32> {
         let (y, mut found, mut area) = (self.yard, false, 0);
         lookup(|place| unsafe {
             let (nodes, n) = (y.nodes.as_ptr().cast(), y.nodes.len());
-            ffi::ynd_member_area(y.members.as_ptr(), y.len(), nodes, n, self.at, &mut found, &mut area, place)
+            ffi::ynd_member_area(
+                y.members.as_ptr(),
+                y.len(),
+                nodes,
+                n,
+                self.at,
+                &mut found,
+                &mut area,
+                place,
+            )
         });
         found.then_some(area)
     }
@@ -60,7 +82,17 @@ impl Member<'_> {
         let (y, mut found, mut at) = (self.yard, false, 0);
         lookup(|place| unsafe {
             let (nodes, n) = (y.nodes.as_ptr().cast(), y.nodes.len());
-            ffi::ynd_member_node(y.members.as_ptr(), y.len(), nodes, n, self.at, node_id, &mut found, &mut at, place)
+            ffi::ynd_member_node(
+                y.members.as_ptr(),
+                y.len(),
+                nodes,
+                n,
+                self.at,
+                node_id,
+                &mut found,
+                &mut at,
+                place,
+            )
         });
         found.then_some(at)
     }
@@ -70,8 +102,18 @@ impl Member<'_> {
         let (y, mut found, mut at) = (self.yard, false, 0);
         lookup(|place| unsafe {
             ffi::ynd_member_junction_of(
-                y.members.as_ptr(), y.len(), y.nodes.as_ptr().cast(), y.nodes.len(), y.refs.as_ptr().cast(),
-                y.refs.len(), self.at, area_id, node_id, &mut found, &mut at, place,
+                y.members.as_ptr(),
+                y.len(),
+                y.nodes.as_ptr().cast(),
+                y.nodes.len(),
+                y.refs.as_ptr().cast(),
+                y.refs.len(),
+                self.at,
+                area_id,
+                node_id,
+                &mut found,
+                &mut at,
+                place,
             )
         });
         found.then_some(at)
@@ -82,7 +124,16 @@ impl Member<'_> {
         let (y, mut node) = (self.yard, Node::default());
         answered(|place| unsafe {
             let (nodes, n) = (y.nodes.as_ptr().cast(), y.nodes.len());
-            ffi::ynd_member_get_node(y.members.as_ptr(), y.len(), nodes, n, self.at, at, node.raw_mut(), place)
+            ffi::ynd_member_get_node(
+                y.members.as_ptr(),
+                y.len(),
+                nodes,
+                n,
+                self.at,
+                at,
+                node.raw_mut(),
+                place,
+            )
         })?;
         Ok(node)
     }
@@ -92,8 +143,17 @@ impl Member<'_> {
         let (y, mut link) = (self.yard, Link::default());
         answered(|place| unsafe {
             ffi::ynd_member_get_link(
-                y.members.as_ptr(), y.len(), y.nodes.as_ptr().cast(), y.nodes.len(), y.links.as_ptr().cast(),
-                y.links.len(), self.at, at, k, link.raw_mut(), place,
+                y.members.as_ptr(),
+                y.len(),
+                y.nodes.as_ptr().cast(),
+                y.nodes.len(),
+                y.links.as_ptr().cast(),
+                y.links.len(),
+                self.at,
+                at,
+                k,
+                link.raw_mut(),
+                place,
             )
         })?;
         Ok(link)
@@ -104,7 +164,16 @@ impl Member<'_> {
         let (y, mut taken) = (self.yard, Ref::default());
         answered(|place| unsafe {
             let (refs, n) = (y.refs.as_ptr().cast(), y.refs.len());
-            ffi::ynd_member_get_ref(y.members.as_ptr(), y.len(), refs, n, self.at, at, taken.raw_mut(), place)
+            ffi::ynd_member_get_ref(
+                y.members.as_ptr(),
+                y.len(),
+                refs,
+                n,
+                self.at,
+                at,
+                taken.raw_mut(),
+                place,
+            )
         })?;
         Ok(taken)
     }
@@ -115,7 +184,14 @@ impl Member<'_> {
         answered(|place| unsafe {
             let (junctions, n) = (y.junctions.as_ptr().cast(), y.junctions.len());
             ffi::ynd_member_get_junction(
-                y.members.as_ptr(), y.len(), junctions, n, self.at, at, junction.raw_mut(), place,
+                y.members.as_ptr(),
+                y.len(),
+                junctions,
+                n,
+                self.at,
+                at,
+                junction.raw_mut(),
+                place,
             )
         })?;
         Ok(junction)
@@ -126,8 +202,17 @@ impl Member<'_> {
         let (y, mut value) = (self.yard, 0);
         answered(|place| unsafe {
             ffi::ynd_member_get_height(
-                y.members.as_ptr(), y.len(), y.junctions.as_ptr().cast(), y.junctions.len(), y.heights.as_ptr(),
-                y.heights.len(), self.at, at, k, &mut value, place,
+                y.members.as_ptr(),
+                y.len(),
+                y.junctions.as_ptr().cast(),
+                y.junctions.len(),
+                y.heights.as_ptr(),
+                y.heights.len(),
+                self.at,
+                at,
+                k,
+                &mut value,
+                place,
             )
         })?;
         Ok(value)
@@ -138,9 +223,20 @@ impl Member<'_> {
         let (y, mut s) = (self.yard, ffi::ynd_seen_node::default());
         answered(|place| unsafe {
             ffi::ynd_member_shown_node(
-                y.members.as_ptr(), y.len(), y.nodes.as_ptr().cast(), y.nodes.len(), y.links.as_ptr().cast(),
-                y.links.len(), y.junctions.as_ptr().cast(), y.junctions.len(), y.refs.as_ptr().cast(), y.refs.len(),
-                self.at, at, &mut s, place,
+                y.members.as_ptr(),
+                y.len(),
+                y.nodes.as_ptr().cast(),
+                y.nodes.len(),
+                y.links.as_ptr().cast(),
+                y.links.len(),
+                y.junctions.as_ptr().cast(),
+                y.junctions.len(),
+                y.refs.as_ptr().cast(),
+                y.refs.len(),
+                self.at,
+                at,
+                &mut s,
+                place,
             )
         })?;
         Ok(SeenNode::of(s))
@@ -151,13 +247,32 @@ impl Member<'_> {
         let (y, mut s, mut n) = (self.yard, ffi::ynd_seen_junction::default(), 0);
         let (junctions, j) = (y.junctions.as_ptr().cast(), y.junctions.len());
         answered(|place| unsafe {
-            ffi::ynd_member_shown_junction(y.members.as_ptr(), y.len(), junctions, j, self.at, at, &mut s, place)
+            ffi::ynd_member_shown_junction(
+                y.members.as_ptr(),
+                y.len(),
+                junctions,
+                j,
+                self.at,
+                at,
+                &mut s,
+                place,
+            )
         })?;
         let mut values = vec![0; SeenJunction::size(&s)];
         answered(|place| unsafe {
             ffi::ynd_member_shown_values(
-                y.members.as_ptr(), y.len(), junctions, j, y.heights.as_ptr(), y.heights.len(), self.at, at,
-                values.as_mut_ptr(), values.len(), &mut n, place,
+                y.members.as_ptr(),
+                y.len(),
+                junctions,
+                j,
+                y.heights.as_ptr(),
+                y.heights.len(),
+                self.at,
+                at,
+                values.as_mut_ptr(),
+                values.len(),
+                &mut n,
+                place,
             )
         })?;
         values.truncate(n);
@@ -169,8 +284,17 @@ impl Member<'_> {
         let (y, mut s) = (self.yard, ffi::ynd_seen_link::default());
         answered(|place| unsafe {
             ffi::ynd_member_shown_link(
-                y.members.as_ptr(), y.len(), y.nodes.as_ptr().cast(), y.nodes.len(), y.links.as_ptr().cast(),
-                y.links.len(), self.at, at, choice, &mut s, place,
+                y.members.as_ptr(),
+                y.len(),
+                y.nodes.as_ptr().cast(),
+                y.nodes.len(),
+                y.links.as_ptr().cast(),
+                y.links.len(),
+                self.at,
+                at,
+                choice,
+                &mut s,
+                place,
             )
         })?;
         Ok(SeenLink::of(s))

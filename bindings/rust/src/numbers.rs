@@ -10,8 +10,8 @@
 //! assert_eq!(area_id_from_file_name(b"yards/NODES521.ynd"), Some(521));
 //! # Ok::<(), bofrashem::Refusal>(())
 //! ```
-use bofrashem_sys as ffi;
 use crate::refusal::{answered, Refusal};
+use bofrashem_sys as ffi;
 
 /// The steps in which a position is stored: x and y times 4, z times 32, cut towards zero and limited to an i16; NaN
 /// gives 0.
@@ -62,10 +62,14 @@ pub fn cell_of_area(area: u32) -> [u32; 2] {
 }
 
 /// Whether an area carries the island's bit.
-pub fn is_island_area(area: u32) -> bool { unsafe { ffi::ynd_is_island_area(area) } }
+pub fn is_island_area(area: u32) -> bool {
+    unsafe { ffi::ynd_is_island_area(area) }
+}
 
 /// Whether two areas name the same grid cell, the island's bit left aside.
-pub fn same_cell(a: u32, b: u32) -> bool { unsafe { ffi::ynd_same_cell(a, b) } }
+pub fn same_cell(a: u32, b: u32) -> bool {
+    unsafe { ffi::ynd_same_cell(a, b) }
+}
 
 /// The corners of a grid cell: x0, y0, x1, y1. Refused: 13 where a number is over 31.
 pub fn cell_bounds([cx, cy]: [u32; 2]) -> Result<[f32; 4], Refusal> {

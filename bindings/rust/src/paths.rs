@@ -1,7 +1,8 @@
 //! Shortest paths between two nodes.
-use bofrashem_sys as ffi;
 use crate::cell::Cell;
+use crate::entries::places;
 use crate::refusal::{answered, Refusal};
+use bofrashem_sys as ffi;
 
 /// Entries of scratch for each node.
 const SCRATCH: usize = 4;
@@ -14,7 +15,7 @@ pub struct Path {
     /// A byte for each link, which chooses it by its place among the node's links.
     pub choices: Vec<u8>,
     /// The places visited, the start first, none of them twice.
-    pub places: Vec<u32>,
+    pub places: Vec<usize>,
 }
 
 impl Cell {
@@ -36,17 +37,33 @@ impl Cell {
     /// ```
     pub fn shortest_path(&self, from: usize, to: usize) -> Result<Path, Refusal> {
         let n = self.nodes().len();
-        let (mut scratch, mut choices, mut places) = (vec![0; SCRATCH * n], vec![0; n], vec![0; n]);
+        let (mut scratch, mut choices, mut way) = (vec![0; SCRATCH * n], vec![0; n], vec![0; n]);
         let (mut distance, mut count) = (0, 0);
         answered(|place| unsafe {
             ffi::ynd_shortest_path(
-                &self.words, self.nodes.as_ptr().cast(), self.nodes.len(), self.links.as_ptr().cast(),
-                self.links.len(), from, to, scratch.as_mut_ptr(), scratch.len(), choices.as_mut_ptr(), choices.len(),
-                places.as_mut_ptr(), places.len(), &mut distance, &mut count, place,
+                &self.words,
+                self.nodes.as_ptr().cast(),
+                self.nodes.len(),
+                self.links.as_ptr().cast(),
+                self.links.len(),
+                from,
+                to,
+                scratch.as_mut_ptr(),
+                scratch.len(),
+                choices.as_mut_ptr(),
+                choices.len(),
+                way.as_mut_ptr(),
+                way.len(),
+                &mut distance,
+                &mut count,
+                place,
             )
         })?;
         choices.truncate(count);
-        places.truncate(count + 1);
-        Ok(Path { distance, choices, places })
+        Ok(Path {
+            distance,
+            choices,
+            places: places(&way[..=count]),
+        })
     }
 }

@@ -1,7 +1,8 @@
 //! Nodes within reach of a point, the nearest first, and the nearest. Points, radii and distances count quarter-metre
 //! steps.
-use bofrashem_sys as ffi;
 use crate::cell::{lookup, Cell};
+use crate::entries::places;
+use bofrashem_sys as ffi;
 
 /// A node by its place, with its squared distance from a point.
 #[derive(Clone, Copy, Debug, PartialEq, Eq)]
@@ -24,17 +25,24 @@ impl Cell {
     /// assert_eq!(cell.nearest([x, y]).map(|n| (n.place, n.squared_distance)), Some((1, 4)));
     /// # Ok::<(), Refusal>(())
     /// ```
-    pub fn within(&self, point: [i16; 2], radius: u16) -> Vec<u32> {
+    pub fn within(&self, point: [i16; 2], radius: u16) -> Vec<usize> {
         let [x, y] = point;
-        let (mut places, mut count) = (vec![0; self.nodes().len()], 0);
+        let (mut near, mut count) = (vec![0; self.nodes().len()], 0);
         lookup(|place| unsafe {
             ffi::ynd_within(
-                &self.words, self.nodes.as_ptr().cast(), self.nodes.len(), x, y, radius, places.as_mut_ptr(),
-                places.len(), &mut count, place,
+                &self.words,
+                self.nodes.as_ptr().cast(),
+                self.nodes.len(),
+                x,
+                y,
+                radius,
+                near.as_mut_ptr(),
+                near.len(),
+                &mut count,
+                place,
             )
         });
-        places.truncate(count);
-        places
+        places(&near[..count])
     }
 
     /// The node nearest to the point, the lowest place where distances are equal; none in a cell without nodes.
@@ -43,10 +51,20 @@ impl Cell {
         let (mut found, mut place, mut squared_distance) = (false, 0, 0);
         lookup(|refused| unsafe {
             ffi::ynd_nearest(
-                &self.words, self.nodes.as_ptr().cast(), self.nodes.len(), x, y, &mut found, &mut place,
-                &mut squared_distance, refused,
+                &self.words,
+                self.nodes.as_ptr().cast(),
+                self.nodes.len(),
+                x,
+                y,
+                &mut found,
+                &mut place,
+                &mut squared_distance,
+                refused,
             )
         });
-        found.then_some(NearNode { place, squared_distance })
+        found.then_some(NearNode {
+            place,
+            squared_distance,
+        })
     }
 }

@@ -1,4 +1,4 @@
-//! Document 01's causes of refusal.
+//! The causes of refusal (docs/FORMAT.md, "Refusals").
 use bofrashem_sys as ffi;
 use std::fmt;
 
@@ -43,9 +43,9 @@ pub enum Refusal {
     TooManyRefs,
     /// 12: heightmap values not width × height.
     ValuesNotSize,
-    /// 13: no such place, a round's start that no node has, or a grid number over 31.
+    /// 13: no such place or member, area not in the set, round's start that no node has, or grid number over 31.
     NoSuchPlace,
-    /// 14: the cell is at a limit: 65,536 nodes, 4,096 junctions, 255 links of a node.
+    /// 14: over a limit: 65,536 nodes of cell or set, 4,096 junctions, 255 links a node, 9 members, 32-bit counts.
     AtLimit,
     /// 15: a round file's first five bytes aren't the mark and a version that the reader takes.
     NoRoundFile,
@@ -62,11 +62,15 @@ pub enum Refusal {
 }
 
 impl Refusal {
-    /// Document 01's number.
-    pub fn number(self) -> u32 { self.parts().0 }
+    /// The refusal's number.
+    pub fn number(self) -> u32 {
+        self.parts().0
+    }
 
     /// The place, 0 where the cause names none.
-    pub fn place(self) -> usize { self.parts().1 }
+    pub fn place(self) -> usize {
+        self.parts().1
+    }
 
     fn parts(self) -> (u32, usize) {
         match self {
@@ -100,7 +104,8 @@ impl Refusal {
     /// ```
     pub fn text(self) -> String {
         let mut text = [0u8; ffi::YND_TEXT_MOST];
-        let length = unsafe { ffi::ynd_refusal_text(self.number(), text.as_mut_ptr().cast(), text.len()) };
+        let length =
+            unsafe { ffi::ynd_refusal_text(self.number(), text.as_mut_ptr().cast(), text.len()) };
         String::from_utf8_lossy(&text[..length.min(text.len() - 1)]).into_owned()
     }
 
@@ -141,7 +146,13 @@ pub(crate) fn answered(call: impl FnOnce(&mut usize) -> u32) -> Result<(), Refus
 
 impl fmt::Display for Refusal {
     fn fmt(&self, f: &mut fmt::Formatter<'_>) -> fmt::Result {
-        write!(f, "refused {} {}: {}", self.number(), self.place(), self.text())
+        write!(
+            f,
+            "refused {} {}: {}",
+            self.number(),
+            self.place(),
+            self.text()
+        )
     }
 }
 

@@ -1,8 +1,8 @@
 //! Round files, and rounds followed in a cell.
-use bofrashem_sys as ffi;
-use crate::cell::{Cell, SCRATCH};
+use crate::cell::{scratch, Cell, SCRATCH};
 use crate::refusal::{answered, Refusal};
 use crate::walks::Walk;
+use bofrashem_sys as ffi;
 
 /// A round: the number of its start node, and a byte a choice.
 ///
@@ -53,7 +53,13 @@ impl Round {
         let (mut choices, mut start, mut count) = (vec![0; file.len()], 0, 0);
         answered(|place| unsafe {
             ffi::ynd_read_round(
-                file.as_ptr(), file.len(), choices.as_mut_ptr(), choices.len(), &mut start, &mut count, place,
+                file.as_ptr(),
+                file.len(),
+                choices.as_mut_ptr(),
+                choices.len(),
+                &mut start,
+                &mut count,
+                place,
             )
         })?;
         choices.truncate(count);
@@ -65,7 +71,12 @@ impl Round {
         let (mut file, mut length) = (vec![0; HEAD + self.choices.len()], 0);
         answered(|place| unsafe {
             ffi::ynd_write_round(
-                self.start, self.choices.as_ptr(), self.choices.len(), file.as_mut_ptr(), file.len(), &mut length,
+                self.start,
+                self.choices.as_ptr(),
+                self.choices.len(),
+                file.as_mut_ptr(),
+                file.len(),
+                &mut length,
                 place,
             )
         })?;
@@ -76,20 +87,33 @@ impl Round {
 
 impl VersionedRound {
     /// The version's number, and the area or 0.
-    pub(crate) fn version(&self) -> (u16, u16) { self.area.map_or((1, 0), |area| (2, area)) }
+    pub(crate) fn version(&self) -> (u16, u16) {
+        self.area.map_or((1, 0), |area| (2, area))
+    }
 
     /// Reads a round file of either version. Refused, in this order: 15 its first five bytes aren't the mark and
     /// version 1 or 2; 16 it has under 9 bytes, or not 9 plus its count (in version 2: 11).
     pub fn from_bytes(file: &[u8]) -> Result<VersionedRound, Refusal> {
-        let (mut choices, mut version, mut area, mut start, mut count) = (vec![0; file.len()], 0, 0, 0, 0);
+        let (mut choices, mut version, mut area, mut start, mut count) =
+            (vec![0; file.len()], 0, 0, 0, 0);
         answered(|place| unsafe {
             ffi::ynd_read_round_versioned(
-                file.as_ptr(), file.len(), choices.as_mut_ptr(), choices.len(), &mut version, &mut area, &mut start,
-                &mut count, place,
+                file.as_ptr(),
+                file.len(),
+                choices.as_mut_ptr(),
+                choices.len(),
+                &mut version,
+                &mut area,
+                &mut start,
+                &mut count,
+                place,
             )
         })?;
         choices.truncate(count);
-        Ok(VersionedRound { area: (version == 2).then_some(area), round: Round { start, choices } })
+        Ok(VersionedRound {
+            area: (version == 2).then_some(area),
+            round: Round { start, choices },
+        })
     }
 
     /// The round file, of version 2 if the round has an area. Refused: 16 over 65,535 choices.
@@ -99,7 +123,14 @@ impl VersionedRound {
         let (mut file, mut length) = (vec![0; HEAD_WITH_AREA + choices.len()], 0);
         answered(|place| unsafe {
             ffi::ynd_write_round_versioned(
-                version, area, *start, choices.as_ptr(), choices.len(), file.as_mut_ptr(), file.len(), &mut length,
+                version,
+                area,
+                *start,
+                choices.as_ptr(),
+                choices.len(),
+                file.as_mut_ptr(),
+                file.len(),
+                &mut length,
                 place,
             )
         })?;
@@ -112,12 +143,23 @@ impl Cell {
     /// Walks a round from the node that [`Cell::node`] finds for its start. Refused: 13 no node has that number.
     pub fn follow(&self, round: &Round) -> Result<Walk, Refusal> {
         let choices = &round.choices;
-        let (mut visited, mut end, mut n) = (vec![0; choices.len() + 1], ffi::ynd_walk_end::default(), 0);
+        let (mut visited, mut end, mut n) =
+            (vec![0; choices.len() + 1], ffi::ynd_walk_end::default(), 0);
         answered(|place| unsafe {
             ffi::ynd_follow_round(
-                &self.words, self.nodes.as_ptr().cast(), self.nodes.len(), self.links.as_ptr().cast(),
-                self.links.len(), round.start, choices.as_ptr(), choices.len(), visited.as_mut_ptr(), visited.len(),
-                &mut end, &mut n, place,
+                &self.words,
+                self.nodes.as_ptr().cast(),
+                self.nodes.len(),
+                self.links.as_ptr().cast(),
+                self.links.len(),
+                round.start,
+                choices.as_ptr(),
+                choices.len(),
+                visited.as_mut_ptr(),
+                visited.len(),
+                &mut end,
+                &mut n,
+                place,
             )
         })?;
         Ok(Walk::of(end, visited, n))
@@ -139,13 +181,26 @@ impl Cell {
     /// ```
     pub fn follow_indexed(&self, round: &Round) -> Result<Walk, Refusal> {
         let choices = &round.choices;
-        let (mut visited, mut end, mut n) = (vec![0; choices.len() + 1], ffi::ynd_walk_end::default(), 0);
-        let mut scratch = vec![0; SCRATCH];
+        let (mut visited, mut end, mut n) =
+            (vec![0; choices.len() + 1], ffi::ynd_walk_end::default(), 0);
+        let mut scratch = scratch();
         answered(|place| unsafe {
             ffi::ynd_follow_round_indexed(
-                &self.words, self.nodes.as_ptr().cast(), self.nodes.len(), self.links.as_ptr().cast(),
-                self.links.len(), round.start, choices.as_ptr(), choices.len(), visited.as_mut_ptr(), visited.len(),
-                scratch.as_mut_ptr(), scratch.len(), &mut end, &mut n, place,
+                &self.words,
+                self.nodes.as_ptr().cast(),
+                self.nodes.len(),
+                self.links.as_ptr().cast(),
+                self.links.len(),
+                round.start,
+                choices.as_ptr(),
+                choices.len(),
+                visited.as_mut_ptr(),
+                visited.len(),
+                scratch.as_mut_ptr(),
+                SCRATCH,
+                &mut end,
+                &mut n,
+                place,
             )
         })?;
         Ok(Walk::of(end, visited, n))
@@ -157,14 +212,55 @@ impl Cell {
     pub fn follow_versioned(&self, versioned: &VersionedRound) -> Result<Walk, Refusal> {
         let Round { start, choices } = &versioned.round;
         let (version, area) = versioned.version();
-        let (mut visited, mut end, mut n) = (vec![0; choices.len() + 1], ffi::ynd_walk_end::default(), 0);
+        let (mut visited, mut end, mut n) =
+            (vec![0; choices.len() + 1], ffi::ynd_walk_end::default(), 0);
         answered(|place| unsafe {
             ffi::ynd_follow_round_versioned(
-                &self.words, self.nodes.as_ptr().cast(), self.nodes.len(), self.links.as_ptr().cast(),
-                self.links.len(), version, area, *start, choices.as_ptr(), choices.len(), visited.as_mut_ptr(),
-                visited.len(), &mut end, &mut n, place,
+                &self.words,
+                self.nodes.as_ptr().cast(),
+                self.nodes.len(),
+                self.links.as_ptr().cast(),
+                self.links.len(),
+                version,
+                area,
+                *start,
+                choices.as_ptr(),
+                choices.len(),
+                visited.as_mut_ptr(),
+                visited.len(),
+                &mut end,
+                &mut n,
+                place,
             )
         })?;
         Ok(Walk::of(end, visited, n))
+    }
+
+    /// The same walk, for long rounds in a cell that isn't renumbered: as [`Cell::walk_indexed`]. An empty round asks
+    /// for the refusals, then the choices go by the index. Refused as [`Cell::follow_versioned`] is.
+    ///
+    /// ```
+    /// use bofrashem::{Cell, Link, Refusal, Round, VersionedRound};
+    /// let mut cell = Cell::new();
+    /// for x in 0..2 { cell.add_node(489, [x as f32, 0.0, 0.0])?; }
+    /// cell.add_link(0, Link::to(489, 1))?;
+    /// cell.add_link(1, Link::to(489, 0))?;
+    /// let round = |area, start| VersionedRound { area, round: Round { start, choices: vec![0; 10_000] } };
+    /// let (here, other) = (round(Some(489), 1), round(Some(7), 1));
+    /// assert_eq!(cell.follow_versioned_indexed(&here)?, cell.follow_versioned(&here)?);
+    /// assert_eq!(cell.follow_versioned_indexed(&other), Err(Refusal::OtherArea));
+    /// assert_eq!(cell.follow_versioned_indexed(&round(None, 9)), Err(Refusal::NoSuchPlace));
+    /// # Ok::<(), Refusal>(())
+    /// ```
+    pub fn follow_versioned_indexed(&self, versioned: &VersionedRound) -> Result<Walk, Refusal> {
+        let start = versioned.round.start;
+        self.follow_versioned(&VersionedRound {
+            area: versioned.area,
+            round: Round {
+                start,
+                choices: Vec::new(),
+            },
+        })?;
+        self.follow_indexed(&versioned.round)
     }
 }

@@ -1,16 +1,20 @@
 //! The cell's own words, and lists and heightmaps as a whole. Lists grow where a call asks for it.
-use bofrashem_sys as ffi;
 use crate::cell::Cell;
 use crate::edits::grow;
 use crate::entries::{Junction, Link};
 use crate::refusal::{answered, Refusal};
+use bofrashem_sys as ffi;
 
 impl Cell {
     /// The root's vft, as read.
-    pub fn vft(&self) -> u32 { self.words.vft }
+    pub fn vft(&self) -> u32 {
+        self.words.vft
+    }
 
     /// Stores the root's vft.
-    pub fn set_vft(&mut self, vft: u32) { unsafe { ffi::ynd_set_vft(&mut self.words, vft) } }
+    pub fn set_vft(&mut self, vft: u32) {
+        unsafe { ffi::ynd_set_vft(&mut self.words, vft) }
+    }
 
     /// Stores the count of nodes that are no ped nodes; renumbering sets it by the nodes.
     pub fn set_vehicle_node_count(&mut self, count: u32) {
@@ -58,32 +62,69 @@ impl Cell {
     /// # Ok::<(), Refusal>(())
     /// ```
     pub fn set_links(&mut self, at: usize, links: &[Link]) -> Result<(), Refusal> {
-        self.asked(|c| c.put_links(at, links), |c| grow(&mut c.links, c.words.link_count as usize + links.len()))
+        self.asked(
+            |c| c.put_links(at, links),
+            |c| grow(&mut c.links, c.words.link_count as usize + links.len()),
+        )
     }
 
     /// The heightmap of the junction at a place is this one, row by row. Refused: 13; 12 where the values are not
     /// width × height.
-    pub fn set_heightmap(&mut self, at: usize, width: u8, height: u8, values: &[u8]) -> Result<(), Refusal> {
+    pub fn set_heightmap(
+        &mut self,
+        at: usize,
+        width: u8,
+        height: u8,
+        values: &[u8],
+    ) -> Result<(), Refusal> {
         let put = |c: &mut Cell| c.put_heightmap(at, width, height, values);
-        self.asked(put, |c| grow(&mut c.heights, c.words.heightmap_count as usize + values.len()))
+        self.asked(put, |c| {
+            grow(
+                &mut c.heights,
+                c.words.heightmap_count as usize + values.len(),
+            )
+        })
     }
 
     fn put_links(&mut self, at: usize, given: &[Link]) -> Result<(), Refusal> {
         let (nodes, links) = (&mut self.nodes, &mut self.links);
         answered(|place| unsafe {
             ffi::ynd_put_links(
-                &mut self.words, nodes.as_mut_ptr().cast(), nodes.len(), links.as_mut_ptr().cast(), links.len(), at,
-                given.as_ptr().cast(), given.len(), place,
+                &mut self.words,
+                nodes.as_mut_ptr().cast(),
+                nodes.len(),
+                links.as_mut_ptr().cast(),
+                links.len(),
+                at,
+                given.as_ptr().cast(),
+                given.len(),
+                place,
             )
         })
     }
 
-    fn put_heightmap(&mut self, at: usize, width: u8, height: u8, values: &[u8]) -> Result<(), Refusal> {
-        let (junctions, heights): (&mut Vec<Junction>, &mut Vec<u8>) = (&mut self.junctions, &mut self.heights);
+    fn put_heightmap(
+        &mut self,
+        at: usize,
+        width: u8,
+        height: u8,
+        values: &[u8],
+    ) -> Result<(), Refusal> {
+        let (junctions, heights): (&mut Vec<Junction>, &mut Vec<u8>) =
+            (&mut self.junctions, &mut self.heights);
         answered(|place| unsafe {
             ffi::ynd_put_heightmap(
-                &mut self.words, junctions.as_mut_ptr().cast(), junctions.len(), heights.as_mut_ptr(), heights.len(),
-                at, width, height, values.as_ptr(), values.len(), place,
+                &mut self.words,
+                junctions.as_mut_ptr().cast(),
+                junctions.len(),
+                heights.as_mut_ptr(),
+                heights.len(),
+                at,
+                width,
+                height,
+                values.as_ptr(),
+                values.len(),
+                place,
             )
         })
     }

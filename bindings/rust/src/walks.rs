@@ -1,7 +1,8 @@
 //! Walks, what they show, and soundness.
-use bofrashem_sys as ffi;
-use crate::cell::{Cell, SCRATCH};
+use crate::cell::{scratch, Cell, SCRATCH};
+use crate::entries::places;
 use crate::refusal::{answered, Refusal};
+use bofrashem_sys as ffi;
 
 /// How a walk ended.
 #[derive(Clone, Copy, Debug, PartialEq, Eq)]
@@ -21,7 +22,7 @@ pub enum End {
 #[allow(missing_docs)]
 pub struct Walk {
     pub end: End,
-    pub visited: Vec<u32>,
+    pub visited: Vec<usize>,
 }
 
 /// What a walk shows of a node: its position by its bits, its junction by its place.
@@ -75,9 +76,11 @@ impl End {
 
 impl Walk {
     /// The end's words, and the places, as many as were visited.
-    pub(crate) fn of(end: ffi::ynd_walk_end, mut visited: Vec<u32>, count: usize) -> Walk {
-        visited.truncate(count);
-        Walk { end: End::of(end), visited }
+    pub(crate) fn of(end: ffi::ynd_walk_end, visited: Vec<u32>, count: usize) -> Walk {
+        Walk {
+            end: End::of(end),
+            visited: places(&visited[..count]),
+        }
     }
 }
 
@@ -101,30 +104,54 @@ impl SeenNode {
 
 impl SeenJunction {
     /// How many values it has.
-    pub(crate) fn size(s: &ffi::ynd_seen_junction) -> usize { s.width as usize * s.height as usize }
+    pub(crate) fn size(s: &ffi::ynd_seen_junction) -> usize {
+        s.width as usize * s.height as usize
+    }
 
     pub(crate) fn of(s: ffi::ynd_seen_junction, values: Vec<u8>) -> SeenJunction {
-        let (min_z, max_z, width, height) = (s.min_z_bits, s.max_z_bits, s.width as u8, s.height as u8);
-        SeenJunction { corner: [s.x_bits, s.y_bits], min_z, max_z, width, height, values }
+        let (min_z, max_z, width, height) =
+            (s.min_z_bits, s.max_z_bits, s.width as u8, s.height as u8);
+        SeenJunction {
+            corner: [s.x_bits, s.y_bits],
+            min_z,
+            max_z,
+            width,
+            height,
+            values,
+        }
     }
 }
 
 impl SeenLink {
     /// None where nothing was found.
     pub(crate) fn of(s: ffi::ynd_seen_link) -> Option<SeenLink> {
-        (s.found == 1).then_some(SeenLink { flags: [s.flags0, s.flags1, s.flags2], length: s.length })
+        (s.found == 1).then_some(SeenLink {
+            flags: [s.flags0, s.flags1, s.flags2],
+            length: s.length,
+        })
     }
 }
 
 impl Cell {
     /// Walks from the node at a place; each byte chooses a link by its place among the node's links. Refused: 13.
     pub fn walk(&self, start: usize, choices: &[u8]) -> Result<Walk, Refusal> {
-        let (mut visited, mut end, mut n) = (vec![0; choices.len() + 1], ffi::ynd_walk_end::default(), 0);
+        let (mut visited, mut end, mut n) =
+            (vec![0; choices.len() + 1], ffi::ynd_walk_end::default(), 0);
         answered(|place| unsafe {
             ffi::ynd_walk(
-                &self.words, self.nodes.as_ptr().cast(), self.nodes.len(), self.links.as_ptr().cast(),
-                self.links.len(), start, choices.as_ptr(), choices.len(), visited.as_mut_ptr(), visited.len(),
-                &mut end, &mut n, place,
+                &self.words,
+                self.nodes.as_ptr().cast(),
+                self.nodes.len(),
+                self.links.as_ptr().cast(),
+                self.links.len(),
+                start,
+                choices.as_ptr(),
+                choices.len(),
+                visited.as_mut_ptr(),
+                visited.len(),
+                &mut end,
+                &mut n,
+                place,
             )
         })?;
         Ok(Walk::of(end, visited, n))
@@ -145,13 +172,26 @@ impl Cell {
     /// # Ok::<(), Refusal>(())
     /// ```
     pub fn walk_indexed(&self, start: usize, choices: &[u8]) -> Result<Walk, Refusal> {
-        let (mut visited, mut end, mut n) = (vec![0; choices.len() + 1], ffi::ynd_walk_end::default(), 0);
-        let mut scratch = vec![0; SCRATCH];
+        let (mut visited, mut end, mut n) =
+            (vec![0; choices.len() + 1], ffi::ynd_walk_end::default(), 0);
+        let mut scratch = scratch();
         answered(|place| unsafe {
             ffi::ynd_walk_indexed(
-                &self.words, self.nodes.as_ptr().cast(), self.nodes.len(), self.links.as_ptr().cast(),
-                self.links.len(), start, choices.as_ptr(), choices.len(), visited.as_mut_ptr(), visited.len(),
-                scratch.as_mut_ptr(), scratch.len(), &mut end, &mut n, place,
+                &self.words,
+                self.nodes.as_ptr().cast(),
+                self.nodes.len(),
+                self.links.as_ptr().cast(),
+                self.links.len(),
+                start,
+                choices.as_ptr(),
+                choices.len(),
+                visited.as_mut_ptr(),
+                visited.len(),
+                scratch.as_mut_ptr(),
+                SCRATCH,
+                &mut end,
+                &mut n,
+                place,
             )
         })?;
         Ok(Walk::of(end, visited, n))
@@ -159,12 +199,20 @@ impl Cell {
 
     /// Whether all nodes have one area, numbers differ, and each own link and own ref names a node of the cell.
     pub fn is_sound(&self) -> bool {
-        let (mut scratch, mut sound) = (vec![0; SCRATCH], false);
+        let (mut scratch, mut sound) = (scratch(), false);
         answered(|place| unsafe {
             ffi::ynd_sound(
-                &self.words, self.nodes.as_ptr().cast(), self.nodes.len(), self.links.as_ptr().cast(),
-                self.links.len(), self.refs.as_ptr().cast(), self.refs.len(), scratch.as_mut_ptr(), scratch.len(),
-                &mut sound, place,
+                &self.words,
+                self.nodes.as_ptr().cast(),
+                self.nodes.len(),
+                self.links.as_ptr().cast(),
+                self.links.len(),
+                self.refs.as_ptr().cast(),
+                self.refs.len(),
+                scratch.as_mut_ptr(),
+                SCRATCH,
+                &mut sound,
+                place,
             )
         })
         .expect("the cell's lists hold its counts");
@@ -176,9 +224,18 @@ impl Cell {
         let mut s = ffi::ynd_seen_node::default();
         answered(|place| unsafe {
             ffi::ynd_shown_node(
-                &self.words, self.nodes.as_ptr().cast(), self.nodes.len(), self.links.as_ptr().cast(),
-                self.links.len(), self.junctions.as_ptr().cast(), self.junctions.len(), self.refs.as_ptr().cast(),
-                self.refs.len(), at, &mut s, place,
+                &self.words,
+                self.nodes.as_ptr().cast(),
+                self.nodes.len(),
+                self.links.as_ptr().cast(),
+                self.links.len(),
+                self.junctions.as_ptr().cast(),
+                self.junctions.len(),
+                self.refs.as_ptr().cast(),
+                self.refs.len(),
+                at,
+                &mut s,
+                place,
             )
         })?;
         Ok(SeenNode::of(s))
@@ -189,14 +246,27 @@ impl Cell {
         let (mut s, mut n) = (ffi::ynd_seen_junction::default(), 0);
         answered(|place| unsafe {
             ffi::ynd_shown_junction(
-                &self.words, self.junctions.as_ptr().cast(), self.junctions.len(), at, &mut s, place,
+                &self.words,
+                self.junctions.as_ptr().cast(),
+                self.junctions.len(),
+                at,
+                &mut s,
+                place,
             )
         })?;
         let mut values = vec![0; SeenJunction::size(&s)];
         answered(|place| unsafe {
             ffi::ynd_shown_values(
-                &self.words, self.junctions.as_ptr().cast(), self.junctions.len(), self.heights.as_ptr(),
-                self.heights.len(), at, values.as_mut_ptr(), values.len(), &mut n, place,
+                &self.words,
+                self.junctions.as_ptr().cast(),
+                self.junctions.len(),
+                self.heights.as_ptr(),
+                self.heights.len(),
+                at,
+                values.as_mut_ptr(),
+                values.len(),
+                &mut n,
+                place,
             )
         })?;
         values.truncate(n);
@@ -208,8 +278,15 @@ impl Cell {
         let mut s = ffi::ynd_seen_link::default();
         answered(|place| unsafe {
             ffi::ynd_shown_link(
-                &self.words, self.nodes.as_ptr().cast(), self.nodes.len(), self.links.as_ptr().cast(),
-                self.links.len(), at, choice, &mut s, place,
+                &self.words,
+                self.nodes.as_ptr().cast(),
+                self.nodes.len(),
+                self.links.as_ptr().cast(),
+                self.links.len(),
+                at,
+                choice,
+                &mut s,
+                place,
             )
         })?;
         Ok(SeenLink::of(s))

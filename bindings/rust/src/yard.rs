@@ -1,13 +1,13 @@
 //! Sets of cells whose walks cross from one into another.
-use bofrashem_sys as ffi;
-use crate::cell::{lay_out, Cell, SCRATCH};
+use crate::cell::{lay_out, scratch, Cell, SCRATCH};
 use crate::edits::grow;
-use crate::entries::{size, Entry, Junction, Link, Location, Node, Ref};
+use crate::entries::{places, size, Entry, Junction, Link, Location, Node, Ref};
 use crate::member::Member;
 use crate::member_edits::MemberMut;
 use crate::refusal::{answered, Refusal};
 use crate::rounds::{Round, VersionedRound};
 use crate::walks::End;
+use bofrashem_sys as ffi;
 use std::ops::Range;
 
 /// A set of up to nine cells, its members, of at most 65,536 nodes together. A member is named by its place in the
@@ -56,27 +56,50 @@ pub struct CrossingWalk {
     pub visited: Vec<Location>,
 }
 
+impl CrossingWalk {
+    fn of(end: ffi::ynd_walk_end, visited: &[ffi::ynd_location]) -> CrossingWalk {
+        CrossingWalk {
+            end: End::of(end),
+            visited: visited.iter().map(|&l| l.into()).collect(),
+        }
+    }
+}
+
 impl Yard {
     /// A set without members.
-    pub fn new() -> Yard { Yard::default() }
+    pub fn new() -> Yard {
+        Yard::default()
+    }
 
     /// How many members there are.
-    pub fn len(&self) -> usize { self.members.len() }
+    pub fn len(&self) -> usize {
+        self.members.len()
+    }
 
     /// Whether there are none.
-    pub fn is_empty(&self) -> bool { self.members.is_empty() }
+    pub fn is_empty(&self) -> bool {
+        self.members.is_empty()
+    }
 
     /// A cell joins as the last member, whose place is returned. The cell is copied. Refused: 18 a member has its
     /// area; 14 a tenth member, or more than 65,536 nodes together.
     pub fn join(&mut self, cell: &Cell) -> Result<usize, Refusal> {
         let w = &cell.words;
-        let sizes = [w.node_count, w.link_count, w.junction_count, w.heightmap_count, w.ref_count].map(|n| n as usize);
+        let sizes = [
+            w.node_count,
+            w.link_count,
+            w.junction_count,
+            w.heightmap_count,
+            w.ref_count,
+        ]
+        .map(|n| n as usize);
         let place = self.members.len();
         self.members.push(Entry::default());
         let mut answer = self.join_as(place, cell, &sizes);
         // 7 is the last cause: what is refused for another one leaves the lists as long as they were
         if let Err(Refusal::LentTooShort(_)) = answer {
-            let [nodes, links, junctions, heights, refs] = [0, 1, 2, 3, 4].map(|k| self.total(k) + sizes[k]);
+            let [nodes, links, junctions, heights, refs] =
+                [0, 1, 2, 3, 4].map(|k| self.total(k) + sizes[k]);
             grow(&mut self.nodes, nodes);
             grow(&mut self.links, links);
             grow(&mut self.junctions, junctions);
@@ -84,20 +107,41 @@ impl Yard {
             grow(&mut self.refs, refs);
             answer = self.join_as(place, cell, &sizes);
         }
-        if answer.is_err() { self.members.pop(); }
+        if answer.is_err() {
+            self.members.pop();
+        }
         answer.map(|_| place)
     }
 
     fn join_as(&mut self, mut count: usize, c: &Cell, sizes: &[usize; 5]) -> Result<(), Refusal> {
         answered(|place| unsafe {
             ffi::ynd_set_join(
-                &mut count, self.members.as_mut_ptr(), self.members.len(), self.nodes.as_mut_ptr().cast(),
-                self.nodes.len(), self.links.as_mut_ptr().cast(), self.links.len(),
-                self.junctions.as_mut_ptr().cast(), self.junctions.len(), self.heights.as_mut_ptr(),
-                self.heights.len(), self.refs.as_mut_ptr().cast(), self.refs.len(), &c.words, c.nodes.as_ptr().cast(),
-                c.nodes.len(), c.links.as_ptr().cast(), c.links.len(), c.junctions.as_ptr().cast(), c.junctions.len(),
-                c.heights.as_ptr(), c.heights.len(), c.refs.as_ptr().cast(), c.refs.len(),
-                std::ptr::from_ref(sizes).cast(), place,
+                &mut count,
+                self.members.as_mut_ptr(),
+                self.members.len(),
+                self.nodes.as_mut_ptr().cast(),
+                self.nodes.len(),
+                self.links.as_mut_ptr().cast(),
+                self.links.len(),
+                self.junctions.as_mut_ptr().cast(),
+                self.junctions.len(),
+                self.heights.as_mut_ptr(),
+                self.heights.len(),
+                self.refs.as_mut_ptr().cast(),
+                self.refs.len(),
+                &c.words,
+                c.nodes.as_ptr().cast(),
+                c.nodes.len(),
+                c.links.as_ptr().cast(),
+                c.links.len(),
+                c.junctions.as_ptr().cast(),
+                c.junctions.len(),
+                c.heights.as_ptr(),
+                c.heights.len(),
+                c.refs.as_ptr().cast(),
+                c.refs.len(),
+                std::ptr::from_ref(sizes).cast(),
+                place,
             )
         })
     }
@@ -108,10 +152,21 @@ impl Yard {
         let (mut count, m) = (0, self.members.len());
         answered(|place| unsafe {
             ffi::ynd_set_leave(
-                self.members.as_mut_ptr(), m, self.nodes.as_mut_ptr().cast(), self.nodes.len(),
-                self.links.as_mut_ptr().cast(), self.links.len(), self.junctions.as_mut_ptr().cast(),
-                self.junctions.len(), self.heights.as_mut_ptr(), self.heights.len(), self.refs.as_mut_ptr().cast(),
-                self.refs.len(), area, &mut count, place,
+                self.members.as_mut_ptr(),
+                m,
+                self.nodes.as_mut_ptr().cast(),
+                self.nodes.len(),
+                self.links.as_mut_ptr().cast(),
+                self.links.len(),
+                self.junctions.as_mut_ptr().cast(),
+                self.junctions.len(),
+                self.heights.as_mut_ptr(),
+                self.heights.len(),
+                self.refs.as_mut_ptr().cast(),
+                self.refs.len(),
+                area,
+                &mut count,
+                place,
             )
         })?;
         self.members.truncate(count);
@@ -130,17 +185,37 @@ impl Yard {
         // whichever member it is, it has no more entries than all together
         c.nodes.resize(self.nodes.len(), Node::default());
         c.links.resize(self.links.len(), Link::default());
-        c.junctions.resize(self.junctions.len(), Junction::default());
+        c.junctions
+            .resize(self.junctions.len(), Junction::default());
         c.heights.resize(self.heights.len(), 0);
         c.refs.resize(self.refs.len(), Ref::default());
         answered(|place| unsafe {
             ffi::ynd_set_hand_back(
-                self.members.as_ptr(), self.members.len(), self.nodes.as_ptr().cast(), self.nodes.len(),
-                self.links.as_ptr().cast(), self.links.len(), self.junctions.as_ptr().cast(), self.junctions.len(),
-                self.heights.as_ptr(), self.heights.len(), self.refs.as_ptr().cast(), self.refs.len(), area,
-                &mut c.words, c.nodes.as_mut_ptr().cast(), c.nodes.len(), c.links.as_mut_ptr().cast(), c.links.len(),
-                c.junctions.as_mut_ptr().cast(), c.junctions.len(), c.heights.as_mut_ptr(), c.heights.len(),
-                c.refs.as_mut_ptr().cast(), c.refs.len(), place,
+                self.members.as_ptr(),
+                self.members.len(),
+                self.nodes.as_ptr().cast(),
+                self.nodes.len(),
+                self.links.as_ptr().cast(),
+                self.links.len(),
+                self.junctions.as_ptr().cast(),
+                self.junctions.len(),
+                self.heights.as_ptr(),
+                self.heights.len(),
+                self.refs.as_ptr().cast(),
+                self.refs.len(),
+                area,
+                &mut c.words,
+                c.nodes.as_mut_ptr().cast(),
+                c.nodes.len(),
+                c.links.as_mut_ptr().cast(),
+                c.links.len(),
+                c.junctions.as_mut_ptr().cast(),
+                c.junctions.len(),
+                c.heights.as_mut_ptr(),
+                c.heights.len(),
+                c.refs.as_mut_ptr().cast(),
+                c.refs.len(),
+                place,
             )
         })?;
         c.nodes.truncate(c.words.node_count as usize);
@@ -154,34 +229,64 @@ impl Yard {
     /// Renumbers a member: ped nodes come last. Links of the other members that name it follow, where it is the first
     /// of its area and they aren't of their own cell; refs of others don't. Returns each node's new place, by its old
     /// one. Refused: 13 no such member.
-    pub fn renumber(&mut self, member: usize) -> Result<Vec<u32>, Refusal> {
+    pub fn renumber(&mut self, member: usize) -> Result<Vec<usize>, Refusal> {
         let count = self.member(member)?.counts().nodes;
-        let (mut scratch, mut places) = (vec![0; SCRATCH], vec![0; count]);
+        let (mut scratch, mut new) = (scratch(), vec![0; count]);
         answered(|place| unsafe {
             ffi::ynd_set_renumber(
-                self.members.as_mut_ptr(), self.members.len(), self.nodes.as_mut_ptr().cast(), self.nodes.len(),
-                self.links.as_mut_ptr().cast(), self.links.len(), self.junctions.as_ptr().cast(), self.junctions.len(),
-                self.heights.as_ptr(), self.heights.len(), self.refs.as_mut_ptr().cast(), self.refs.len(),
-                scratch.as_mut_ptr(), scratch.len(), places.as_mut_ptr(), places.len(), member, place,
+                self.members.as_mut_ptr(),
+                self.members.len(),
+                self.nodes.as_mut_ptr().cast(),
+                self.nodes.len(),
+                self.links.as_mut_ptr().cast(),
+                self.links.len(),
+                self.junctions.as_ptr().cast(),
+                self.junctions.len(),
+                self.heights.as_ptr(),
+                self.heights.len(),
+                self.refs.as_mut_ptr().cast(),
+                self.refs.len(),
+                scratch.as_mut_ptr(),
+                SCRATCH,
+                new.as_mut_ptr(),
+                new.len(),
+                member,
+                place,
             )
         })?;
-        Ok(places)
+        Ok(places(&new))
     }
 
     /// Walks from the node at a place of a member; a link that leads out of its cell goes on in the first member of
     /// the area that it names. It ends left where no member has it. Refused: 13 no such member or place.
-    pub fn crossing_walk(&self, member: usize, start: usize, choices: &[u8]) -> Result<CrossingWalk, Refusal> {
-        let mut visited = vec![Location::default(); choices.len() + 1];
+    pub fn crossing_walk(
+        &self,
+        member: usize,
+        start: usize,
+        choices: &[u8],
+    ) -> Result<CrossingWalk, Refusal> {
+        let mut visited = vec![ffi::ynd_location::default(); choices.len() + 1];
         let (mut end, mut n) = (ffi::ynd_walk_end::default(), 0);
         answered(|place| unsafe {
             ffi::ynd_set_crossing_walk(
-                self.members.as_ptr(), self.members.len(), self.nodes.as_ptr().cast(), self.nodes.len(),
-                self.links.as_ptr().cast(), self.links.len(), member, start, choices.as_ptr(), choices.len(),
-                visited.as_mut_ptr().cast(), visited.len(), &mut end, &mut n, place,
+                self.members.as_ptr(),
+                self.members.len(),
+                self.nodes.as_ptr().cast(),
+                self.nodes.len(),
+                self.links.as_ptr().cast(),
+                self.links.len(),
+                member,
+                start,
+                choices.as_ptr(),
+                choices.len(),
+                visited.as_mut_ptr(),
+                visited.len(),
+                &mut end,
+                &mut n,
+                place,
             )
         })?;
-        visited.truncate(n);
-        Ok(CrossingWalk { end: End::of(end), visited })
+        Ok(CrossingWalk::of(end, &visited[..n]))
     }
 
     /// The member of an area, the first joined of several. An empty member's area is 0.
@@ -189,8 +294,13 @@ impl Yard {
         let (mut found, mut member) = (false, 0);
         unsafe {
             ffi::ynd_set_member_of_area(
-                self.members.as_ptr(), self.members.len(), self.nodes.as_ptr().cast(), self.nodes.len(), area,
-                &mut found, &mut member,
+                self.members.as_ptr(),
+                self.members.len(),
+                self.nodes.as_ptr().cast(),
+                self.nodes.len(),
+                area,
+                &mut found,
+                &mut member,
             );
         }
         found.then_some(member)
@@ -199,30 +309,56 @@ impl Yard {
     /// Follows a round across the yard, as [`Yard::crossing_walk`] walks: one with an area from its start number in
     /// the member of that area, one without in the member named. Refused, in this order: 19 no member has the area; 13
     /// no such member, or none of its nodes has the number.
-    pub fn follow(&self, versioned: &VersionedRound, member: usize) -> Result<CrossingWalk, Refusal> {
+    pub fn follow(
+        &self,
+        versioned: &VersionedRound,
+        member: usize,
+    ) -> Result<CrossingWalk, Refusal> {
         let Round { start, choices } = &versioned.round;
         let (version, area) = versioned.version();
-        let mut visited = vec![Location::default(); choices.len() + 1];
+        let mut visited = vec![ffi::ynd_location::default(); choices.len() + 1];
         let (mut end, mut n) = (ffi::ynd_walk_end::default(), 0);
         answered(|place| unsafe {
             ffi::ynd_set_follow_round(
-                self.members.as_ptr(), self.members.len(), self.nodes.as_ptr().cast(), self.nodes.len(),
-                self.links.as_ptr().cast(), self.links.len(), version, area, member, *start, choices.as_ptr(),
-                choices.len(), visited.as_mut_ptr().cast(), visited.len(), &mut end, &mut n, place,
+                self.members.as_ptr(),
+                self.members.len(),
+                self.nodes.as_ptr().cast(),
+                self.nodes.len(),
+                self.links.as_ptr().cast(),
+                self.links.len(),
+                version,
+                area,
+                member,
+                *start,
+                choices.as_ptr(),
+                choices.len(),
+                visited.as_mut_ptr(),
+                visited.len(),
+                &mut end,
+                &mut n,
+                place,
             )
         })?;
-        visited.truncate(n);
-        Ok(CrossingWalk { end: End::of(end), visited })
+        Ok(CrossingWalk::of(end, &visited[..n]))
     }
 
     /// Whether each member is sound as a cell, and each link that leads into a member names a node there.
     pub fn is_sound(&self) -> bool {
-        let (mut scratch, mut sound) = (vec![0; SCRATCH], false);
+        let (mut scratch, mut sound) = (scratch(), false);
         answered(|place| unsafe {
             ffi::ynd_set_sound(
-                self.members.as_ptr(), self.members.len(), self.nodes.as_ptr().cast(), self.nodes.len(),
-                self.links.as_ptr().cast(), self.links.len(), self.refs.as_ptr().cast(), self.refs.len(),
-                scratch.as_mut_ptr(), scratch.len(), &mut sound, place,
+                self.members.as_ptr(),
+                self.members.len(),
+                self.nodes.as_ptr().cast(),
+                self.nodes.len(),
+                self.links.as_ptr().cast(),
+                self.links.len(),
+                self.refs.as_ptr().cast(),
+                self.refs.len(),
+                scratch.as_mut_ptr(),
+                SCRATCH,
+                &mut sound,
+                place,
             )
         })
         .expect("the yard's lists hold its members");
@@ -234,10 +370,23 @@ impl Yard {
         let (mut section, mut length) = (self.section(member)?, 0);
         answered(|place| unsafe {
             ffi::ynd_member_write(
-                self.members.as_ptr(), self.members.len(), self.nodes.as_ptr().cast(), self.nodes.len(),
-                self.links.as_ptr().cast(), self.links.len(), self.junctions.as_ptr().cast(), self.junctions.len(),
-                self.heights.as_ptr(), self.heights.len(), self.refs.as_ptr().cast(), self.refs.len(), member,
-                section.as_mut_ptr(), section.len(), &mut length, place,
+                self.members.as_ptr(),
+                self.members.len(),
+                self.nodes.as_ptr().cast(),
+                self.nodes.len(),
+                self.links.as_ptr().cast(),
+                self.links.len(),
+                self.junctions.as_ptr().cast(),
+                self.junctions.len(),
+                self.heights.as_ptr(),
+                self.heights.len(),
+                self.refs.as_ptr().cast(),
+                self.refs.len(),
+                member,
+                section.as_mut_ptr(),
+                section.len(),
+                &mut length,
+                place,
             )
         })?;
         section.truncate(length);
@@ -250,10 +399,23 @@ impl Yard {
         let (mut section, mut length) = (self.section(member)?, 0);
         answered(|place| unsafe {
             ffi::ynd_member_write_then_read(
-                self.members.as_mut_ptr(), self.members.len(), self.nodes.as_mut_ptr().cast(), self.nodes.len(),
-                self.links.as_mut_ptr().cast(), self.links.len(), self.junctions.as_mut_ptr().cast(),
-                self.junctions.len(), self.heights.as_mut_ptr(), self.heights.len(), self.refs.as_mut_ptr().cast(),
-                self.refs.len(), member, section.as_mut_ptr(), section.len(), &mut length, place,
+                self.members.as_mut_ptr(),
+                self.members.len(),
+                self.nodes.as_mut_ptr().cast(),
+                self.nodes.len(),
+                self.links.as_mut_ptr().cast(),
+                self.links.len(),
+                self.junctions.as_mut_ptr().cast(),
+                self.junctions.len(),
+                self.heights.as_mut_ptr(),
+                self.heights.len(),
+                self.refs.as_mut_ptr().cast(),
+                self.refs.len(),
+                member,
+                section.as_mut_ptr(),
+                section.len(),
+                &mut length,
+                place,
             )
         })?;
         section.truncate(length);
@@ -264,8 +426,12 @@ impl Yard {
     /// long to be written there is none: writing names the cause. Refused: 13 no such member.
     fn section(&self, member: usize) -> Result<Vec<u8>, Refusal> {
         let w = Member::of(self, member)?.words();
-        let nodes = self.nodes[self.part(member, 0)].iter().take(w.node_count as usize);
-        let junctions = self.junctions[self.part(member, 2)].iter().take(w.junction_count as usize);
+        let nodes = self.nodes[self.part(member, 0)]
+            .iter()
+            .take(w.node_count as usize);
+        let junctions = self.junctions[self.part(member, 2)]
+            .iter()
+            .take(w.junction_count as usize);
         let links = nodes.map(|n| n.link_count as u32).sum();
         let values = junctions.map(|j| j.width as u32 * j.height as u32).sum();
         let laid_out = lay_out([w.ref_count, values, w.junction_count, links, w.node_count]);
@@ -273,13 +439,19 @@ impl Yard {
     }
 
     /// A member to look at, by the order of joining. Refused: 13 no such member.
-    pub fn member(&self, place: usize) -> Result<Member<'_>, Refusal> { Member::of(self, place) }
+    pub fn member(&self, place: usize) -> Result<Member<'_>, Refusal> {
+        Member::of(self, place)
+    }
 
     /// A member to edit. Refused: 13 no such member.
-    pub fn member_mut(&mut self, place: usize) -> Result<MemberMut<'_>, Refusal> { MemberMut::of(self, place) }
+    pub fn member_mut(&mut self, place: usize) -> Result<MemberMut<'_>, Refusal> {
+        MemberMut::of(self, place)
+    }
 
     /// How many entries the members' parts of a list have together.
-    fn total(&self, list: usize) -> usize { self.members.iter().map(|m| size(m, list)).sum() }
+    fn total(&self, list: usize) -> usize {
+        self.members.iter().map(|m| size(m, list)).sum()
+    }
 
     /// Where the part of a member in a list stands.
     pub(crate) fn part(&self, member: usize, list: usize) -> Range<usize> {
@@ -294,7 +466,14 @@ mod tests {
     use crate::Refusal::{AreaInSet, AtLimit, NoSuchPlace, ValuesNotSize};
 
     fn lengths(y: &Yard) -> [usize; 6] {
-        [y.members.len(), y.nodes.len(), y.links.len(), y.junctions.len(), y.heights.len(), y.refs.len()]
+        [
+            y.members.len(),
+            y.nodes.len(),
+            y.links.len(),
+            y.junctions.len(),
+            y.heights.len(),
+            y.refs.len(),
+        ]
     }
 
     /// One node and one link, in lists that are just long enough.
@@ -308,13 +487,18 @@ mod tests {
     #[test]
     fn a_refused_call_leaves_the_lists_as_long_as_they_were() {
         let mut yard = Yard::new();
-        for area in [1, 2] { yard.join(&cell(area)).unwrap(); }
+        for area in [1, 2] {
+            yard.join(&cell(area)).unwrap();
+        }
         let held = lengths(&yard);
         assert_eq!(yard.join(&cell(2)), Err(AreaInSet));
         let mut m = yard.member_mut(0).unwrap();
         assert_eq!(m.add_link(1, Link::to(1, 0)), Err(NoSuchPlace));
         assert_eq!(m.set_links(0, &[Link::default(); 256]), Err(AtLimit));
-        assert_eq!(m.add_junction(Junction::new([0.0; 2], [0.0; 2], 200, 200), &[1; 3]), Err(ValuesNotSize));
+        assert_eq!(
+            m.add_junction(Junction::new([0.0; 2], [0.0; 2], 200, 200), &[1; 3]),
+            Err(ValuesNotSize)
+        );
         assert_eq!(m.set_heightmap(0, 1, 1, &[1]), Err(NoSuchPlace));
         assert_eq!(lengths(&yard), held);
     }

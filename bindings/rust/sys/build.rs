@@ -30,30 +30,42 @@ fn main() {
 /// An archive of any name.
 fn link(archive: &Path, root: &Path) {
     let to = PathBuf::from(env::var("OUT_DIR").unwrap());
-    fs::copy(archive, to.join("libbofrashem.a")).unwrap_or_else(|e| panic!("{}: {e}; {MISSING}", archive.display()));
+    fs::copy(archive, to.join("libbofrashem.a"))
+        .unwrap_or_else(|e| panic!("{}: {e}; {MISSING}", archive.display()));
     println!("cargo:rustc-link-search=native={}", to.display());
     println!("cargo:rustc-link-lib=static=bofrashem");
     println!("cargo:rerun-if-changed={}", archive.display());
     println!("cargo:archive={}", archive.display());
     let include = root.join("include");
-    if include.join("bofrashem.h").exists() { println!("cargo:include={}", include.display()); }
+    if include.join("bofrashem.h").exists() {
+        println!("cargo:include={}", include.display());
+    }
 }
 
 /// The library that pkg-config names.
 fn installed() -> Option<()> {
     let libdir = PathBuf::from(pkg_config("libdir")?);
-    let kind = if libdir.join("libbofrashem.a").exists() { "static=" } else { "" };
+    let kind = if libdir.join("libbofrashem.a").exists() {
+        "static="
+    } else {
+        ""
+    };
     println!("cargo:rustc-link-search=native={}", libdir.display());
     println!("cargo:rustc-link-lib={kind}bofrashem");
     println!("cargo:libdir={}", libdir.display());
-    if let Some(include) = pkg_config("includedir") { println!("cargo:include={include}"); }
+    if let Some(include) = pkg_config("includedir") {
+        println!("cargo:include={include}");
+    }
     Some(())
 }
 
 /// A variable of bofrashem.pc.
 fn pkg_config(variable: &str) -> Option<String> {
     let program = env::var("PKG_CONFIG").unwrap_or_else(|_| "pkg-config".into());
-    let said = Command::new(program).args(["--variable", variable, "bofrashem"]).output().ok()?;
+    let said = Command::new(program)
+        .args(["--variable", variable, "bofrashem"])
+        .output()
+        .ok()?;
     let value = String::from_utf8(said.stdout).ok()?.trim().to_string();
     (said.status.success() && !value.is_empty()).then_some(value)
 }

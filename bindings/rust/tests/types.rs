@@ -1,5 +1,8 @@
 //! What the types are: for threads, as errors, as copies. Run by `make bindings` at the repository's root.
-use bofrashem::{ynd, Cell, Counts, CrossingWalk, Link, Member, MemberMut, Node, Path, Refusal, Round, Walk, Yard};
+use bofrashem::{
+    ynd, Cell, Counts, CrossingWalk, Link, Member, MemberMut, Node, Path, Refusal, Round, Walk,
+    Yard,
+};
 use std::error::Error;
 
 fn crosses_threads<T: Send + Sync>() {}
@@ -23,7 +26,8 @@ fn a_yard_is_read_by_many() {
     let mut cell = Cell::new();
     for x in 0..300u16 {
         cell.add_node(489, [x as f32, 0.0, 0.0]).unwrap();
-        cell.add_link(x as usize, Link::to(489, (x + 1) % 300)).unwrap();
+        cell.add_link(x as usize, Link::to(489, (x + 1) % 300))
+            .unwrap();
     }
     let mut yard = Yard::new();
     yard.join(&cell).unwrap();
@@ -33,7 +37,10 @@ fn a_yard_is_read_by_many() {
             s.spawn(move || {
                 let crossing = yard.crossing_walk(0, start, &[0; 500]).unwrap();
                 let plain = cell.walk(start, &[0; 500]).unwrap();
-                assert_eq!(crossing.visited.iter().map(|l| l.place).collect::<Vec<_>>(), plain.visited);
+                assert_eq!(
+                    crossing.visited.iter().map(|l| l.place).collect::<Vec<_>>(),
+                    plain.visited
+                );
             });
         }
     });
@@ -42,7 +49,14 @@ fn a_yard_is_read_by_many() {
 #[test]
 fn a_refusal_says_what_it_is() {
     let asked = || -> Result<(), Box<dyn Error>> { Ok(Cell::new().put_node(3, Node::default())?) };
-    let words = "refused 13 0: no such place, a round's start that no node has, or a grid number over 31";
+    let words = "refused 13 0: no such place or member, area not in the set, \
+        round's start that no node has, or grid number over 31";
     assert_eq!(asked().unwrap_err().to_string(), words);
-    assert_eq!((Refusal::Unknown(20, 4).number(), Refusal::Unknown(20, 4).place()), (20, 4));
+    assert_eq!(
+        (
+            Refusal::Unknown(20, 4).number(),
+            Refusal::Unknown(20, 4).place()
+        ),
+        (20, 4)
+    );
 }

@@ -1,6 +1,6 @@
-//! ns a node: the wrapper's module `ynd`, whose cells are copied to the calls and back.
+//! ns a node: the wrapper's module `ynd`. Its cells are `Vec`s of a caller's structs, as the Rust's are.
 use super::cells::{cell, read, written};
-use super::{both, timed, Goal, Row, Wanted, SIZES};
+use super::{both, both_in, timed, Goal, Row, Wanted, SIZES};
 use crate::model::write;
 use crate::resource::lend_sections;
 use crate::rust;
@@ -14,15 +14,20 @@ pub fn rows(wanted: &Wanted) -> Vec<Row> {
     out
 }
 
+/// A look-up where numbers are not places, ns a call: so many of them.
+const ANY_NUMBER: &str = "the drop-in, node where numbers aren't places";
+const LOOKS: usize = 50;
+
 fn of_size(size: usize, wanted: &Wanted) -> Vec<Row> {
     let mut out = Vec::new();
     let cell = cell(size);
     let bytes = write::written(&cell).expect("a cell that is written");
     let (their, our) = (rust::ynd_of(&cell), Ynd::from_sections(&bytes, &[]).expect("it is read"));
+    if wanted.has(ANY_NUMBER) { out.push(of_any_number(size, &their, &our)); }
     let mut row = |call, rust: &dyn Fn() -> Duration, port: &dyn Fn() -> Duration| {
         if !wanted.has(call) { return; }
         let (rust, port) = both(size, rust, port);
-        out.push(Row { call, size, rust: Some(rust), floor: None, port: Some(port), goal: Goal::None });
+        out.push(Row { call, size, rust: Some(rust), floor: None, port: Some(port), goal: Goal::Ratio(1.0) });
     };
     let rust_reads = || { lend_sections(bytes.clone(), Vec::new()); timed(read) };
     row("the drop-in, reading", &rust_reads, &|| timed(|| Ynd::from_sections(&bytes, &[])));
@@ -40,4 +45,12 @@ fn of_size(size: usize, wanted: &Wanted) -> Vec<Row> {
     let rust_asks = || timed(|| for n in &their.nodes { black_box(n.special()); });
     row("the drop-in, special", &rust_asks, &|| timed(|| for n in &our.nodes { black_box(n.special()); }));
     out
+}
+
+fn of_any_number(size: usize, their: &crate::ynd::Ynd, our: &Ynd) -> Row {
+    let asked: Vec<u16> = (0..size).step_by(size.div_ceil(LOOKS)).map(|i| i as u16).collect();
+    let rust = || timed(|| for &i in &asked { black_box(their.node(i)); });
+    let port = || timed(|| for &i in &asked { black_box(our.node(i)); });
+    let (rust, port) = both_in((20_000 / size).max(1), asked.len(), rust, port);
+    Row { call: ANY_NUMBER, size, rust: Some(rust), floor: None, port: Some(port), goal: Goal::Ratio(1.0) }
 }

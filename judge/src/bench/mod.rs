@@ -13,9 +13,9 @@ use std::time::{Duration, Instant};
 
 pub const SIZES: [usize; 4] = [100, 1_000, 10_000, 60_000];
 
-/// What a call's time is held to: a ratio to the Rust's, or nanoseconds.
+/// What a call's time is held to: a ratio to the Rust's, one to the floor, or nanoseconds.
 #[derive(Clone, Copy)]
-pub enum Goal { Ratio(f64), Nanoseconds(f64), None }
+pub enum Goal { Ratio(f64), Floor(f64), Nanoseconds(f64), None }
 
 /// One line of the table. A time is none where that side has no such call. The floor is plain Rust behind the port's
 /// own C call, or a plain loop over the port's memory.
@@ -33,6 +33,7 @@ impl Row {
         let [ratio, to_floor] = [self.rust, self.floor].map(|side| side.zip(self.port).map(|(s, p)| p / s));
         let (goal, met) = match self.goal {
             Goal::Ratio(g) => (format!("{g:.2}"), ratio.is_some_and(|r| r <= g)),
+            Goal::Floor(g) => (format!("{g:.2} of the floor"), to_floor.is_some_and(|r| r <= g)),
             Goal::Nanoseconds(g) => (format!("{g:.0} ns"), self.port.is_some_and(|p| p <= g)),
             Goal::None => ("-".into(), true),
         };

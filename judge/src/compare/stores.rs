@@ -95,7 +95,7 @@ fn linked(mut m: Memory, place: usize, links: &[Link]) -> Answer<Memory> {
     refuse_if(after > u32::MAX as usize, 14, 0)?;
     room(0, &[n, after], &m.lent()[..2])?;
     m.ynd[11] = after as u32;
-    m.nodes[place][6] = m.nodes[place][6] & 0xFFFF | (links.len() as u32) << 16;
+    m.nodes[place][6] = m.nodes[place][6] & 0xFF00_FFFF | (links.len() as u32) << 16;
     m.nodes[place][7] = at as u32;
     for (to, l) in m.links[at.min(after)..].iter_mut().zip(links) { *to = link_words(l); }
     Ok(m)
@@ -110,7 +110,7 @@ fn mapped(mut m: Memory, place: usize, size: [u8; 2], values: &[u8]) -> Answer<M
     refuse_if(values.len() != size[0] as usize * size[1] as usize, 12, 0)?;
     room(2, &[j, after], &m.lent()[2..4])?;
     m.ynd[13] = after as u32;
-    m.junctions[place][4] = size[0] as u32 | (size[1] as u32) << 8;
+    m.junctions[place][4] = m.junctions[place][4] & 0xFFFF_0000 | size[0] as u32 | (size[1] as u32) << 8;
     m.junctions[place][5] = at as u32;
     for (to, v) in m.heights[at..].iter_mut().zip(values) { *to = *v; }
     Ok(m)

@@ -127,14 +127,11 @@ fn shorter(a: &Areas) -> Vec<Areas> {
     crate::inputs::rounds::shorter(&a.trip).into_iter().map(|trip| Areas { trip, area: a.area }).collect()
 }
 
-/// 14 and 7 at 0 as where the own area is asked; then 19; then as a round of version 1.
+/// 19 by the cell that the lent lists hold; then as a round of version 1.
 fn follow_version(a: &Areas, room_for: usize) -> Answer<crate::model::walk::Walk> {
     let (m, cell) = (&a.trip.memory, a.trip.memory.cell());
-    let (counts, lent) = (m.counts(), m.lent());
-    let whole = follow(&cell, counts, lent, &a.trip.round, room_for);
-    let asked = matches!(whole, Err(crate::model::Refused(14, 0) | crate::model::Refused(7, 0)));
-    if !asked { refuse_if(a.area.is_some_and(|x| x != cell.area()), 19, 0)?; }
-    whole
+    refuse_if(a.area.is_some_and(|x| x != cell.area()), 19, 0)?;
+    follow(&cell, m.counts(), m.lent(), &a.trip.round, room_for)
 }
 
 fn followed(a: &Areas) -> Verdict {

@@ -18,28 +18,43 @@ pub const CELL_HEIGHT: f32 = 4096.0;
 pub const ISLAND_FLAG: u32 = 1024;
 
 /// The grid cell that holds a position, limited to the grid: its numbers along x and y.
-pub fn cell_for_position(x: f32, y: f32) -> (u32, u32) { numbers::cell_for_position(x, y).into() }
+pub fn cell_for_position(x: f32, y: f32) -> (u32, u32) {
+    numbers::cell_for_position(x, y).into()
+}
 
 /// The area of a grid cell.
 ///
 /// # Panics
 /// Where a number is over 31.
-pub fn area_id(cx: u32, cy: u32) -> u32 { accepted(numbers::area_id([cx, cy])) }
+#[track_caller]
+pub fn area_id(cx: u32, cy: u32) -> u32 {
+    accepted(numbers::area_id([cx, cy]))
+}
 
 /// The grid cell that an area names, the island's bit left aside.
-pub fn cell_of_area(area: u32) -> (u32, u32) { numbers::cell_of_area(area).into() }
+pub fn cell_of_area(area: u32) -> (u32, u32) {
+    numbers::cell_of_area(area).into()
+}
 
 /// The file name of a grid cell.
 ///
 /// # Panics
 /// Where a number is over 31.
-pub fn cell_file_name(cx: u32, cy: u32) -> String { accepted(numbers::cell_file_name([cx, cy])) }
+#[track_caller]
+pub fn cell_file_name(cx: u32, cy: u32) -> String {
+    accepted(numbers::cell_file_name([cx, cy]))
+}
 
 /// The corners of a grid cell: x0, y0, x1, y1.
 ///
 /// # Panics
 /// Where a number is over 31.
-pub fn cell_bounds(cx: u32, cy: u32) -> (f32, f32, f32, f32) { accepted(numbers::cell_bounds([cx, cy])).into() }
+#[track_caller]
+pub fn cell_bounds(cx: u32, cy: u32) -> (f32, f32, f32, f32) {
+    accepted(numbers::cell_bounds([cx, cy])).into()
+}
 
 /// The area that a file name names.
-pub fn area_id_from_file_name(name: &str) -> Option<u32> { numbers::area_id_from_file_name(name.as_bytes()) }
+pub fn area_id_from_file_name(name: &str) -> Option<u32> {
+    numbers::area_id_from_file_name(name.as_bytes())
+}

@@ -40,11 +40,20 @@ impl PathJunction {
             position: j.corner.into(),
             min_z: j.min_z,
             max_z: j.max_z,
-            heightmap: Heightmap { width: j.width, height: j.height, values: values.to_vec() },
+            heightmap: Heightmap {
+                width: j.width,
+                height: j.height,
+                values: values.to_vec(),
+            },
         }
     }
 
     pub(super) fn entry(&self) -> Junction {
-        Junction::new(self.position.into(), [self.min_z, self.max_z], self.heightmap.width, self.heightmap.height)
+        Junction::new(
+            self.position.into(),
+            [self.min_z, self.max_z],
+            self.heightmap.width,
+            self.heightmap.height,
+        )
     }
 }

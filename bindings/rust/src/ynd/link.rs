@@ -3,7 +3,7 @@ use super::Vec3;
 use crate::{numbers, Link};
 use std::mem::{align_of, offset_of, size_of};
 
-/// A link to the node that has this area and number.
+/// A link to the node that has this area and number; laid out as the library's entry, which its calls are lent.
 #[repr(C)]
 #[derive(Debug, Clone, Copy, PartialEq, Eq, Default)]
 #[allow(missing_docs)]
@@ -21,7 +21,7 @@ pub struct PathLink {
 macro_rules! of_link {
     ($($(#[$said:meta])* $name:ident -> $kind:ty;)*) => {$(
         $(#[$said])*
-        pub fn $name(&self) -> $kind { self.entry().$name() }
+        pub fn $name(&self) -> $kind { entries(std::slice::from_ref(self))[0].$name() }
     )*};
 }
 
@@ -29,17 +29,15 @@ macro_rules! of_link {
 macro_rules! set_link {
     ($($(#[$said:meta])* $name:ident($kind:ty);)*) => {$(
         $(#[$said])*
-        pub fn $name(&mut self, value: $kind) {
-            let mut entry = self.entry();
-            entry.$name(value);
-            *self = PathLink::of(&entry);
-        }
+        pub fn $name(&mut self, value: $kind) { entries_mut(std::slice::from_mut(self))[0].$name(value) }
     )*};
 }
 
 impl PathLink {
     /// A link to a node, with no flags and length 0.
-    pub fn to(area_id: u16, node_id: u16) -> PathLink { PathLink::of(&Link::to(area_id, node_id)) }
+    pub fn to(area_id: u16, node_id: u16) -> PathLink {
+        PathLink::of(&Link::to(area_id, node_id))
+    }
 
     of_link! {
         /// How many lanes lead forward.
@@ -74,26 +72,43 @@ impl PathLink {
     }
 
     /// The distance of two positions in whole metres, cut, at most 255; NaN gives 255.
-    pub fn length_between(a: Vec3, b: Vec3) -> u8 { numbers::length_between(a.into(), b.into()) }
+    pub fn length_between(a: Vec3, b: Vec3) -> u8 {
+        numbers::length_between(a.into(), b.into())
+    }
 
     pub(super) fn of(l: &Link) -> PathLink {
         let [flags0, flags1, flags2] = l.flags;
-        PathLink { area_id: l.area_id, node_id: l.node_id, flags0, flags1, flags2, length: l.length }
-    }
-
-    fn entry(&self) -> Link {
-        let flags = [self.flags0, self.flags1, self.flags2];
-        Link { area_id: self.area_id, node_id: self.node_id, flags, length: self.length }
+        PathLink {
+            area_id: l.area_id,
+            node_id: l.node_id,
+            flags0,
+            flags1,
+            flags2,
+            length: l.length,
+        }
     }
 }
 
+// both are laid out as C does: two numbers of 16 bits, three bytes of flags, a length
+const _: () = {
+    assert!(
+        size_of::<PathLink>() == size_of::<Link>() && align_of::<PathLink>() == align_of::<Link>()
+    );
+    assert!(offset_of!(PathLink, flags0) == offset_of!(Link, flags));
+    assert!(offset_of!(PathLink, length) == offset_of!(Link, length));
+};
+
 /// The same links under the wrapper's name.
 pub(super) fn entries(links: &[PathLink]) -> &[Link] {
-    const _: () = {
-        assert!(size_of::<PathLink>() == size_of::<Link>() && align_of::<PathLink>() == align_of::<Link>());
-        assert!(offset_of!(PathLink, flags0) == offset_of!(Link, flags));
-        assert!(offset_of!(PathLink, length) == offset_of!(Link, length));
-    };
-    // both are laid out as C does: two numbers of 16 bits, three bytes of flags, a length
+    unsafe { std::slice::from_raw_parts(links.as_ptr().cast(), links.len()) }
+}
+
+/// The same, for changing.
+fn entries_mut(links: &mut [PathLink]) -> &mut [Link] {
+    unsafe { std::slice::from_raw_parts_mut(links.as_mut_ptr().cast(), links.len()) }
+}
+
+/// The wrapper's links under this module's name.
+pub(super) fn named(links: &[Link]) -> &[PathLink] {
     unsafe { std::slice::from_raw_parts(links.as_ptr().cast(), links.len()) }
 }

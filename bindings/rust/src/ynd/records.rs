@@ -69,20 +69,25 @@ pub struct NodeJunctionRef {
     pub unk0: u16,
 }
 
-impl NodeJunctionRef {
-    pub(super) fn of(r: &Ref) -> NodeJunctionRef {
-        NodeJunctionRef { area_id: r.area_id, node_id: r.node_id, junction_id: r.junction_id, unk0: r.unk0 }
-    }
-}
+// both are laid out as C does, with the same four fields in the same order
+const _: () = {
+    assert!(size_of::<NodeJunctionRef>() == size_of::<Ref>());
+    assert!(align_of::<NodeJunctionRef>() == align_of::<Ref>());
+    assert!(offset_of!(NodeJunctionRef, junction_id) == offset_of!(Ref, junction_id));
+};
 
 /// The same refs under the wrapper's name.
 pub(super) fn entries(refs: &[NodeJunctionRef]) -> &[Ref] {
-    const _: () = {
-        assert!(size_of::<NodeJunctionRef>() == size_of::<Ref>());
-        assert!(align_of::<NodeJunctionRef>() == align_of::<Ref>());
-        assert!(offset_of!(NodeJunctionRef, junction_id) == offset_of!(Ref, junction_id));
-    };
-    // both are laid out as C does, with the same four fields in the same order
+    unsafe { std::slice::from_raw_parts(refs.as_ptr().cast(), refs.len()) }
+}
+
+/// The same, for changing.
+pub(super) fn entries_mut(refs: &mut [NodeJunctionRef]) -> &mut [Ref] {
+    unsafe { std::slice::from_raw_parts_mut(refs.as_mut_ptr().cast(), refs.len()) }
+}
+
+/// The wrapper's refs under this module's name.
+pub(super) fn named(refs: &[Ref]) -> &[NodeJunctionRef] {
     unsafe { std::slice::from_raw_parts(refs.as_ptr().cast(), refs.len()) }
 }
 
@@ -121,7 +126,9 @@ impl Default for NodeDictionary {
 impl Ynd {
     /// The cell that a dictionary means: it is laid out as a section, which is read. Refused: 11 over 65,535 refs; 14
     /// over 65,536 nodes or 4,096 junctions; 2 where the section would be over 16,777,216 bytes; 4 and 5 as reading.
-    pub fn from_dictionary(d: &NodeDictionary) -> Result<Ynd, Refusal> { Ynd::from_sections(&d.section()?, &[]) }
+    pub fn from_dictionary(d: &NodeDictionary) -> Result<Ynd, Refusal> {
+        Ynd::from_sections(&d.section()?, &[])
+    }
 
     /// The dictionary that the cell is written as. Refused as [`Ynd::to_section`] is.
     pub fn to_dictionary(&self) -> Result<NodeDictionary, Refusal> {
@@ -139,11 +146,21 @@ impl Bytes<'_> {
         *taken
     }
 
-    fn u8(&mut self) -> u8 { self.take::<1>()[0] }
-    fn u16(&mut self) -> u16 { u16::from_le_bytes(self.take()) }
-    fn i16(&mut self) -> i16 { i16::from_le_bytes(self.take()) }
-    fn u32(&mut self) -> u32 { u32::from_le_bytes(self.take()) }
-    fn u64(&mut self) -> u64 { u64::from_le_bytes(self.take()) }
+    fn u8(&mut self) -> u8 {
+        self.take::<1>()[0]
+    }
+    fn u16(&mut self) -> u16 {
+        u16::from_le_bytes(self.take())
+    }
+    fn i16(&mut self) -> i16 {
+        i16::from_le_bytes(self.take())
+    }
+    fn u32(&mut self) -> u32 {
+        u32::from_le_bytes(self.take())
+    }
+    fn u64(&mut self) -> u64 {
+        u64::from_le_bytes(self.take())
+    }
 }
 
 /// A record of so many bytes.
@@ -171,8 +188,12 @@ record!(NodeJunction, 12: max_z i16, position_x i16, position_y i16, min_z i16, 
 record!(NodeJunctionRef, 8: area_id u16, node_id u16, junction_id u16, unk0 u16);
 
 impl Record for u8 {
-    fn of(b: &mut Bytes<'_>) -> u8 { b.u8() }
-    fn put(&self, to: &mut Vec<u8>) { to.push(*self); }
+    fn of(b: &mut Bytes<'_>) -> u8 {
+        b.u8()
+    }
+    fn put(&self, to: &mut Vec<u8>) {
+        to.push(*self);
+    }
 }
 
 /// The address of a system section's first byte.
@@ -185,8 +206,20 @@ impl NodeDictionary {
         let [nodes_count_vehicle, nodes_count_ped] = counts;
         let [unk24, unk34, unk48, unk4c, unk5c, unk68, unk6c] = unknowns;
         NodeDictionary {
-            vft, nodes_count_vehicle, nodes_count_ped, unk24, unk34, unk48, unk4c, unk5c, unk68, unk6c,
-            nodes: Vec::new(), links: Vec::new(), junctions: Vec::new(), junction_heightmap_bytes: Vec::new(),
+            vft,
+            nodes_count_vehicle,
+            nodes_count_ped,
+            unk24,
+            unk34,
+            unk48,
+            unk4c,
+            unk5c,
+            unk68,
+            unk6c,
+            nodes: Vec::new(),
+            links: Vec::new(),
+            junctions: Vec::new(),
+            junction_heightmap_bytes: Vec::new(),
             junction_refs: Vec::new(),
         }
     }
@@ -206,26 +239,54 @@ impl NodeDictionary {
             junctions: array(section, junctions, junction_count),
             junction_heightmap_bytes: array(section, heights, height_count),
             junction_refs: array(section, refs, ref_count as u32),
-            ..NodeDictionary::with_words(vft, kinds, [unk24, unk34, unk48, unk4c, unk5c, unk68, unk6c])
+            ..NodeDictionary::with_words(
+                vft,
+                kinds,
+                [unk24, unk34, unk48, unk4c, unk5c, unk68, unk6c],
+            )
         }
     }
 
     /// A section that holds it.
     fn section(&self) -> Result<Vec<u8>, Refusal> {
         let refs = u16::try_from(self.junction_refs.len()).map_err(|_| Refusal::TooManyRefs)?;
-        let (heights, junctions) = (count(&self.junction_heightmap_bytes)?, count(&self.junctions)?);
+        let (heights, junctions) = (
+            count(&self.junction_heightmap_bytes)?,
+            count(&self.junctions)?,
+        );
         let (links, nodes) = (count(&self.links)?, count(&self.nodes)?);
         let (at, total) = lay_out([refs as u32, heights, junctions, links, nodes])?;
         let mut section = Vec::with_capacity(total);
         let mut word = |n: u32| section.extend(n.to_le_bytes());
         let double = |n: u64| [n as u32, (n >> 32) as u32];
-        [self.vft, 1].into_iter().chain(double(PAGES)).for_each(&mut word);
+        [self.vft, 1]
+            .into_iter()
+            .chain(double(PAGES))
+            .for_each(&mut word);
         double(at.nodes).into_iter().for_each(&mut word);
-        [nodes, self.nodes_count_vehicle, self.nodes_count_ped, self.unk24].into_iter().for_each(&mut word);
-        double(at.links).into_iter().chain([links, self.unk34]).for_each(&mut word);
-        double(at.junctions).into_iter().chain(double(at.heightmap)).for_each(&mut word);
-        [self.unk48, self.unk4c].into_iter().chain(double(at.refs)).for_each(&mut word);
-        [refs as u32 * 0x1_0001, self.unk5c, junctions, heights].into_iter().for_each(&mut word);
+        [
+            nodes,
+            self.nodes_count_vehicle,
+            self.nodes_count_ped,
+            self.unk24,
+        ]
+        .into_iter()
+        .for_each(&mut word);
+        double(at.links)
+            .into_iter()
+            .chain([links, self.unk34])
+            .for_each(&mut word);
+        double(at.junctions)
+            .into_iter()
+            .chain(double(at.heightmap))
+            .for_each(&mut word);
+        [self.unk48, self.unk4c]
+            .into_iter()
+            .chain(double(at.refs))
+            .for_each(&mut word);
+        [refs as u32 * 0x1_0001, self.unk5c, junctions, heights]
+            .into_iter()
+            .for_each(&mut word);
         [self.unk68, self.unk6c].into_iter().for_each(&mut word);
         put(&mut section, at.refs, &self.junction_refs);
         put(&mut section, at.heightmap, &self.junction_heightmap_bytes);
@@ -250,7 +311,11 @@ fn array<T: Record>(section: &[u8], address: u64, count: u32) -> Vec<T> {
 
 /// The records at an address, which no byte lies behind yet.
 fn put<T: Record>(section: &mut Vec<u8>, address: u64, records: &[T]) {
-    if records.is_empty() { return; }
+    if records.is_empty() {
+        return;
+    }
     section.resize((address - SYSTEM) as usize, 0);
-    for r in records { r.put(section); }
+    for r in records {
+        r.put(section);
+    }
 }

@@ -6,6 +6,7 @@
 //! `DEP_BOFRASHEM_ARCHIVE` or `DEP_BOFRASHEM_LIBDIR`, and `DEP_BOFRASHEM_INCLUDE`.
 #![no_std]
 #![allow(non_camel_case_types)]
+#![cfg_attr(rustfmt, rustfmt_skip)]
 
 pub const YND_ACCEPTED: u32 = 0;
 pub const YND_FEW_SYSTEM_BYTES: u32 = 1;
@@ -83,7 +84,7 @@ pub struct ynd_cell {
 }
 
 /// A node. Its links are link_count entries of the links, from link_start on. The five unused fields of the file's
-/// record are the caller's: they stay with the node and are written (T-10).
+/// record are the caller's: they stay with the node and are written.
 #[repr(C)]
 #[derive(Clone, Copy, Debug, Default, PartialEq)]
 pub struct ynd_node_entry {
@@ -248,7 +249,8 @@ pub struct ynd_addresses {
 
 // The library sees words where these structs have fields: their layouts have to be these.
 const _: () = {
-    assert!(cfg!(all(target_arch = "x86_64", target_endian = "little")));
+    assert!(cfg!(all(target_pointer_width = "64", target_endian = "little")));
+    assert!(cfg!(any(target_arch = "x86_64", target_arch = "aarch64")));
     assert!(core::mem::size_of::<ynd_cell>() == 60);
     assert!(core::mem::size_of::<ynd_node_entry>() == 52);
     assert!(core::mem::size_of::<ynd_link_entry>() == 8);
@@ -316,8 +318,9 @@ extern "C" {
     /// Writes the cell into `section`, from its first byte on; later bytes stay. `length` gets how many bytes were
     /// written. Time: linear in what is written. Refused, in this order: 14 over a limit, 12 where a junction made by
     /// hand has fewer than width × height of the values that the struct counts, 8 and 9 node by node, 10, 11, 7 at 0
-    /// to 4 where a list is shorter than its count, 7 at 5 where the section is too short. What is written is never
-    /// refused on reading, but for memory (7).
+    /// to 4 where a list is shorter than its count, 7 at 5 where the section is too short. Of a list that is shorter
+    /// than its count 12 and 8 to 10 are asked of the entries that are lent: a node of 32 links, of which 31 are
+    /// lent, is 7 at 1. What is written is never refused on reading, but for memory (7).
     pub fn ynd_write(
         ynd: *const ynd_cell, nodes: *const ynd_node_entry, nodes_len: usize, links: *const ynd_link_entry,
         links_len: usize, junctions: *const ynd_junction_entry, junctions_len: usize, heights: *const u8,
@@ -350,10 +353,11 @@ extern "C" {
     ) -> u32;
 
     /// As ynd_walk, with a scratch by which the node with a number is found at once: for long walks in a cell that
-    /// isn't renumbered. The scratch may hold anything afterwards, after 7 at 8 too; other refusals leave it as it
-    /// was. Time: linear in n and in the choices, whatever the numbers. Refused, in this order: 13 no such place; 14
-    /// over a limit; 7 at 0 and 1 where a list is shorter than its count; 7 at 6 where the scratch has under
-    /// YND_SCRATCH entries; 7 at 8 where `visited` is too short (choices_len + 1 entries always do).
+    /// isn't renumbered. The scratch then holds at each number the first place that has it, its other entries stay; a
+    /// refusal leaves it as it was. Time: linear in n and in the choices, whatever the numbers, but that of ynd_walk
+    /// where `visited` has no more entries than there are choices. Refused, in this order: 13 no such place; 14 over
+    /// a limit; 7 at 0 and 1 where a list is shorter than its count; 7 at 6 where the scratch has under YND_SCRATCH
+    /// entries; 7 at 8 where `visited` is too short (choices_len + 1 entries always do, and spare that).
     pub fn ynd_walk_indexed(
         ynd: *const ynd_cell, nodes: *const ynd_node_entry, nodes_len: usize, links: *const ynd_link_entry,
         links_len: usize, start: usize, choices: *const u8, choices_len: usize, visited: *mut u32,
@@ -475,10 +479,9 @@ extern "C" {
     ) -> u32;
 
     /// As ynd_follow_round, with a scratch as ynd_walk_indexed has it: for long rounds in a cell that isn't
-    /// renumbered. The scratch may hold anything afterwards, after 7 at 8 too; other refusals leave it as it was.
-    /// Time: linear in n and in the choices, whatever the numbers. Refused, in this order: 14 over a limit; 7 at 0
-    /// where the nodes are fewer than their count; 13 no node has the number; 7 at 1 where the links are fewer than
-    /// their count; 7 at 6 where the scratch has under YND_SCRATCH entries; 7 at 8 where `visited` is too short
+    /// renumbered. What is said there of the scratch and of time holds here. Refused, in this order: 14 over a limit;
+    /// 7 at 0 where the nodes are fewer than their count; 13 no node has the number; 7 at 1 where the links are fewer
+    /// than their count; 7 at 6 where the scratch has under YND_SCRATCH entries; 7 at 8 where `visited` is too short
     /// (choices_len + 1 entries always do).
     pub fn ynd_follow_round_indexed(
         ynd: *const ynd_cell, nodes: *const ynd_node_entry, nodes_len: usize, links: *const ynd_link_entry,
@@ -508,9 +511,9 @@ extern "C" {
     /// Follows a round of this version, as ynd_follow_round follows one of version 1: of version 2 only in the cell
     /// whose own area (the first node's, with the island's bit; 0 in a cell with no node) is `area`. In version 1
     /// `area` is not looked at. Time: that of ynd_node and of ynd_walk. Refused, in this order: 15 a version that is
-    /// neither 1 nor 2; 14 over a limit; 7 at 0 where the nodes are fewer than their count; 19 a version 2 round
-    /// whose area isn't the cell's; 13 no node has the number; 7 at 1 where the links are fewer than their count; 7
-    /// at 8 where `visited` is too short (choices_len + 1 entries always do).
+    /// neither 1 nor 2; 19 a version 2 round whose area isn't the cell's, asked of the nodes that are lent; 14 over a
+    /// limit; 7 at 0 where the nodes are fewer than their count; 13 no node has the number; 7 at 1 where the links
+    /// are fewer than their count; 7 at 8 where `visited` is too short (choices_len + 1 entries always do).
     pub fn ynd_follow_round_versioned(
         ynd: *const ynd_cell, nodes: *const ynd_node_entry, nodes_len: usize, links: *const ynd_link_entry,
         links_len: usize, version: u16, area: u16, start: u16, choices: *const u8, choices_len: usize,
@@ -607,8 +610,9 @@ extern "C" {
     /// number `start` in the member of `area` (version 2, `member` is not looked at) or in the member named (version
     /// 1, `area` is not looked at). `members` are the set's and no more. Time: that of ynd_member_node and of
     /// ynd_set_crossing_walk. Refused, in this order: 15 a version that is neither 1 nor 2; 19 a version 2 round
-    /// whose area is no member's; 13 no such member; 14 over a limit; 7 at 0 and 1; 13 no node of the member has the
-    /// number; 7 at 8 where `visited` is too short (choices_len + 1 entries always do).
+    /// whose area is no member's; 13 no such member; 14 over a limit; 7 at 0 to 4, at 2 to 4 for a member's part
+    /// alone, since those lists aren't lent; 13 no node of the member has the number; 7 at 8 where `visited` is too
+    /// short (choices_len + 1 entries always do).
     pub fn ynd_set_follow_round(
         members: *const ynd_member, members_len: usize, nodes: *const ynd_node_entry, nodes_len: usize,
         links: *const ynd_link_entry, links_len: usize, version: u16, area: u16, member: usize, start: u16,
@@ -696,7 +700,8 @@ extern "C" {
     ) -> u32;
 
     /// Adds a link as the last one of the member's node at place `at`, as ynd_add_link. Refused, in this order: the
-    /// set's; 13 no such place; 14 at 255 links of the node; 7 at 1 where the member's part has no free entry.
+    /// set's; 13 no such place; 14 where link_count would pass 32 bits, or at 255 links of the node; 7 at 1 where the
+    /// member's part has no free entry.
     pub fn ynd_member_add_link(
         members: *mut ynd_member, members_len: usize, nodes: *mut ynd_node_entry, nodes_len: usize,
         links: *mut ynd_link_entry, links_len: usize, member: usize, at: usize, link: *const ynd_link_entry,
@@ -871,8 +876,9 @@ extern "C" {
 
     /// Adds a link as the last one of the node at place `at`; the links behind it move up by one, and so do the
     /// ranges there. Time: linear in n and in the links that move: to draw many links, store each node's at once by
-    /// ynd_put_links. Refused, in this order: 13 no such place; 14 over a limit, or at 255 links of the node; 7 at 0
-    /// where `nodes` is shorter than its count, 7 at 1 where `links` has no free entry.
+    /// ynd_put_links. Refused, in this order: 13 no such place; 14 over a limit, where link_count would pass 32 bits,
+    /// or at 255 links of the node; 7 at 0 where `nodes` is shorter than its count, 7 at 1 where `links` has no free
+    /// entry.
     pub fn ynd_add_link(
         ynd: *mut ynd_cell, nodes: *mut ynd_node_entry, nodes_len: usize, links: *mut ynd_link_entry,
         links_len: usize, at: usize, link: *const ynd_link_entry, place: *mut usize,

@@ -12,7 +12,10 @@ fn a_call_is_answered() {
 
 #[test]
 fn a_new_cell_has_the_default_words() {
-    let mut cell = sys::ynd_cell { node_count: 7, ..Default::default() };
+    let mut cell = sys::ynd_cell {
+        node_count: 7,
+        ..Default::default()
+    };
     unsafe { sys::ynd_new(&mut cell) };
     assert_eq!((cell.node_count, cell.unknowns), (0, [0, 0, 1, 0, 0, 0, 0]));
 }

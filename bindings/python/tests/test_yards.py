@@ -1,6 +1,7 @@
-"""The Python module on the sample yards. Run by `make python-test` at the repository's root."""
+"""The package on the sample yards. Run by `make python-test` at the repository's root."""
 import contextlib
 import io
+import os
 import pathlib
 import threading
 import unittest
@@ -8,7 +9,7 @@ import unittest
 import bofrashem
 from bofrashem import Refused, Round
 
-SAMPLES = pathlib.Path(__file__).resolve().parents[2] / "samples"
+SAMPLES = pathlib.Path(__file__).resolve().parents[3] / "samples"
 
 
 def sample(name):
@@ -39,7 +40,7 @@ class Reading(unittest.TestCase):
 
     def test_a_yard_not_drawn_yet(self):
         empty = bofrashem.read(b"")
-        self.assertEqual((empty.nodes, empty.area(), empty.unknowns), ([], None, (0, 0, 1, 0, 0, 0, 0)))
+        self.assertEqual((empty.nodes, empty.area(), empty.unknowns), ((), None, (0, 0, 1, 0, 0, 0, 0)))
         self.assertTrue(empty.is_sound())
         self.assertEqual((empty.within(0, 0, 65_535), empty.nearest(0, 0)), ([], None))
 
@@ -123,9 +124,14 @@ class Walking(unittest.TestCase):
 class Example(unittest.TestCase):
     def test_the_lines_of_the_module(self):
         """What the module's own text shows, run where the samples are."""
-        lines = [l[4:] for l in bofrashem.__doc__.split("\n") if l.startswith("    ")]
-        with contextlib.chdir(SAMPLES.parent), contextlib.redirect_stdout(io.StringIO()) as said:
-            exec("\n".join(lines), {})
+        lines = [line[4:] for line in bofrashem.__doc__.split("\n") if line.startswith("    ")]
+        before = os.getcwd()
+        os.chdir(SAMPLES.parent)
+        try:
+            with contextlib.redirect_stdout(io.StringIO()) as said:
+                exec("\n".join(lines), {})
+        finally:
+            os.chdir(before)
         self.assertEqual(said.getvalue(), "13 nodes, sound\n[6, 7, 8, 9]\n9 m\ndone\n")
 
 
@@ -160,7 +166,7 @@ class Rounds(unittest.TestCase):
 
 
 class Numbers(unittest.TestCase):
-    def test_pairs_of_document_01(self):
+    def test_worked_pairs(self):
         self.assertEqual(bofrashem.quantise(-0.3, 9000, float("nan")), (-1, 32_767, 0))
         self.assertEqual(bofrashem.cell_for_position(-3500, 100), (9, 16))
         self.assertEqual((bofrashem.area_id(9, 16), bofrashem.cell_of_area(1177)), (521, (25, 4)))
