@@ -12,7 +12,13 @@ hall.round    a round by part of the hall's ring and both hubs, version 2
 import math, pathlib, struct
 
 AREA = 489
+MIDDLE = -3328, -256  # of the area's grid cell, in metres; the yards' coordinates below count from it
 PED = 10 << 3  # flags1 of a pedestrian road crossing
+
+
+def steps(x, y):
+    """The stored quarters of a metre."""
+    return int(x * 4) + MIDDLE[0] * 4, int(y * 4) + MIDDLE[1] * 4
 
 
 class Yard:
@@ -43,12 +49,14 @@ class Yard:
         refs = b''.join(struct.pack('<4H', *r) for r in self.refs)
         heights, junctions = b'', b''
         for x, y, low, high, width, height, values in self.junctions:
-            junctions += struct.pack('<4hHBB', int(high * 32), int(x * 4), int(y * 4), int(low * 32), len(heights), width, height)
+            corner = steps(x, y)
+            junctions += struct.pack('<4hHBB', int(high * 32), *corner, int(low * 32), len(heights), width, height)
             heights += values
         links, nodes = b'', b''
         for p, (x, y, z, flags1, street) in enumerate(self.nodes):
             own = self.links.get(p, [])
-            nodes += struct.pack('<16x2HI2xH2h2Bh4B', AREA, p, street, len(links) // 8, int(x * 4), int(y * 4), 0, flags1, int(z * 32), 0, len(own) << 3 | 2, 0, 0)
+            nodes += struct.pack('<16x2HI2xH2h2Bh4B', AREA, p, street, len(links) // 8, *steps(x, y), 0, flags1, int(z * 32), 0,
+                                 len(own) << 3 | 2, 0, 0)
             links += b''.join(struct.pack('<2H4B', *l) for l in own)
         body, addresses, at = b'', [], 1152
         for block in (refs, heights, junctions, links, nodes):

@@ -2,14 +2,14 @@
 #   make tool            target/tool/bofrashem, its man page and completions (cargo, Debian's packages, the archive)
 #   make tool-test       its tests: cargo's, through pipes, in a browser, a short run over damaged files
 #   make tool-fuzz       damaged files for TOOL_FUZZ_SECONDS
-#   make tool-bench      how long it takes on a large yard and on many files
+#   make tool-bench      how long it takes on a large yard, and how it uses the cores on many files
 #   make tool-pictures   docs/pictures, made anew by a headless Chromium
 # `make run` shows it, and `make test` tries it, where it can be built. Nothing here installs anything: what is missing
 # is named.
 TOOL = tools/bofrashem
 TOOL_FUZZ_SECONDS ?= 60
 CARGO_FLAGS ?=
-TOOL_CARGO = cd $(TOOL) && YND_ARCHIVE=$(abspath $(YND_ARCHIVE)) cargo
+TOOL_CARGO = cd $(TOOL) && YND_ARCHIVE=$(call whole,$(YND_ARCHIVE)) cargo
 TOOL_MAKE = --offline --release $(CARGO_FLAGS)
 BOFRASHEM = target/tool/bofrashem
 
@@ -40,7 +40,7 @@ tool-fuzz: tool
 tool-fuzz: export BOFRASHEM_FUZZ_SECONDS = $(TOOL_FUZZ_SECONDS)
 
 tool-bench: tool
-	$(TOOL_CARGO) test -q $(TOOL_MAKE) --test speed -- --ignored --nocapture
+	$(TOOL_CARGO) test -q $(TOOL_MAKE) --test speed -- --ignored --nocapture --test-threads=1
 
 tool-pictures: tool
 	$(TOOL)/pictures $(BOFRASHEM) samples docs/pictures
@@ -51,7 +51,8 @@ tool-shown:
 	    $(MAKE) --no-print-directory tool && \
 	    $(BOFRASHEM) info samples/hall.section && \
 	    $(BOFRASHEM) print samples/hall.section samples/hall.round && \
-	    $(BOFRASHEM) draw samples/hall.section --round samples/hall.round --way 0 9 -o target/tool/hall.html; \
+	    $(BOFRASHEM) draw samples/hall.section --round samples/hall.round --way 0 9 -o target/tool/hall.html && \
+	    echo 'open it in a browser: '$(call whole,target/tool/hall.html); \
 	else echo 'the tool is left out'; fi
 
 run: tool-shown

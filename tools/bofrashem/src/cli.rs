@@ -9,10 +9,10 @@ use std::path::PathBuf;
 /// --graphics behind the FILE that it belongs to. FILE may be - for standard input, once a command. Nodes are named by
 /// place, counted from 0, as the library does; --numbers names them by number instead.
 ///
-/// Exit status: 0 accepted; 1 refused, unsound, different, or a file that can't be read or written; 2 a command line
-/// that can't be understood.
+/// Exit status: 0 accepted; 1 refused, unsound (check) or different (diff); 2 a command line that can't be understood;
+/// 3 a file can't be read or written, or would be overwritten by one of another kind.
 #[derive(Parser)]
-#[command(name = "bofrashem", version, max_term_width = 100, disable_help_subcommand = true)]
+#[command(name = "bofrashem", version, max_term_width = 100)]
 pub struct Cli {
     /// Answer in JSON, errors too
     #[arg(long, global = true)]
@@ -56,11 +56,21 @@ pub struct Yard {
     pub graphics: Option<PathBuf>,
 }
 
+/// A file that a command writes.
+#[derive(Args)]
+pub struct Force {
+    /// Overwrite a file of another kind, too
+    #[arg(long)]
+    pub force: bool,
+}
+
 /// What a yard holds: counts, area, grid cell, bounds, and whether it is sound
+///
+/// Of several yards each has its lines, and with --json its line, in the order given.
 #[derive(Args)]
 pub struct Info {
     #[command(flatten)]
-    pub yard: Yard,
+    pub yards: Yards,
 }
 
 /// One line for each file that is refused or unsound, and then exit status 1
@@ -127,6 +137,9 @@ pub struct Way {
     /// Write the way as a round file, of the yard's area
     #[arg(long, value_name = "FILE")]
     pub round: Option<PathBuf>,
+
+    #[command(flatten)]
+    pub over: Force,
 }
 
 /// Round files: made, shown, followed
@@ -153,6 +166,9 @@ pub struct Make {
     /// Where to write; - is standard output
     #[arg(short, long, value_name = "FILE")]
     pub output: PathBuf,
+
+    #[command(flatten)]
+    pub over: Force,
 }
 
 /// What a round file says
@@ -191,6 +207,9 @@ pub struct Print {
     /// One A4 page instead: the lines beside the drawn round (needs rsvg-convert)
     #[arg(long, value_name = "FILE")]
     pub pdf: Option<PathBuf>,
+
+    #[command(flatten)]
+    pub over: Force,
 }
 
 /// What kind of file to write.
@@ -213,9 +232,14 @@ pub struct Rewrite {
     /// What to write; a container where OUT ends in .ynd, else a section
     #[arg(long, value_enum)]
     pub form: Option<Form>,
+
+    #[command(flatten)]
+    pub over: Force,
 }
 
 /// What a walker could tell apart in two yards; exit status 1 if anything
+///
+/// Where A and B are folders, the files that both have are compared by name, and what only one has is said.
 #[derive(Args)]
 pub struct Diff {
     #[command(flatten)]
@@ -227,16 +251,18 @@ pub struct Diff {
 }
 
 /// A picture of a yard: .svg, .html (to pan, zoom, click and step), .png or .pdf by OUT's ending
+///
+/// Several yards are drawn as a set, up to nine, with the links that lead from one into another; a round crosses.
 #[derive(Args)]
 pub struct Draw {
     #[command(flatten)]
-    pub yard: Yard,
+    pub yards: Yards,
 
     /// Draw a round file's walk over the yard
     #[arg(long, value_name = "ROUND")]
     pub round: Option<PathBuf>,
 
-    /// Draw the way with the fewest metres between two nodes
+    /// Draw the way with the fewest metres between two nodes of one yard
     #[arg(long, num_args = 2, value_names = ["FROM", "TO"])]
     pub way: Option<Vec<usize>>,
 
@@ -248,9 +274,16 @@ pub struct Draw {
     #[arg(long)]
     pub numbers: bool,
 
+    /// The member of a set in which a round of version 1 starts, counted from 0
+    #[arg(long, value_name = "MEMBER", default_value_t = 0)]
+    pub member: usize,
+
     /// Where to write; - is standard output, an SVG
     #[arg(short, long, value_name = "OUT")]
     pub output: PathBuf,
+
+    #[command(flatten)]
+    pub over: Force,
 }
 
 /// A set of up to nine cells: its members, whether it is sound, and walks that cross from cell to cell
@@ -262,6 +295,14 @@ pub struct Set {
     /// Walk from a node of a member, both counted from 0; then the choices
     #[arg(long, num_args = 2.., value_names = ["MEMBER", "PLACE", "CHOICES"])]
     pub walk: Option<Vec<usize>>,
+
+    /// Follow a round file, which crosses; of version 2 it starts in the member of its area
+    #[arg(long, value_name = "ROUND", conflicts_with = "walk")]
+    pub round: Option<PathBuf>,
+
+    /// The member in which a round of version 1 starts, counted from 0
+    #[arg(long, value_name = "MEMBER", default_value_t = 0, requires = "round")]
+    pub member: usize,
 }
 
 /// A shell's completions, on standard output

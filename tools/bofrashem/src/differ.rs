@@ -1,9 +1,12 @@
 //! `diff`: what a walker could tell apart in two yards. What no walker sees is left out: where arrays lie and what
-//! lies between them (T-14), and in sound yards the numbers of nodes, which renumbering changes and no walk shows.
+//! lies between them, and in sound yards the numbers of nodes, which renumbering changes and no walk shows. Of two
+//! folders, the files that both have: folders.rs.
 use crate::cli;
-use crate::fault::{shown, Trouble};
+use crate::fault::{shown, Trouble, REFUSED};
+use crate::folders;
 use crate::input::{Input, Opened};
 use crate::nodes::{self, Target, Targets};
+use crate::stream::Stream;
 use crate::Told;
 use bofrashem::{Cell, Link, SeenJunction, SeenNode};
 use serde_json::{json, Value};
@@ -39,8 +42,25 @@ struct Compared {
     sound: bool,
 }
 
-pub fn diff(args: &cli::Diff, input: &mut Input, json: bool) -> Result<Told, Trouble> {
-    let (a, b) = (input.open(&args.yards.a)?, input.open(&args.yards.b)?);
+impl Compared {
+    fn same(&self) -> bool {
+        self.found.is_empty()
+    }
+}
+
+pub fn diff(args: &cli::Diff, input: &Input, stream: &mut Stream) -> Result<Told, Trouble> {
+    let (a, b) = (&args.yards.a, &args.yards.b);
+    if a.file.is_dir() && b.file.is_dir() {
+        return folders::diff(args, input, stream);
+    }
+    let (result, a, b) = pair(a, b, input)?;
+    let told = Told::either(stream.json, || text(args.most, &result), || value(&a, &b, &result));
+    Ok(told.status(if result.same() { 0 } else { REFUSED }))
+}
+
+/// Two yards compared, and as they were opened.
+fn pair(a: &cli::Yard, b: &cli::Yard, input: &Input) -> Result<(Compared, Opened, Opened), Trouble> {
+    let (a, b) = (input.open(a)?, input.open(b)?);
     let sound = a.cell.is_sound() && b.cell.is_sound();
     let (left, right) = (side(&a, sound)?, side(&b, sound)?);
     let by_place = left.cell.nodes().len() == right.cell.nodes().len();
@@ -51,8 +71,24 @@ pub fn diff(args: &cli::Diff, input: &mut Input, json: bool) -> Result<Told, Tro
     };
     let found = compared(&left, &right, &pairs);
     let result = Compared { unseen: unseen(&a, &b, (&left, &right), &pairs), found, by_place, sound };
-    let told = Told::either(json, text(args, &result), value(&a, &b, &result));
-    Ok(told.status(!result.found.is_empty() as i32))
+    Ok((result, a, b))
+}
+
+/// What is said of two yards among many: an object, or lines where they differ; and whether they are the same.
+pub fn of_pair(
+    a: &cli::Yard,
+    b: &cli::Yard,
+    most: usize,
+    input: &Input,
+    json: bool,
+) -> Result<(String, bool), Trouble> {
+    let (result, a, b) = pair(a, b, input)?;
+    let words = match json {
+        true => value(&a, &b, &result).to_string() + "\n",
+        false if result.same() => String::new(),
+        false => text(most, &result),
+    };
+    Ok((words, result.same()))
 }
 
 /// Sound yards are compared as renumbering leaves them, which no walker can notice (demand 3).
@@ -249,10 +285,10 @@ fn line(d: &Difference) -> String {
     format!("place {names}: {}: {sides}\n", d.what)
 }
 
-fn text(args: &cli::Diff, Compared { found, unseen, by_place, .. }: &Compared) -> String {
-    let mut t: String = found.iter().take(args.most).map(line).collect();
-    if found.len() > args.most {
-        let _ = writeln!(t, ".. and {} more", found.len() - args.most);
+fn text(most: usize, Compared { found, unseen, by_place, .. }: &Compared) -> String {
+    let mut t: String = found.iter().take(most).map(line).collect();
+    if found.len() > most {
+        let _ = writeln!(t, ".. and {} more", found.len() - most);
     }
     let _ = match found.len() {
         0 => writeln!(t, "no walker can tell them apart"),

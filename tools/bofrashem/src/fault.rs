@@ -1,23 +1,40 @@
 //! What can go wrong, in words and in JSON.
 use crate::container::Bad;
+use crate::kinds::Kind;
 use bofrashem::Refusal;
 use serde_json::{json, Value};
 use std::io;
 use std::path::Path;
 
+/// Exit statuses beside 0; docs/TOOL.md has the table.
+pub const REFUSED: i32 = 1;
+pub const USAGE: i32 = 2;
+pub const UNREAD: i32 = 3;
+
+/// What was wrong here, beside a refusal's number and place.
+#[derive(Debug)]
+pub enum Here {
+    /// The library's words say it.
+    AsCause,
+    /// They do, and this says of which part, with its numbers.
+    At(String),
+    /// The library's words list several causes: this is the one.
+    Said(String),
+}
+
 /// Why a command ended without its answer.
 #[derive(Debug)]
 pub enum Fault {
     /// A call refused the input.
-    Refused(Refusal),
-    /// The same, and what the command knows of its place.
-    RefusedAt(Refusal, &'static str),
+    Refused(Refusal, Here),
     /// The container could not be opened.
     Container(Bad),
     /// The system did not hand over a file.
     Unread(io::Error),
     /// The system did not take a file.
     Unwritten(io::Error),
+    /// A file of another kind stands where one would be written.
+    Kept { is: Kind, by: Kind },
     /// Input that a command can't take, for a cause without a number.
     BadInput(String),
     /// A program that the tool leans on is missing, or failed.
@@ -34,6 +51,11 @@ pub struct Trouble {
 }
 
 impl Fault {
+    /// A refusal whose cause is said in the tool's words.
+    pub fn said(r: Refusal, words: String) -> Fault {
+        Fault::Refused(r, Here::Said(words))
+    }
+
     pub fn of(self, file: &Path) -> Trouble {
         Trouble { file: Some(shown(file)), fault: self }
     }
@@ -44,10 +66,10 @@ impl Fault {
 
     fn kind(&self) -> &'static str {
         match self {
-            Fault::Refused(_) | Fault::RefusedAt(..) => "refused",
+            Fault::Refused(..) => "refused",
             Fault::Container(_) => "container",
             Fault::Unread(_) => "unread",
-            Fault::Unwritten(_) => "unwritten",
+            Fault::Unwritten(_) | Fault::Kept { .. } => "unwritten",
             Fault::BadInput(_) => "bad-input",
             Fault::Program(_) => "program",
             Fault::Usage(_) => "usage",
@@ -57,46 +79,64 @@ impl Fault {
     /// The words, without number and place.
     fn words(&self) -> String {
         match self {
-            Fault::Refused(r) | Fault::RefusedAt(r, _) => refusal_words(*r),
+            Fault::Refused(_, Here::Said(words)) => words.clone(),
+            Fault::Refused(r, _) => r.text(),
             Fault::Container(bad) => bad.to_string(),
             Fault::Unread(e) => format!("can't be read: {e}"),
             Fault::Unwritten(e) => format!("can't be written: {e}"),
+            Fault::Kept { is, by } => format!("is {is}, and is not overwritten by {by}; --force does"),
             Fault::BadInput(said) | Fault::Program(said) | Fault::Usage(said) => said.clone(),
+        }
+    }
+
+    /// What the words are about, where they don't say it.
+    fn at(&self) -> Option<String> {
+        match self {
+            Fault::Refused(_, Here::At(at)) => Some(at.clone()),
+            Fault::Refused(_, Here::Said(_)) => None,
+            Fault::Refused(r, _) => place_words(*r),
+            _ => None,
         }
     }
 
     pub fn text(&self) -> String {
         match self {
-            Fault::Refused(r) => refusal_text(*r, place_words(*r)),
-            Fault::RefusedAt(r, at) => refusal_text(*r, Some(at.to_string())),
+            Fault::Refused(r, _) => {
+                let at = self.at().map_or(String::new(), |at| format!(" ({at})"));
+                format!("refused {} {}: {}{at}", r.number(), r.place(), self.words())
+            }
             Fault::Container(bad) => format!("container: {bad}"),
             other => other.words(),
         }
     }
 
     pub fn value(&self) -> Value {
+        let mut v = json!({ "kind": self.kind(), "text": self.words() });
+        if let Fault::Refused(r, _) = self {
+            (v["number"], v["place"], v["at"]) = (json!(r.number()), json!(r.place()), json!(self.at()));
+        }
+        v
+    }
+
+    /// The exit status of a command that it ends.
+    pub fn status(&self) -> i32 {
         match self {
-            Fault::Refused(r) => refusal_value(*r, place_words(*r)),
-            Fault::RefusedAt(r, at) => refusal_value(*r, Some(at.to_string())),
-            other => json!({ "kind": other.kind(), "text": other.words() }),
+            Fault::Usage(_) => USAGE,
+            Fault::Unread(_) | Fault::Unwritten(_) | Fault::Kept { .. } | Fault::Program(_) => UNREAD,
+            Fault::Refused(..) | Fault::Container(_) | Fault::BadInput(_) => REFUSED,
         }
     }
 }
 
 impl Trouble {
-    pub fn status(&self) -> i32 {
-        if matches!(self.fault, Fault::Usage(_)) {
-            2
-        } else {
-            1
-        }
+    /// The file and the words.
+    pub fn line(&self) -> String {
+        self.file.as_ref().map_or(String::new(), |file| format!("{file}: ")) + &self.fault.text()
     }
 
+    /// The same, as standard error has it.
     pub fn text(&self) -> String {
-        match &self.file {
-            Some(file) => format!("bofrashem: {file}: {}", self.fault.text()),
-            None => format!("bofrashem: {}", self.fault.text()),
-        }
+        format!("bofrashem: {}", self.line())
     }
 
     /// The file that it is about, where that is not the yard's first: its graphics section.
@@ -126,26 +166,7 @@ pub fn shown(file: &Path) -> String {
     }
 }
 
-/// The wrapper says "refused N P: words"; the words alone.
-fn refusal_words(r: Refusal) -> String {
-    let said = r.to_string();
-    said.split_once(": ").map_or(said.clone(), |(_, words)| words.to_string())
-}
-
-/// Number, place and words, and what the place is.
-fn refusal_text(r: Refusal, at: Option<String>) -> String {
-    match at {
-        Some(at) => format!("{r} ({at})"),
-        None => r.to_string(),
-    }
-}
-
-fn refusal_value(r: Refusal, at: Option<String>) -> Value {
-    let text = refusal_words(r);
-    json!({ "kind": "refused", "number": r.number(), "place": r.place(), "text": text, "at": at })
-}
-
-const LISTS: [&str; 11] = [
+pub const LISTS: [&str; 11] = [
     "the nodes",
     "the links",
     "the junctions",

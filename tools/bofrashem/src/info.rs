@@ -1,15 +1,14 @@
-//! `info` and `check`.
+//! `info`, of one yard or of many.
 use crate::cli;
 use crate::container::VERSION;
-use crate::fault::{shown, Fault, Trouble};
+use crate::fault::{shown, Trouble};
 use crate::input::{Input, Opened};
 use crate::nodes::{self, Kinds};
-use crate::sound;
-use crate::Told;
+use crate::stream::Stream;
+use crate::{many, sound, Told};
 use bofrashem::{count, numbers, Counts};
 use serde_json::{json, Value};
 use std::fmt::Write;
-use std::path::Path;
 
 /// What is said of a yard's area.
 struct Area {
@@ -31,10 +30,49 @@ struct Info {
     reason: Option<sound::Reason>,
 }
 
-pub fn info(args: &cli::Info, input: &mut Input, json: bool) -> Result<Told, Trouble> {
-    let opened = input.open(&args.yard)?;
-    let info = of(&opened)?;
-    Ok(Told::either(json, text(&opened, &info), value(&opened, &info)))
+pub fn info(args: &cli::Info, input: &Input, stream: &mut Stream) -> Result<Told, Trouble> {
+    let json = stream.json;
+    let said = |yard: &cli::Yard| {
+        let opened = input.open(yard)?;
+        let info = of(&opened)?;
+        Ok(if json { format!("{}\n", value(&opened, &info)) } else { text(&opened, &info) })
+    };
+    match args.yards.0.as_slice() {
+        [yard] => Ok(Told::bytes(said(yard)?.into_bytes())),
+        yards => of_many(yards, stream, said),
+    }
+}
+
+/// Each yard's answer, and an error in its place.
+fn of_many(
+    yards: &[cli::Yard],
+    stream: &mut Stream,
+    said: impl Fn(&cli::Yard) -> Result<String, Trouble> + Sync,
+) -> Result<Told, Trouble> {
+    let (mut first, mut status, mut bad) = (true, 0, 0);
+    many::each(yards, stream, said, |stream, _, answer| {
+        if !std::mem::take(&mut first) && !stream.json {
+            stream.say("\n");
+        }
+        match answer {
+            Ok(words) => stream.say(&words),
+            Err(trouble) => {
+                (status, bad) = (trouble.fault.status().max(status), bad + 1);
+                if stream.json {
+                    stream.say(&format!("{}\n", trouble.value()));
+                } else {
+                    stream.say(&format!("file       {}\n", trouble.line()));
+                }
+            }
+        }
+    });
+    stream.end()?;
+    let told = Told::bytes(Vec::new()).status(status);
+    Ok(if stream.terminal {
+        told.note(format!("{} yards, {bad} of them not read", yards.len()))
+    } else {
+        told
+    })
 }
 
 fn of(opened: &Opened) -> Result<Info, Trouble> {
@@ -148,80 +186,4 @@ fn value(opened: &Opened, i: &Info) -> Value {
         "sound": i.sound,
         "unsound_because": i.reason.map(|r| r.value()),
     })
-}
-
-/// One file's verdict.
-enum Verdict {
-    Good,
-    Unsound(Option<sound::Reason>),
-    Bad(Trouble),
-}
-
-impl Verdict {
-    fn line(&self, file: &Path) -> Option<String> {
-        let said = match self {
-            Verdict::Good => return None,
-            Verdict::Unsound(Some(reason)) => format!("unsound: {reason}"),
-            Verdict::Unsound(None) => "unsound".into(),
-            Verdict::Bad(trouble) => trouble.beside(file),
-        };
-        Some(format!("{}: {said}\n", shown(file)))
-    }
-
-    fn value(&self, file: &Path) -> Value {
-        let mut v = match self {
-            Verdict::Good => json!({ "ok": true, "kind": "sound" }),
-            Verdict::Unsound(reason) => {
-                json!({ "ok": false, "kind": "unsound", "unsound_because": reason.map(|r| r.value()) })
-            }
-            Verdict::Bad(trouble) => {
-                let mut v = trouble.fault.value();
-                if let Some(other) = trouble.other(file) {
-                    v["text"] = json!(format!("{other}: {}", v["text"].as_str().unwrap_or_default()));
-                }
-                v["ok"] = json!(false);
-                v
-            }
-        };
-        v["file"] = json!(shown(file));
-        v
-    }
-}
-
-fn verdict(yard: &cli::Yard, input: &mut Input) -> Result<Verdict, Trouble> {
-    match input.open(yard) {
-        Ok(opened) if opened.cell.is_sound() => Ok(Verdict::Good),
-        Ok(opened) => Ok(Verdict::Unsound(sound::reason(&opened.cell))),
-        Err(trouble) if matches!(trouble.fault, Fault::Usage(_)) => Err(trouble),
-        Err(trouble) => Ok(Verdict::Bad(trouble)),
-    }
-}
-
-/// Many files are worth a progress bar.
-const MANY: usize = 20;
-
-pub fn check(args: &cli::Check, input: &mut Input, json: bool, terminal: bool) -> Result<Told, Trouble> {
-    let yards = &args.yards.0;
-    let bar = if terminal && yards.len() >= MANY {
-        indicatif::ProgressBar::new(yards.len() as u64)
-    } else {
-        indicatif::ProgressBar::hidden()
-    };
-    let (mut lines, mut values, mut bad) = (String::new(), Vec::new(), 0);
-    for yard in yards {
-        let v = verdict(yard, input)?;
-        if let Some(line) = v.line(&yard.file) {
-            bad += 1;
-            lines += &line;
-        }
-        if json {
-            values.push(v.value(&yard.file));
-        }
-        bar.inc(1);
-    }
-    bar.finish_and_clear();
-    let told = Told::either(json, lines, json!({ "checked": yards.len(), "bad": bad, "files": values }));
-    let told =
-        if terminal { told.note(format!("{} yards, {bad} refused or unsound", yards.len())) } else { told };
-    Ok(told.status((bad > 0) as i32))
 }

@@ -1,21 +1,22 @@
-//! Files in and out: yards in either form, rounds, standard input and output.
+//! Files in: yards in either form, rounds, standard input.
 use crate::cli;
 use crate::container::{self, Bad, SECTION_MOST};
-use crate::fault::{Fault, Trouble};
+use crate::fault::{shown, Fault, Here, Trouble};
+use crate::why;
 use bofrashem::{Cell, Refusal, VersionedRound, Walk};
 use std::fs::File;
-use std::io::{self, Read};
+use std::io::Read;
 use std::path::{Path, PathBuf};
+use std::sync::Mutex;
 
 /// No yard that is accepted needs a longer file: two sections, and what deflate may add to them.
 const FILE_MOST: usize = 2 * SECTION_MOST + (1 << 20);
 /// A longer round file is refused whatever it holds.
 const ROUND_MOST: usize = 1 << 17;
 
-/// Standard input, which a command reads once.
+/// Standard input, which a command reads once, whichever thread asks for it.
 pub struct Input<'a> {
-    from: &'a mut dyn Read,
-    used: bool,
+    from: Mutex<Option<&'a mut (dyn Read + Send)>>,
 }
 
 /// A yard's bytes, as they came.
@@ -34,19 +35,17 @@ pub struct Opened {
 }
 
 impl<'a> Input<'a> {
-    pub fn new(from: &'a mut dyn Read) -> Input<'a> {
-        Input { from, used: false }
+    pub fn new(from: &'a mut (dyn Read + Send)) -> Input<'a> {
+        Input { from: Mutex::new(Some(from)) }
     }
 
     /// A file's bytes, at most so many and one more.
-    fn bytes(&mut self, file: &Path, most: usize) -> Result<Vec<u8>, Trouble> {
+    fn bytes(&self, file: &Path, most: usize) -> Result<Vec<u8>, Trouble> {
         let mut bytes = Vec::new();
         let read = if file == Path::new("-") {
-            if self.used {
-                return Err(Fault::Usage("standard input (-) can be read once".into()).plain());
-            }
-            self.used = true;
-            self.from.take(most as u64 + 1).read_to_end(&mut bytes)
+            let from = self.from.lock().map_or(None, |mut from| from.take());
+            let once = || Fault::Usage("standard input (-) can be read once".into()).plain();
+            from.ok_or_else(once)?.take(most as u64 + 1).read_to_end(&mut bytes)
         } else {
             File::open(file).and_then(|f| f.take(most as u64 + 1).read_to_end(&mut bytes))
         };
@@ -57,7 +56,7 @@ impl<'a> Input<'a> {
     }
 
     /// The sections of a yard, from a container or from a file or two.
-    pub fn sections(&mut self, file: &Path, graphics: Option<&Path>) -> Result<Sections, Trouble> {
+    pub fn sections(&self, file: &Path, graphics: Option<&Path>) -> Result<Sections, Trouble> {
         let bytes = self.bytes(file, FILE_MOST)?;
         if !container::is_container(&bytes) {
             let graphics = graphics.map_or(Ok(Vec::new()), |g| self.bytes(g, SECTION_MOST))?;
@@ -80,20 +79,20 @@ impl<'a> Input<'a> {
         })
     }
 
-    pub fn open(&mut self, yard: &cli::Yard) -> Result<Opened, Trouble> {
+    pub fn open(&self, yard: &cli::Yard) -> Result<Opened, Trouble> {
         let sections = self.sections(&yard.file, yard.graphics.as_deref())?;
         sections.read()
     }
 
     /// A round file of either version, and its bytes.
-    pub fn round(&mut self, file: &Path) -> Result<(VersionedRound, Vec<u8>), Trouble> {
+    pub fn round(&self, file: &Path) -> Result<(VersionedRound, Vec<u8>), Trouble> {
         let bytes = self.bytes(file, ROUND_MOST)?;
-        let round = VersionedRound::from_bytes(&bytes).map_err(|r| Fault::Refused(r).of(file))?;
+        let round = VersionedRound::from_bytes(&bytes).map_err(|r| why::round_file(r, &bytes).of(file))?;
         Ok((round, bytes))
     }
 
     /// A round file's bytes alone.
-    pub fn round_bytes(&mut self, file: &Path) -> Result<Vec<u8>, Trouble> {
+    pub fn round_bytes(&self, file: &Path) -> Result<Vec<u8>, Trouble> {
         self.bytes(file, ROUND_MOST)
     }
 }
@@ -102,7 +101,7 @@ impl Sections {
     pub fn read(self) -> Result<Opened, Trouble> {
         match Cell::read(&self.system, &self.graphics) {
             Ok(cell) => Ok(Opened { sections: self, cell }),
-            Err(r) => Err(Fault::Refused(r).of(&self.file)),
+            Err(r) => Err(why::unread(r, &self.system, &self.graphics).of(&self.file)),
         }
     }
 }
@@ -113,55 +112,22 @@ impl Opened {
         if !by_number {
             return Ok(named);
         }
-        let number = u16::try_from(named).ok();
-        number.and_then(|n| self.cell.node(n)).ok_or_else(|| self.refused(Refusal::NoSuchPlace))
+        let found = u16::try_from(named).ok().and_then(|n| self.cell.node(n));
+        found.ok_or_else(|| why::no_number(named, &self.cell).of(&self.sections.file))
     }
 
     /// The walk that a round, of this file, is.
     pub fn follow(&self, round: &VersionedRound, file: &Path) -> Result<Walk, Trouble> {
-        self.cell.follow_versioned(round).map_err(|r| Fault::Refused(r).of(file))
+        let refused = |r| why::round(r, round, &self.cell, &shown(&self.sections.file)).of(file);
+        self.cell.follow_versioned_indexed(round).map_err(refused)
     }
 
     pub fn refused(&self, r: Refusal) -> Trouble {
-        Fault::Refused(r).of(&self.sections.file)
+        Fault::Refused(r, Here::AsCause).of(&self.sections.file)
     }
-}
 
-pub fn write_file(file: &Path, bytes: &[u8]) -> Result<(), Trouble> {
-    std::fs::write(file, bytes).map_err(|e| Fault::Unwritten(e).of(file))
-}
-
-/// Runs rsvg-convert (Debian's librsvg2-bin) over an SVG.
-pub fn rsvg(svg: &str, format: &str) -> Result<Vec<u8>, Trouble> {
-    use std::process::{Command, Stdio};
-    let piped = Command::new("rsvg-convert")
-        .args(["-f", format])
-        .stdin(Stdio::piped())
-        .stdout(Stdio::piped())
-        .stderr(Stdio::piped())
-        .spawn();
-    let mut child = piped.map_err(|e| match e.kind() {
-        io::ErrorKind::NotFound => {
-            Fault::Program("rsvg-convert is missing: apt-get install librsvg2-bin".into()).plain()
-        }
-        _ => Fault::Program(format!("rsvg-convert: {e}")).plain(),
-    })?;
-    let (mut to, text) = (child.stdin.take(), svg.to_string());
-    // in a thread of its own, so that neither side waits for the other
-    let writer = std::thread::spawn(move || {
-        if let Some(pipe) = to.as_mut() {
-            let _ = io::Write::write_all(pipe, text.as_bytes());
-        }
-    });
-    let done = child.wait_with_output();
-    let _ = writer.join();
-    match done {
-        Ok(out) if out.status.success() && !out.stdout.is_empty() => Ok(out.stdout),
-        Ok(out) => Err(Fault::Program(format!(
-            "rsvg-convert failed: {}",
-            String::from_utf8_lossy(&out.stderr).trim()
-        ))
-        .plain()),
-        Err(e) => Err(Fault::Program(format!("rsvg-convert: {e}")).plain()),
+    /// A refused walk or way over places that the command line names.
+    pub fn no_walk(&self, r: Refusal, places: &[usize]) -> Trouble {
+        why::walk(r, &self.cell, places).of(&self.sections.file)
     }
 }

@@ -16,17 +16,50 @@ pub fn page(mut root: Command) -> String {
         t += &option(arg);
     }
     t += ".SH COMMANDS\n";
-    for command in root.get_subcommands() {
+    for command in root.get_subcommands().filter(|c| c.get_name() != "help") {
         t += &section(command, "bofrashem");
     }
+    t += &names();
     t += include_str!("man_end.roff");
     t
+}
+
+/// The names in JSON, and the exit statuses, from the tables of docs/TOOL.md.
+fn names() -> String {
+    let page = include_str!("../../../docs/TOOL.md");
+    let mut t = String::from(".SH JSON\nWith \\-\\-json each command answers with one object,\n");
+    t += "info of several yards and diff of folders with one a line. The names stay as they are.\n";
+    for [what, says] in table(page, "| Command | Names |") {
+        t += &format!(".TP\n{}\n{}\n", roff(&what), roff(&says));
+    }
+    t += ".SH EXIT STATUS\n";
+    for [status, says] in table(page, "| Exit status | Says |") {
+        t += &format!(".TP\n{status}\n{}\n", roff(&says));
+    }
+    t
+}
+
+/// The rows of a table of two columns in a page of Markdown, without its marks; a row without a first cell goes on
+/// with the one before.
+fn table(page: &str, head: &str) -> Vec<[String; 2]> {
+    let rows = page.lines().skip_while(|line| *line != head).skip(2).take_while(|line| line.starts_with('|'));
+    let mut found: Vec<[String; 2]> = Vec::new();
+    for row in rows {
+        let mut cells = row.trim_matches('|').splitn(2, " | ").map(|cell| cell.trim().replace('`', ""));
+        let (what, says) = (cells.next().unwrap_or_default(), cells.next().unwrap_or_default());
+        match found.last_mut().filter(|_| what.is_empty()) {
+            Some([_, before]) => *before += &format!(" {says}"),
+            None => found.push([what, says]),
+        }
+    }
+    found
 }
 
 /// A command, and those below it.
 fn section(command: &Command, above: &str) -> String {
     let name = format!("{above} {}", command.get_name());
-    let below: String = command.get_subcommands().map(|c| section(c, &name)).collect();
+    let below = command.get_subcommands().filter(|c| c.get_name() != "help");
+    let below: String = below.map(|c| section(c, &name)).collect();
     if !below.is_empty() {
         return below;
     }

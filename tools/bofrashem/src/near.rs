@@ -5,7 +5,6 @@ use crate::input::Input;
 use crate::nodes;
 use crate::Told;
 use bofrashem::{numbers, Cell};
-use serde_json::{json, Value};
 use std::fmt::Write;
 
 /// A circle in quarter-metre steps.
@@ -13,7 +12,12 @@ use std::fmt::Write;
 pub struct Circle {
     pub point: [i16; 2],
     pub radius: u16,
+    /// Whether x, and y, were further out than can be stored.
+    pub limited: [bool; 2],
 }
+
+/// The farthest coordinates that are stored, in metres.
+const FARTHEST: [f64; 2] = [-8192.0, 8191.75];
 
 impl Circle {
     /// Metres become steps as positions do: cut towards zero, limited to what can be stored.
@@ -21,8 +25,9 @@ impl Circle {
         if !(x.is_finite() && y.is_finite()) {
             return Err(usage("X and Y are numbers"));
         }
+        let limited = [x, y].map(|v| !(FARTHEST[0]..FARTHEST[1] + 0.25).contains(&v));
         let [x, y, _] = numbers::quantise([x as f32, y as f32, 0.0]);
-        Ok(Circle { point: [x, y], radius: radius_of(radius * 4.0)? })
+        Ok(Circle { point: [x, y], radius: radius_of(radius * 4.0)?, limited })
     }
 
     fn of_steps(x: f64, y: f64, radius: f64) -> Result<Circle, Trouble> {
@@ -34,7 +39,15 @@ impl Circle {
                 Err(usage("steps are whole numbers from -32768 to 32767"))
             }
         };
-        Ok(Circle { point: [whole(x)?, whole(y)?], radius: radius_of(radius)? })
+        Ok(Circle { point: [whole(x)?, whole(y)?], radius: radius_of(radius)?, limited: [false; 2] })
+    }
+
+    /// What is to be said where a coordinate was limited.
+    pub fn notes(&self) -> Vec<String> {
+        let names = ["X", "Y"].into_iter().zip(self.limited).filter(|(_, limited)| *limited);
+        let [low, high] = FARTHEST;
+        let said = |name| format!("{name} is limited to what is stored, {low} to {high} m");
+        names.map(|(name, _)| said(name)).collect()
     }
 
     pub fn metres(&self) -> [f64; 3] {
@@ -61,16 +74,17 @@ fn distance(cell: &Cell, place: usize, [x, y]: [i16; 2]) -> (u64, f64) {
     (squared as u64, (squared as f64).sqrt() / 4.0)
 }
 
-pub fn near(args: &cli::Near, input: &mut Input, json: bool) -> Result<Told, Trouble> {
+pub fn near(args: &cli::Near, input: &Input, json: bool) -> Result<Told, Trouble> {
     let of = if args.steps { Circle::of_steps } else { Circle::of_metres };
     let circle = of(args.x, args.y, args.radius)?;
     let opened = input.open(&args.yard)?;
     let cell = &opened.cell;
     let within = cell.within(circle.point, circle.radius);
-    Ok(Told::either(json, text(cell, circle, &within), value(cell, circle, &within)))
+    let told = Told::either(json, || text(cell, circle, &within), || value(cell, circle, &within));
+    Ok(circle.notes().into_iter().fold(told, Told::note))
 }
 
-fn text(cell: &Cell, circle: Circle, within: &[u32]) -> String {
+fn text(cell: &Cell, circle: Circle, within: &[usize]) -> String {
     let [x, y, r] = circle.metres();
     let mut t = format!("{} nodes within {r} m of {x} {y}\n", within.len());
     for &place in within {
@@ -90,15 +104,14 @@ fn text(cell: &Cell, circle: Circle, within: &[u32]) -> String {
     t
 }
 
-fn value(cell: &Cell, circle: Circle, within: &[u32]) -> Value {
+fn value(cell: &Cell, circle: Circle, within: &[usize]) -> String {
     let listed = |place: usize| {
         let (squared, far) = distance(cell, place, circle.point);
-        let mut v = nodes::value(cell, place);
-        v["squared_steps"] = json!(squared);
-        v["metres"] = json!(far);
-        v
+        nodes::object(cell, place, format!(",\"squared_steps\":{squared},\"metres\":{far:?}"))
     };
-    let places: Vec<Value> = within.iter().map(|&p| listed(p as usize)).collect();
-    let nearest = cell.nearest(circle.point).map(|n| listed(n.place));
-    json!({ "point_steps": circle.point, "radius_steps": circle.radius, "nodes": places, "nearest": nearest })
+    let places: Vec<String> = within.iter().map(|&p| listed(p as usize)).collect();
+    let nearest = cell.nearest(circle.point).map_or("null".into(), |n| listed(n.place));
+    let (Circle { point, radius, limited }, places) = (circle, places.join(","));
+    let asked = format!("\"point_steps\":{point:?},\"radius_steps\":{radius},\"limited\":{limited:?}");
+    format!("{{{asked},\"nodes\":[{places}],\"nearest\":{nearest}}}")
 }

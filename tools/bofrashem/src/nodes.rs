@@ -1,17 +1,35 @@
 //! What is shown of a node, in words and in JSON.
 use crate::sound::is_own;
 use bofrashem::{numbers, Cell, End, Link, Node, Walk};
-use serde_json::{json, Value};
 use std::collections::HashMap;
+use std::fmt;
 
 /// The stored steps of a node: quarters of a metre along x and y, thirty-seconds along z.
 pub fn steps(node: &Node) -> [i16; 3] {
     numbers::quantise(node.position)
 }
 
+/// Metres with two digits behind the point, as `{:.2}` has them. Stored ones are 32nds, which whole numbers say sooner:
+/// a walk's text has many.
+struct Metres(f32);
+
+impl fmt::Display for Metres {
+    fn fmt(&self, f: &mut fmt::Formatter<'_>) -> fmt::Result {
+        let steps = self.0 * 32.0;
+        if steps.fract() != 0.0 || steps.abs() > 1e6 || (steps == 0.0 && steps.is_sign_negative()) {
+            return write!(f, "{:.2}", self.0);
+        }
+        let eighths = steps.abs() as u32 * 25;
+        // a half goes to the even neighbour
+        let hundredths = eighths / 8 + (eighths % 8 + eighths / 8 % 2 > 4) as u32;
+        let sign = if steps < 0.0 { "-" } else { "" };
+        write!(f, "{sign}{}.{:02}", hundredths / 100, hundredths % 100)
+    }
+}
+
 /// Metres, as far as they are stored.
 pub fn metres([x, y, z]: [f32; 3]) -> String {
-    format!("{x:.2} {y:.2} {z:.2}")
+    format!("{} {} {}", Metres(x), Metres(y), Metres(z))
 }
 
 /// What a node is called in words; a link that has no target here has no node.
@@ -24,37 +42,30 @@ pub fn kind(node: &Node) -> &'static str {
     }
 }
 
-/// The kinds that `src/ynd.rs` names (the upper five bits of flags1).
-pub fn special(node: &Node) -> Option<&'static str> {
-    Some(match node.special() {
-        2 => "parking space",
-        10 => "pedestrian road crossing",
-        14 => "pedestrian assisted movement",
-        15 => "traffic light stop",
-        16 => "stop sign",
-        17 => "caution",
-        18 => "pedestrian road crossing, no wait",
-        19 => "emergency vehicles only",
-        20 => "off-road junction",
-        _ => return None,
-    })
+/// "place 6 node 6 at 8.00 6.00 1.00 (road)".
+pub struct Line<'a>(&'a Cell, usize);
+
+pub fn line(cell: &Cell, place: usize) -> Line<'_> {
+    Line(cell, place)
 }
 
-/// "place 6 node 6 at 8.00 6.00 1.00 (road)".
-pub fn line(cell: &Cell, place: usize) -> String {
-    match cell.nodes().get(place) {
-        Some(n) => format!("place {place} node {} at {} ({})", n.node_id, metres(n.position), kind(n)),
-        None => format!("place {place}"),
+impl fmt::Display for Line<'_> {
+    fn fmt(&self, f: &mut fmt::Formatter<'_>) -> fmt::Result {
+        let Line(cell, place) = self;
+        let Some(n) = cell.nodes().get(*place) else { return write!(f, "place {place}") };
+        let [x, y, z] = n.position.map(Metres);
+        write!(f, "place {place} node {} at {x} {y} {z} ({})", n.node_id, kind(n))
     }
 }
 
-/// The same in JSON.
-pub fn value(cell: &Cell, place: usize) -> Value {
-    let Some(n) = cell.nodes().get(place) else { return json!({ "place": place }) };
-    json!({
-        "place": place, "node": n.node_id, "area": n.area_id, "street": n.street_name, "position": n.position,
-        "steps": steps(n), "flags": n.flags, "kind": kind(n), "links": n.link_count(),
-    })
+/// The same as a JSON object, with more names behind its own, each after a comma. It is text, since a walk may visit
+/// many: a step of a position is a 32nd at least, so that its digits are those of the number.
+pub fn object(cell: &Cell, place: usize, more: impl fmt::Display) -> String {
+    let Some(n) = cell.nodes().get(place) else { return format!("{{\"place\":{place}{more}}}") };
+    let (steps, kind, links) = (steps(n), kind(n), n.link_count());
+    let head = format!("\"place\":{place},\"node\":{},\"area\":{}", n.node_id, n.area_id);
+    let of_node = format!("\"street\":{},\"position\":{:?},\"steps\":{steps:?}", n.street_name, n.position);
+    format!("{{{head},{of_node},\"flags\":{:?},\"kind\":\"{kind}\",\"links\":{links}{more}}}", n.flags)
 }
 
 /// How many nodes of each kind: road, ped, and how many of either are posts.
@@ -92,6 +103,20 @@ pub fn outside(cell: &Cell, area: u32) -> usize {
     cell.nodes().iter().filter(|n| numbers::cell_for_position(n.position[0], n.position[1]) != own).count()
 }
 
+/// Whether each node's number is its place, as after renumbering: then a number is found at once.
+pub fn numbers_are_places(cell: &Cell) -> bool {
+    cell.nodes().iter().enumerate().all(|(place, n)| n.node_id as usize == place)
+}
+
+/// Old places by new ones, where these are the new places by old ones.
+pub fn inverse(new: &[usize]) -> Vec<usize> {
+    let mut old = vec![0; new.len()];
+    for (was, &is) in new.iter().enumerate() {
+        old[is as usize] = was;
+    }
+    old
+}
+
 /// Where a link leads.
 #[derive(Clone, Copy, PartialEq, Eq, Debug)]
 pub enum Target {
@@ -122,7 +147,7 @@ enum Found {
 /// A renumbered copy: nodes' new places by their old ones, and the other way round.
 struct Renumbered {
     cell: Cell,
-    new: Vec<u32>,
+    new: Vec<usize>,
     old: Vec<usize>,
 }
 
@@ -130,9 +155,8 @@ impl<'a> Targets<'a> {
     /// A number that isn't its node's place is looked for in the whole list. In a sound yard a renumbered copy, whose
     /// numbers are places, leads to the same nodes (demand 3).
     pub fn new(cell: &'a Cell) -> Targets<'a> {
-        let in_order = cell.nodes().iter().enumerate().all(|(place, n)| n.node_id as usize == place);
         let found = match renumbered(cell) {
-            _ if in_order => Found::ByWalk,
+            _ if numbers_are_places(cell) => Found::ByWalk,
             Some(copy) if cell.is_sound() => Found::InCopy(copy),
             _ => Found::ByIndex(index(cell)),
         };
@@ -177,11 +201,7 @@ fn looked_up(cell: &Cell, index: &HashMap<u16, usize>, link: &Link) -> Target {
 fn renumbered(cell: &Cell) -> Option<Renumbered> {
     let mut copy = cell.clone();
     let new = copy.renumber().ok()?;
-    let mut old = vec![0; new.len()];
-    for (was, &is) in new.iter().enumerate() {
-        old[is as usize] = was;
-    }
-    Some(Renumbered { cell: copy, new, old })
+    Some(Renumbered { cell: copy, old: inverse(&new), new })
 }
 
 /// Where link k of the node at a place leads.
@@ -196,6 +216,15 @@ fn led(cell: &Cell, place: usize, k: usize) -> Target {
 #[cfg(test)]
 mod tests {
     use super::*;
+
+    #[test]
+    fn metres_as_two_digits_are_written() {
+        let stored = (-32_768..=32_767).map(|k| k as f32 / 32.0);
+        let far = (-32_768..=32_767).map(|k| k as f32 / 4.0);
+        for v in stored.chain(far).chain([0.1, -0.004, -0.0, 1e9, f32::NAN, f32::INFINITY]) {
+            assert_eq!(Metres(v).to_string(), format!("{v:.2}"));
+        }
+    }
 
     #[test]
     fn a_renumbered_copy_leads_to_the_same_nodes() {

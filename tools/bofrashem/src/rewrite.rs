@@ -3,6 +3,8 @@ use crate::cli::{Form, Rewrite};
 use crate::container;
 use crate::fault::{shown, Trouble};
 use crate::input::{Input, Opened};
+use crate::kinds::Kind;
+use crate::output::Out;
 use crate::Told;
 use serde_json::{json, Value};
 
@@ -34,15 +36,16 @@ fn write(
     value["form"] = json!(form);
     value["bytes"] = json!(bytes.len());
     value["nodes"] = json!(opened.cell.nodes().len());
-    Told::to(&args.output, bytes, Told::either(json, text, value))
+    let out = Out { file: &args.output, kind: Kind::Yard, force: args.over.force };
+    Told::to(out, bytes, Told::either(json, || text, || value))
 }
 
-pub fn convert(args: &Rewrite, input: &mut Input, json: bool) -> Result<Told, Trouble> {
+pub fn convert(args: &Rewrite, input: &Input, json: bool) -> Result<Told, Trouble> {
     let opened = input.open(&args.yard)?;
     write(&opened, args, String::new(), json!({}), json)
 }
 
-pub fn renumber(args: &Rewrite, input: &mut Input, json: bool) -> Result<Told, Trouble> {
+pub fn renumber(args: &Rewrite, input: &Input, json: bool) -> Result<Told, Trouble> {
     let mut opened = input.open(&args.yard)?;
     let before: Vec<u16> = opened.cell.nodes().iter().map(|n| n.node_id).collect();
     let places = match opened.cell.renumber() {
@@ -50,7 +53,7 @@ pub fn renumber(args: &Rewrite, input: &mut Input, json: bool) -> Result<Told, T
         Err(r) => return Err(opened.refused(r)),
     };
     let moved = places.iter().enumerate().filter(|&(old, &new)| old != new as usize).count();
-    let renamed = places.iter().zip(&before).filter(|&(&new, &number)| new != number as u32).count();
+    let renamed = places.iter().zip(&before).filter(|&(&new, &number)| new != number as usize).count();
     let said = format!(", {moved} at another place, {renamed} with another number");
     let told = write(
         &opened,

@@ -2,6 +2,8 @@
 use crate::cli;
 use crate::fault::{shown, Fault, Trouble};
 use crate::input::Input;
+use crate::kinds::Kind;
+use crate::output::Out;
 use crate::walks;
 use crate::Told;
 use bofrashem::{Round, VersionedRound};
@@ -32,12 +34,14 @@ fn value(r: &VersionedRound) -> Value {
 pub fn make(args: &cli::Make, json: bool) -> Result<Told, Trouble> {
     let round =
         VersionedRound { area: args.area, round: Round { start: args.start, choices: args.choices.clone() } };
-    let bytes = round.to_bytes().map_err(|r| Fault::Refused(r).of(&args.output))?;
+    let many = || format!("{} choices: a round file holds at most 65535", args.choices.len());
+    let bytes = round.to_bytes().map_err(|r| Fault::said(r, many()).of(&args.output))?;
     let text = format!("{}: {} bytes, {}\n", shown(&args.output), bytes.len(), line(&round));
-    Told::to(&args.output, bytes, Told::either(json, text, value(&round)))
+    let out = Out { file: &args.output, kind: Kind::Round, force: args.over.force };
+    Told::to(out, bytes, Told::either(json, || text, || value(&round)))
 }
 
-pub fn show(args: &cli::Show, input: &mut Input, json: bool) -> Result<Told, Trouble> {
+pub fn show(args: &cli::Show, input: &Input, json: bool) -> Result<Told, Trouble> {
     let (round, _) = input.round(&args.round)?;
     let mut t = line(&round);
     t += "\nchoices";
@@ -46,10 +50,10 @@ pub fn show(args: &cli::Show, input: &mut Input, json: bool) -> Result<Told, Tro
         let _ = write!(t, " {choice}");
     }
     t.push('\n');
-    Ok(Told::either(json, t, value(&round)))
+    Ok(Told::either(json, || t, || value(&round)))
 }
 
-pub fn follow(args: &cli::Follow, input: &mut Input, json: bool) -> Result<Told, Trouble> {
+pub fn follow(args: &cli::Follow, input: &Input, json: bool) -> Result<Told, Trouble> {
     let opened = input.open(&args.yard)?;
     let (round, _) = input.round(&args.round)?;
     let walk = opened.follow(&round, &args.round)?;

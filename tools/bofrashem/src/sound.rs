@@ -4,8 +4,8 @@ use serde_json::{json, Value};
 use std::collections::HashMap;
 use std::fmt;
 
-/// The first thing that makes a yard unsound, in document 01's order: one area, numbers differ, own links and own refs
-/// name a node.
+/// The first thing that makes a yard unsound, in the order of docs/FORMAT.md, "Soundness": one area, numbers differ,
+/// own links and own refs name a node.
 #[derive(Debug, Clone, Copy, PartialEq, Eq)]
 pub enum Reason {
     OtherArea { node: usize, area: u16, own: u16 },
@@ -45,7 +45,8 @@ impl Reason {
     }
 }
 
-/// Whether an area is the cell's own: equal to it or, on an island, without the island's bit (T-07).
+/// Whether an area is the cell's own: equal to it or, on an island, without the island's bit (docs/FORMAT.md,
+/// "Islands").
 pub fn is_own(own: u16, area: u16) -> bool {
     area == own || (numbers::is_island_area(own as u32) && area == own & !1024)
 }

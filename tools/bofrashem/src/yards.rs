@@ -82,8 +82,12 @@ impl FromArgMatches for Yards {
 impl Args for Pair {
     fn augment_args(command: Command) -> Command {
         command
-            .arg(path("a", "A", "A system section or a .ynd container; - is standard input"))
-            .arg(path("b", "B", "Another one"))
+            .arg(path(
+                "a",
+                "A",
+                "A system section or a .ynd container, - is standard input; or a folder of them",
+            ))
+            .arg(path("b", "B", "Another one, or another folder"))
             .arg(graphics())
     }
 

@@ -21,7 +21,8 @@ fn info_in_words_and_in_json() {
         (Some(34), Some(2), Some(489))
     );
     assert_eq!((v["grid_cell"].to_string(), v["sound"].as_bool()), ("[9,15]".into(), Some(true)));
-    assert_eq!(v["bounds"]["min"].to_string(), "[-40.0,-25.0,0.0]");
+    assert_eq!(v["nodes_outside_grid_cell"].as_u64(), Some(0));
+    assert_eq!(v["bounds"]["min"].to_string(), "[-3368.0,-281.0,0.0]");
 }
 
 #[test]
@@ -100,7 +101,7 @@ fn two_sections_of_several_yards() {
 }
 
 #[test]
-fn walks_end_as_document_01_says() {
+fn every_walk_ends_in_its_way() {
     let dock = sample("dock.section");
     let v = run(&["walk", &dock, "6", "0", "1", "1", "1", "--json"]).json();
     assert_eq!(
@@ -121,14 +122,14 @@ fn walks_end_as_document_01_says() {
 #[test]
 fn near_in_metres_and_steps() {
     let dock = sample("dock.section");
-    let v = run(&["near", &dock, "8", "0", "3", "--json"]).json();
+    let v = run(&["near", &dock, "-3320", "-256", "3", "--json"]).json();
     let places: Vec<u64> =
         v["nodes"].as_array().unwrap().iter().map(|n| n["place"].as_u64().unwrap()).collect();
     assert_eq!(places, [2, 8, 7, 9]);
-    assert_eq!(run(&["near", &dock, "--steps", "32", "0", "12", "--json"]).json(), v);
-    let none = run(&["near", &dock, "-100", "0", "1"]);
+    assert_eq!(run(&["near", &dock, "--steps", "-13280", "-1024", "12", "--json"]).json(), v);
+    let none = run(&["near", &dock, "-3428", "-256", "1"]);
     assert!(
-        none.text().starts_with("0 nodes within 1 m of -100 0\nthe nearest: 100.00 m place 0"),
+        none.text().starts_with("0 nodes within 1 m of -3428 -256\nthe nearest: 100.00 m place 0"),
         "{}",
         none.text()
     );
@@ -136,6 +137,14 @@ fn near_in_metres_and_steps() {
         assert_eq!(run(&["near", &dock, bad[0], bad[1], bad[2]]).status, 2, "{bad:?}");
     }
     assert_eq!(run(&["near", &dock, "--steps", "0.5", "0", "1"]).status, 2);
+    // a coordinate that can't be stored is limited, and that is said
+    assert_eq!(none.err, "");
+    let far = run(&["near", &dock, "1e9", "0", "5"]);
+    assert_eq!(far.err, "bofrashem: X is limited to what is stored, -8192 to 8191.75 m\n");
+    let v = run(&["near", &dock, "8191.75", "-8192.25", "5", "--json"]).json();
+    assert_eq!(v["limited"].to_string(), "[false,true]");
+    let drawn = run(&["draw", &dock, "--near", "0", "9000", "5", "-o", &Folder::new().path("a.svg")]);
+    assert!(drawn.err.contains("Y is limited"), "{}", drawn.err);
 }
 
 #[test]
@@ -148,7 +157,10 @@ fn the_short_way_is_a_round() {
     assert_eq!((followed["end"]["how"].as_str(), followed["metres"].as_u64()), (Some("done"), Some(90)));
     assert_eq!(followed["visited"][7]["place"].as_u64(), Some(9));
     let none = run(&["way", &sample("dock.section"), "0", "6"]);
-    assert_eq!((none.status, none.err.contains("refused 17 0: no walk joins the two places")), (1, true));
+    assert_eq!(
+        (none.status, none.err.contains("refused 17 0: no walk leads from place 0 to place 6")),
+        (1, true)
+    );
     let other = run(&["round", "make", "0", "1", "--area", "7", "-o", &round]);
     assert_eq!(other.status, 0);
     assert!(run(&["round", "follow", &hall, &round]).err.contains("refused 19"));
@@ -233,14 +245,17 @@ fn check_says_a_line_for_each_bad_file() {
     let short = folder.file("short", &[0; 111]);
     let said = run(&["check", &sample("dock.section"), &unsound, &short, &folder.path("none")]);
     let lines: Vec<&str> = said.text().lines().collect();
-    assert_eq!((said.status, lines.len()), (1, 3));
+    assert_eq!((said.status, lines.len()), (3, 3));
     assert!(lines[0].contains("mixed: unsound: link 0 of node 4"), "{}", lines[0]);
     assert!(lines[1].contains("short: refused 1 0: 1 to 111 system bytes"), "{}", lines[1]);
     assert!(lines[2].contains("none: can't be read"), "{}", lines[2]);
+    // what can't be read is not what is wrong with a yard
+    assert_eq!(run(&["check", &sample("dock.section"), &unsound, &short]).status, 1);
     let good = run(&["check", &sample("dock.section"), &sample("hall.section")]);
     assert_eq!((good.status, good.out.len(), good.err.len()), (0, 0, 0));
-    let v = run(&["check", "--json", &short]).json();
-    assert_eq!((v["checked"].as_u64(), v["bad"].as_u64()), (Some(1), Some(1)));
+    let v = run(&["check", "--json", &short, &folder.path("none")]).json();
+    let counts = ["checked", "bad", "unread"].map(|name| v[name].as_u64().unwrap());
+    assert_eq!(counts, [2, 2, 1]);
     assert_eq!(v["files"][0]["number"].as_u64(), Some(1));
 }
 
@@ -253,8 +268,12 @@ fn help_for_each_command_and_the_man_page() {
         ["info", "check", "walk", "near", "way", "round", "print", "renumber", "convert", "diff", "draw"]
     {
         assert!(help.text().contains(command) && man.text().contains(command), "{command}");
-        assert_eq!(run(&[command, "--help"]).status, 0);
+        let of_one = run(&[command, "--help"]);
+        assert_eq!((of_one.status, of_one.out), (0, run(&["help", command]).out));
     }
+    assert_eq!(help.out, run(&["help"]).out);
+    assert_eq!(run(&["help", "round", "make"]).out, run(&["round", "make", "--help"]).out);
+    assert!(!man.text().contains("bofrashem help"));
     for shell in ["bash", "zsh", "fish"] {
         assert!(run(&["completions", shell]).out.len() > 1000);
     }
@@ -281,7 +300,7 @@ fn slips_in_json() {
         assert!(text.contains(part) && !text.contains('\n'), "{text}");
     }
     // behind -- it is a file's name
-    assert!(run(&["info", "--", "--json", "x"]).err.starts_with("error: "));
+    assert!(run(&["walk", "--", "--json", "x"]).err.starts_with("error: "));
 }
 
 /// Every name in an answer, whatever it is in.
@@ -302,13 +321,15 @@ fn names(v: &Value, all: &mut Vec<String>) {
 fn the_page_has_every_name_in_json() {
     let (folder, hall, round) = (Folder::new(), sample("hall.section"), sample("hall.round"));
     let bad = folder.file("mixed", &mixed().write().unwrap());
-    let (out, svg) = (folder.path("o.ynd"), folder.path("o.svg"));
-    let answers: [&[&str]; 13] = [
+    let (out, svg, made) = (folder.path("o.ynd"), folder.path("o.svg"), folder.path("o.round"));
+    let other = folder.file("other", &common::rows(3).write().unwrap());
+    let pictures = folder.path("both.svg");
+    let answers: [&[&str]; 17] = [
         &["info", &hall],
         &["info", &bad],
         &["check", &hall, &bad],
         &["walk", &bad, "0", "1"],
-        &["near", &hall, "0", "0", "20"],
+        &["near", &hall, "-3328", "-256", "20"],
         &["way", &hall, "0", "5"],
         &["round", "show", &round],
         &["round", "follow", &hall, &round],
@@ -316,6 +337,10 @@ fn the_page_has_every_name_in_json() {
         &["renumber", &hall, &out],
         &["diff", &hall, &bad],
         &["draw", &hall, "-o", &svg],
+        &["draw", &hall, &other, "-o", &pictures],
+        &["set", &hall, &other],
+        &["set", &hall, &other, "--round", &round],
+        &["round", "make", "0", "-o", &made],
         &["info", &out],
     ];
     let mut all = Vec::new();

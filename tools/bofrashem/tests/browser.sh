@@ -1,22 +1,13 @@
-# A headless Chromium for the tests that source this; they are left out where there is none, or where it does not run.
-chromium=$(command -v chromium-headless-shell || command -v chromium) || {
-    echo "$(basename "$0") left out: Chromium is missing (apt-get install chromium-headless-shell)"
+# A real browser for the tests that source this, by its driver (page/tests); they are left out where there is none.
+page_tests=$(cd "$(dirname "${BASH_SOURCE[0]}")/../../../page/tests" && pwd)
+missing=
+command -v chromium >/dev/null || missing+=' chromium'
+command -v chromedriver >/dev/null || missing+=' chromium-driver'
+/usr/bin/python3 -c 'import selenium' 2>/dev/null || missing+=' python3-selenium'
+if [ -n "$missing" ]; then
+    echo "$(basename "$0") left out: apt-get install$missing"
     exit 0
+fi
+embedded() {
+    /usr/bin/python3 "$page_tests/embedded.py" "$@"
 }
-dom() {
-    timeout 60 "$chromium" --headless --no-sandbox --disable-gpu --virtual-time-budget=5000 --window-size=1240,640 \
-        --dump-dom "$1" 2>/dev/null </dev/null
-}
-# said PAGE SCRIPT: what the script, put behind the page, leaves in its title
-said() {
-    local tried
-    tried=$(mktemp --suffix=.html)
-    sed '/<\/body>/,$d' "$1" >"$tried"
-    { echo '<script>'; cat "$2"; echo '</script></body></html>'; } >>"$tried"
-    dom "file://$tried" | sed -n 's/.*<title>\(\[.*\]\)<\/title>.*/\1/p' | head -n 1
-    rm -f "$tried"
-}
-case $(dom 'data:text/html,<p>here</p>') in
-*'<p>here</p>'*) ;;
-*) echo "$(basename "$0") left out: $chromium does not run here"; exit 0 ;;
-esac

@@ -21,13 +21,13 @@ impl Files {
 }
 
 /// Command lines; "FILE" stands for the yard, with its graphics section if it has one.
-const COMMANDS: [&str; 20] = [
+const COMMANDS: [&str; 23] = [
     "info FILE",
     "info --json FILE",
     "check FILE",
     "check FILE FILE",
     "walk FILE 0 0 0 1 255 0",
-    "near FILE 0 0 300",
+    "near FILE -3328 -256 300",
     "way FILE 0 3",
     "round show ROUND",
     "round follow FILE ROUND",
@@ -38,29 +38,40 @@ const COMMANDS: [&str; 20] = [
     "diff FILE FILE",
     "set FILE",
     "set FILE --walk 0 0 0 1 2",
-    "draw FILE -o OUT.svg --near 0 0 100",
+    "set FILE --round ROUND",
+    "info FILE FILE",
+    "draw FILE OTHER --round ROUND -o OUT.svg",
+    "draw FILE -o OUT.svg --near -3328 -256 100",
     "draw FILE -o OUT.svg --round ROUND",
     "draw FILE -o OUT.html --way 0 1 --round ROUND",
     "draw FILE -o OUT.html --json",
 ];
 
-/// Status 0 or 1, and words where it is 1. Whether the yard is read.
+/// Status 0 or 1, of `diff` 0 or 3, and words where it isn't 0. Whether the yard is read.
 fn all_answer(files: &Files, folder: &Folder) -> bool {
     let mut yard = vec![folder.file("yard", &files.yard)];
     if let Some(graphics) = &files.graphics {
         yard.extend(["--graphics".into(), folder.file("graphics", graphics)]);
     }
     let (round, out) = (folder.file("round", &files.round), folder.path("o"));
+    let other = folder.file("other", &rows(3).write().unwrap());
     let answer = |line: &str| {
         let word = |w: &str| match w {
             "FILE" => yard.clone(),
             "ROUND" => vec![round.clone()],
+            "OTHER" => vec![other.clone()],
             w => vec![w.replace("OUT", &out)],
         };
         let words: Vec<String> = line.split(' ').flat_map(word).collect();
         let said = run(&words.iter().map(String::as_str).collect::<Vec<_>>());
         let in_words = !said.err.is_empty() || !said.out.is_empty();
-        assert!(said.status == 0 || (said.status == 1 && in_words), "{line}: {} {}", said.status, said.err);
+        let wrong = if line.starts_with("diff") { 3 } else { 1 };
+        assert!(
+            said.status == 0 || (said.status == wrong && in_words),
+            "{line}: {} {}",
+            said.status,
+            said.err
+        );
         said.status
     };
     for line in COMMANDS {
@@ -77,11 +88,11 @@ fn a_folder_and_a_missing_file() {
     let folder = Folder::new();
     for file in [folder.path(""), folder.path("none")] {
         let said = run(&["info", &file]);
-        assert_eq!(said.status, 1);
+        assert_eq!(said.status, 3);
         assert!(said.err.contains("can't be read"), "{}", said.err);
     }
     let said = run(&["draw", &sample("dock.section"), "-o", &folder.path("none/x.svg")]);
-    assert_eq!((said.status, said.err.contains("can't be written")), (1, true));
+    assert_eq!((said.status, said.err.contains("can't be written")), (3, true));
     assert_eq!(run(&["diff", "-", "-"]).status, 2);
 }
 
@@ -90,7 +101,7 @@ fn every_length_around_the_root() {
     for n in [1, 2, 15, 16, 17, 110, 111, 112, 113, 65_536, 65_537] {
         let said = run_with(&vec![0; n], &["info", "-"]);
         assert_eq!(said.status, (n < 112) as i32, "{n}");
-        assert!(n >= 112 || said.err.contains("refused 1 0: 1 to 111 system bytes"));
+        assert!(n >= 112 || said.err.contains(&format!("refused 1 0: 1 to 111 system bytes ({n} bytes)")));
     }
     let said = run_with(&vec![0; 16_777_217], &["info", "-"]);
     assert!(

@@ -1,5 +1,6 @@
 //! Pictures: their structure, not their pixels.
 mod common;
+use bofrashem::{Cell, Link};
 use common::{mixed, root, rows, run, sample, Folder};
 
 /// The value of an attribute of the group with this id.
@@ -142,23 +143,30 @@ fn every_kind_of_node_and_link_is_told_apart() {
     assert_eq!((counted(&svg, "near", "data-count"), counted(&svg, "junctions", "data-count")), (1, 1));
 }
 
+/// The page of page/, with the yard's files in it as they came; where it isn't built, words that say so.
 #[test]
 fn a_page_stands_alone() {
     let folder = Folder::new();
-    let out = folder.path("hall.html");
-    run(&["draw", &sample("hall.section"), "--round", &sample("hall.round"), "-o", &out]);
+    let (hall, round, out) = (sample("hall.section"), sample("hall.round"), folder.path("hall.html"));
+    let said = run(&["draw", &hall, "--round", &round, "--way", "0", "9", "-o", &out]);
+    if said.status == 1 && said.err.contains("the page is not in this program") {
+        return;
+    }
+    assert_eq!(said.status, 0, "{}", said.err);
     let page = std::fs::read_to_string(&out).unwrap();
     assert!(page.starts_with("<!DOCTYPE html>"));
-    for outside in ["src=", "href=", "@import", "url(http", "https://"] {
+    for outside in [" src=", " href=", "@import", "url(", "https://", "http://", "<!-- embedded -->"] {
         assert!(!page.contains(outside), "{outside}");
     }
-    assert_eq!(page.matches("http://").count(), page.matches("http://www.w3.org/2000/svg").count());
-    assert!(!page.contains("@DATA@") && !page.contains("@PICTURE@") && !page.contains("@SCRIPT@"));
-    let data = page.split("const yard = ").nth(1).unwrap().split(";</script>").next().unwrap();
-    let v: serde_json::Value = serde_json::from_str(data).unwrap();
-    assert_eq!(v["nodes"].as_array().map(Vec::len), Some(18));
-    assert_eq!(v["tracks"][0]["places"].to_string(), "[0,1,2,3,4,16,17,8]");
-    assert_eq!(counted(&page, "nodes", "data-count"), 18);
+    assert!(page.contains("default-src 'none'"));
+    let embedded: Vec<&str> = page.split("<script class=\"embedded\"").skip(1).collect();
+    assert_eq!(embedded.len(), 2);
+    for (part, name, kind) in [(embedded[0], "hall.section", "system"), (embedded[1], "hall.round", "round")]
+    {
+        let named = format!("data-name=\"{name}\" data-kind=\"{kind}\"");
+        assert!(part.contains(&named) && part.contains("H4sI"), "{}", &part[..200]);
+    }
+    assert!(page.contains("{\"near\":null,\"way\":[0,9]}"));
 }
 
 #[test]
@@ -169,7 +177,9 @@ fn an_empty_yard_and_a_large_one_are_drawn() {
     {
         let (file, svg, html) = (folder.file(name, &bytes), folder.path("a.svg"), folder.path("a.html"));
         assert_eq!(run(&["draw", &file, "-o", &svg]).status, 0, "{name}");
-        assert_eq!(run(&["draw", &file, "-o", &html]).status, 0, "{name}");
+        let said = run(&["draw", &file, "-o", &html]);
+        let unbuilt = said.status == 1 && said.err.contains("the page is not in this program");
+        assert!(said.status == 0 || unbuilt, "{name}: {}", said.err);
         well_formed(&std::fs::read_to_string(&svg).unwrap());
     }
 }
@@ -190,4 +200,45 @@ fn to_be_looked_at() {
     let folder = Folder::new();
     let file = folder.file("mixed.section", &mixed().write().unwrap());
     assert_eq!(run(&["draw", &file, "-o", &out, "--near", "-3280", "-250", "14"]).status, 0);
+}
+
+/// A set is one picture: all its nodes and links, those that cross as lines, and a round that crosses.
+#[test]
+fn a_set_is_drawn() {
+    let folder = Folder::new();
+    // two cells side by side, linked both ways over the edge between them; one link leaves the set
+    let cell = |area: u16, x: f32, links: &[(usize, u16, u16)]| {
+        let mut c = Cell::new();
+        for k in 0..3 {
+            c.add_node(area, [x + 10.0 * k as f32, -200.0, 0.0]).unwrap();
+        }
+        for &(from, area, to) in links {
+            c.add_link(from, Link { length: 10, ..Link::to(area, to) }).unwrap();
+        }
+        c.write().unwrap()
+    };
+    let west = cell(489, -3102.0, &[(0, 489, 1), (1, 489, 0), (1, 489, 2), (2, 489, 1), (2, 490, 0)]);
+    let east = cell(490, -3070.0, &[(0, 490, 1), (1, 490, 0), (1, 490, 2), (0, 489, 2), (2, 491, 5)]);
+    let (a, b, round) = (folder.file("w", &west), folder.file("e", &east), folder.path("r"));
+    run(&["round", "make", "0", "0", "1", "1", "0", "1", "--area", "489", "-o", &round]);
+    let out = folder.path("set.svg");
+    let v = run(&["draw", &a, &b, "--round", &round, "--near", "-3086", "-200", "10", "-o", &out, "--json"])
+        .json();
+    let counts = ["nodes", "links", "steps", "near", "members"].map(|name| v[name].as_u64().unwrap());
+    assert_eq!(counts, [6, 10, 6, 2, 2], "{v}");
+    let svg = std::fs::read_to_string(&out).unwrap();
+    well_formed(&svg);
+    assert_eq!((counted(&svg, "links", "data-count"), counted(&svg, "links", "data-lines")), (10, 5));
+    // of the links over the edge a pair, and one stub that leaves the set: a line and its head
+    assert_eq!([strokes(&svg, "link\""), strokes(&svg, "link one"), strokes(&svg, "left")], [4, 1, 2]);
+    assert_eq!((counted(&svg, "round", "data-steps"), strokes(&svg, "track round")), (6, 5));
+    assert!(svg.contains("2 cells · areas 489, 490 · 6 nodes · 10 links"));
+    let edges = svg.split("id=\"edge\"").nth(1).unwrap().split("/>").next().unwrap();
+    assert_eq!(edges.matches('M').count(), 2);
+    // alone, the round leaves, and the link over the edge is a stub
+    let alone = run(&["draw", &a, "--round", &round, "-o", &out, "--json"]).json();
+    assert_eq!((alone["steps"].as_u64(), alone["members"].as_u64()), (Some(3), Some(1)));
+    let way = run(&["draw", &a, &b, "--way", "0", "1", "-o", &out]);
+    assert_eq!((way.status, way.err.contains("--way is of one yard")), (2, true), "{}", way.err);
+    assert!(run(&["draw", &a, &a, "-o", &out]).err.contains("refused 18 0"));
 }

@@ -22,7 +22,7 @@ while read -r name _ _ _ _ _ from to; do
     round=$("$tool" round follow --json "$samples/$name.section" "$folder/$name.round")
     way=$("$tool" way --json "$samples/$name.section" "$from" "$to")
     expected="[$(number nodes "$info"),$(number links "$info"),$(often step "$round"),$(often place "$way"),true]"
-    got=$(said "$folder/$name.html" "$here/counts.js") || true
+    got=$(embedded counts "$folder/$name.html" </dev/null) || true
     if [ "$got" != "$expected" ]; then
         echo "pictures.sh: $name: expected $expected, got $got"
         exit 1

@@ -28,7 +28,7 @@ has 'a round in a pipe' 'end done' "$("$tool" round make 6 0 1 1 1 -o - | "$tool
 "$tool" draw "$samples/yard.section" -o - | head -c 100 >"$folder/head" 2>"$folder/err"
 is 'a reader that goes away' '0 ' "${PIPESTATUS[0]} $(cat "$folder/err")"
 "$tool" draw "$samples/yard.section" -o - >/dev/full 2>"$folder/err"
-is 'a full disk' 1 $?
+is 'a full disk' 3 $?
 has 'a full disk, in words' "can't be written" "$(cat "$folder/err")"
 
 for words in --help man 'completions zsh' "info $samples/dock.section" "--json near $samples/yard.section 0 0 900"; do
@@ -39,7 +39,7 @@ done
 "$tool" info "$samples/dock.section" >&-
 is 'standard output closed' 0 $?
 "$tool" info "$folder/none" 2>&-
-is 'standard error closed' 1 $?
+is 'standard error closed' 3 $?
 is 'standard input closed' 0 "$("$tool" info - <&- >/dev/null; echo $?)"
 
 # exit status and words
@@ -47,7 +47,7 @@ status() { "$@" >"$folder/out" 2>"$folder/err"; echo $?; }
 is 'accepted' 0 "$(status "$tool" info "$samples/dock.section")"
 is 'no arguments' 2 "$(status "$tool")"
 is 'no such command' 2 "$(status "$tool" fly)"
-is 'a folder' 1 "$(status "$tool" info "$folder")"
+is 'a folder' 3 "$(status "$tool" info "$folder")"
 has 'a folder, in words' 'Is a directory' "$(cat "$folder/err")"
 is 'an empty file' 0 "$(status "$tool" info /dev/null)"
 has 'an empty file, in words' 'not drawn yet' "$(cat "$folder/out")"
@@ -56,7 +56,8 @@ is 'print of 65,537 bytes' 1 "$(status "$tool" print "$folder/long" "$samples/do
 is 'print of 65,537 bytes, its line' 'bad input' "$(cat "$folder/out")"
 head -c 100 "$samples/dock.section" >"$folder/short"
 is 'too short' 1 "$(status "$tool" info "$folder/short")"
-is 'too short, in words' "bofrashem: $folder/short: refused 1 0: 1 to 111 system bytes" "$(cat "$folder/err")"
+words="bofrashem: $folder/short: refused 1 0: 1 to 111 system bytes (100 bytes)"
+is 'too short, in words' "$words" "$(cat "$folder/err")"
 is 'too short, in JSON' 1 "$(status "$tool" --json info "$folder/short")"
 has 'too short, number in JSON' '"number":1,"place":0' "$(cat "$folder/err")"
 "$tool" convert "$samples/hall.section" "$folder/hall.ynd" >/dev/null
@@ -78,9 +79,51 @@ else
     as=("$tool")
 fi
 if [ ${#as[@]} -gt 0 ]; then
-    is 'no permission' 1 "$(status "${as[@]}" info "$folder/mine")"
+    is 'no permission' 3 "$(status "${as[@]}" info "$folder/mine")"
     has 'no permission, in words' 'Permission denied' "$(cat "$folder/err")"
 fi
+
+# a write that ends early leaves the old file whole: no room (a limit on a file's size), killed by the limit, killed at
+# any moment, a folder that takes no file
+whole() { cmp -s "$samples/hall.section" "$1"; is "$2 leaves the old file whole" 0 $?; }
+cp "$samples/hall.section" "$folder/old"
+is 'no room' 3 "$(trap '' XFSZ; ulimit -f 1; status "$tool" convert "$samples/yard.section" "$folder/old")"
+has 'no room, in words' "can't be written" "$(cat "$folder/err")"
+whole "$folder/old" 'no room'
+is 'no room leaves nothing else' '' "$(find "$folder" -name '.bofrashem-*')"
+{ (ulimit -f 1; ulimit -c 0; "$tool" convert "$samples/yard.section" "$folder/old"); killed=$?; } 2>/dev/null
+is "the limit kills" $((128 + 25)) $killed
+whole "$folder/old" 'the limit'
+rm -f "$folder"/.bofrashem-*
+"$tool" convert "$samples/yard.section" "$folder/large.ynd" >/dev/null
+cp "$folder/large.ynd" "$folder/other.ynd"
+torn=0 early=0
+for k in $(seq 60); do
+    cp "$samples/hall.section" "$folder/old"
+    "$tool" convert "$folder/large.ynd" "$folder/old" >/dev/null 2>&1 &
+    victim=$!
+    sleep "0.00$((k % 10))"
+    kill -9 $victim 2>/dev/null
+    wait $victim 2>/dev/null
+    if cmp -s "$samples/hall.section" "$folder/old"; then early=$((early + 1))
+    elif ! cmp -s "$samples/yard.section" "$folder/old"; then torn=$((torn + 1)); fi
+done
+is 'killed at any moment: torn files' 0 $torn
+echo "pipe.sh: killed 60 times while writing: $early times the old file stood, else the new one"
+mkdir "$folder/closed"
+cp "$samples/hall.section" "$folder/closed/old"
+chmod 666 "$folder/closed/old"
+chmod 555 "$folder/closed"
+if [ ${#as[@]} -gt 0 ]; then
+    is 'a folder that takes no file' 3 "$(status "${as[@]}" renumber "$samples/dock.section" "$folder/closed/old")"
+    has 'a folder that takes no file, in words' "can't be written: Permission denied" "$(cat "$folder/err")"
+    whole "$folder/closed/old" 'a folder that takes no file'
+    chmod 777 "$folder/closed"
+    chmod 444 "$folder/closed/old"
+    is 'a file that may not be written' 3 "$(status "${as[@]}" renumber "$samples/dock.section" "$folder/closed/old")"
+    whole "$folder/closed/old" 'a file that may not be written'
+fi
+is 'a device that is full' 3 "$(status "$tool" draw "$samples/dock.section" -o /dev/full)"
 
 # many files on no terminal: no bar, and a file name that is no UTF-8
 name=$(printf '%s/f\xff' "$folder")
@@ -119,7 +162,8 @@ if command -v rsvg-convert >/dev/null; then
     is 'one page' 1 "$(grep -ac '/Type /Page$\|/Type /Page[^s]' "$folder/hall.pdf")"
     is 'a picture' 0 "$(status "$tool" draw "$samples/dock.section" -o "$folder/dock.png")"
 fi
-is 'without rsvg-convert' 1 "$(PATH=/nowhere status "${pdf[@]}")"
+is 'without rsvg-convert' 3 "$(PATH=/nowhere status "${pdf[@]}")"
+has 'without rsvg-convert, in words' 'apt-get install librsvg2-bin' "$(cat "$folder/err")"
 
 # the man page and the completions
 if command -v groff >/dev/null; then
@@ -128,7 +172,7 @@ fi
 "$tool" completions bash | bash -n
 is 'completions' 0 $?
 
-# T-13: the proved program beside it, where it is built
+# the proved program beside it, where it is built
 same() {
     local n length
     n=$(stat -L -c %s -- "$1")

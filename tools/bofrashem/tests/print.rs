@@ -1,11 +1,11 @@
-//! `print` says what printround says (T-13), byte for byte.
+//! `print` says what printround says, byte for byte.
 mod common;
 use bofrashem::{Cell, Link, Round, VersionedRound};
 use common::{root, run, run_with, sample, Folder};
 
 /// What printround's own test gives it, and what it prints.
 #[test]
-fn t13s_worked_example() {
+fn the_worked_example() {
     let stdin = std::fs::read(root().join("crates/printround/stdin")).unwrap();
     let end = 4 + u32::from_le_bytes(stdin[..4].try_into().unwrap()) as usize;
     let folder = Folder::new();
@@ -73,7 +73,7 @@ fn refusals_are_a_number_alone() {
 
 /// The memory that the program lends, and the input that it takes.
 #[test]
-fn t13s_sizes() {
+fn what_the_program_lends() {
     assert_eq!(printed(&ring(1025).write().unwrap(), &round(0, 1, None), false), ("refused 7\n".into(), 1));
     assert!(printed(&ring(1025).write().unwrap(), &round(0, 1, None), true).0.ends_with("end done\n"));
     assert!(printed(&ring(1024).write().unwrap(), &round(0, 1, None), false).0.ends_with("end done\n"));

@@ -43,18 +43,26 @@ fn of_reading() {
         (number, place, at)
     };
     let at = |words: &str| Some(words.to_string());
-    assert_eq!(of(&[0; 100]), (1, 0, None));
+    assert_eq!(of(&[0; 100]), (1, 0, at("100 bytes")));
     assert_eq!(of(&vec![0; 16_777_217]), (2, 0, at("the system section")));
     let graphics = folder.file("g", &vec![0; 16_777_217]);
     let words = ["info", &sample("hall.section"), "--graphics", &graphics];
     assert_eq!((error(&words).0, error(&words).1), (2, 1));
     for (list, words) in LISTS.iter().enumerate() {
         let bad = hall(ADDRESSES[list], &0x5FFF_FFF0u32.to_le_bytes());
-        assert_eq!(of(&bad), (3, list as u64, at(words)));
+        let (number, place, said) = of(&bad);
+        let numbers = "bytes at address 0x5ffffff0; the system section has 2304 bytes";
+        assert_eq!((number, place), (3, list as u64));
+        // one address that is no address at all is damage, and the file a yard all the same
+        let (number, place, other) = of(&hall(ADDRESSES[list], &0x9FFF_FFF0u32.to_le_bytes()));
+        assert!((number, place) == (3, list as u64) && other.is_some_and(|s| s.starts_with(words)));
+        assert!(said.as_ref().is_some_and(|s| s.starts_with(words) && s.ends_with(numbers)), "{said:?}");
     }
     // node 3's link start, junction 1's heightmap start
-    assert_eq!(of(&hall(array(0) + 3 * 40 + 26, &[255, 255])), (4, 3, at("node 3")));
-    assert_eq!(of(&hall(array(2) + 12 + 8, &[255, 255])), (5, 1, at("junction 1")));
+    let node = "node 3: 2 links from link 65535 on, of 42";
+    assert_eq!(of(&hall(array(0) + 3 * 40 + 26, &[255, 255])), (4, 3, at(node)));
+    let junction = "junction 1: 6 times 3 values from value 65535 on, of 34";
+    assert_eq!(of(&hall(array(2) + 12 + 8, &[255, 255])), (5, 1, at(junction)));
     let large = |at: usize, n: u32| {
         let mut bytes = [hall(at, &n.to_le_bytes()), vec![0; 3_000_000]].concat();
         // arrays that are long enough
@@ -64,8 +72,8 @@ fn of_reading() {
         }
         bytes
     };
-    assert_eq!(of(&large(24, 65_537)), (6, 0, at("nodes")));
-    assert_eq!(of(&large(96, 4_097)), (6, 1, at("junctions")));
+    assert_eq!(of(&large(24, 65_537)), (6, 0, at("65537 nodes")));
+    assert_eq!(of(&large(96, 4_097)), (6, 1, at("4097 junctions")));
 }
 
 #[test]
@@ -149,6 +157,79 @@ fn of_calls_and_rounds() {
     let start = folder.path("start");
     run(&["round", "make", "99", "-o", &start]);
     assert_eq!(number(&["draw", hall, "--round", &start, "-o", "-"]), 13);
+}
+
+/// What was wrong is said: which number, of what, in which file; and a file that is no yard is called that.
+#[test]
+fn the_words_say_what_was_wrong_here() {
+    let folder = Folder::new();
+    let dock = sample("dock.section");
+    let said = |words: &[&str]| run(words).err.trim_end().replace("bofrashem: ", "");
+    let text = folder.file("notes.txt", "This is not a yard at all.\n".repeat(20).as_bytes());
+    let picture = folder.path("a.svg");
+    run(&["draw", &dock, "-o", &picture]);
+    let cases: [(&[&str], String); 12] = [
+        (
+            &["walk", &dock, "99"],
+            format!("{dock}: refused 13 0: no node is at place 99: node places are 0 to 12"),
+        ),
+        (
+            &["way", &dock, "0", "9999"],
+            format!("{dock}: refused 13 0: no node is at place 9999: node places are 0 to 12"),
+        ),
+        (
+            &["walk", &dock, "--numbers", "99"],
+            format!("{dock}: refused 13 0: no node has number 99: they run from 0 to 12"),
+        ),
+        (
+            &["walk", &dock, "--numbers", "70000"],
+            format!("{dock}: refused 13 0: no node has number 70000: the highest that can be is 65535"),
+        ),
+        (&["way", &dock, "0", "6"], format!("{dock}: refused 17 0: no walk leads from place 0 to place 6")),
+        (&["info", &text], format!("{text}: refused 3 0: this is no yard, but text")),
+        (&["info", &picture], format!("{picture}: refused 3 0: this is no yard, but a picture (SVG)")),
+        (
+            &["info", &sample("dock.round")],
+            format!("{}: refused 1 0: this is no yard, but a round file", sample("dock.round")),
+        ),
+        (&["round", "show", &text], format!("{text}: refused 15 0: this is no round file, but text")),
+        (&["round", "show", &dock], format!("{dock}: refused 15 0: this is no round file, but a yard")),
+        (&["draw", &dock, "--way", "0", "99", "-o", "-"], said(&["way", &dock, "0", "99"])),
+        (
+            &["walk", "/dev/null", "0"],
+            "/dev/null: refused 13 0: no node is at place 0: there are none".into(),
+        ),
+    ];
+    for (words, expected) in cases {
+        assert_eq!(said(words), expected, "{words:?}");
+    }
+    // random bytes are no yard either
+    let any: Vec<u8> = (0..500u32).map(|k| (k.wrapping_mul(2_654_435_761) >> 13) as u8).collect();
+    let any = folder.file("any", &any);
+    assert_eq!(said(&["info", &any]), format!("{any}: refused 3 0: this is no yard"));
+}
+
+/// The same of rounds.
+#[test]
+fn the_words_say_what_was_wrong_with_a_round() {
+    let folder = Folder::new();
+    let (dock, round) = (sample("dock.section"), folder.path("r"));
+    let said = |words: &[&str]| run(words).err.trim_end().replace("bofrashem: ", "");
+    let made = |words: &[&str]| run(&[&["round", "make"], words, &["--force", "-o", &round]].concat()).status;
+    assert_eq!(made(&["99"]), 0);
+    let follow = ["round", "follow", &dock, &round];
+    let start = format!("its start is no node of {dock}: no node has number 99: they run from 0 to 12");
+    assert_eq!(said(&follow), format!("{round}: refused 13 0: {start}"));
+    assert_eq!(made(&["0", "--area", "7"]), 0);
+    assert_eq!(said(&follow), format!("{round}: refused 19 0: the round is of area 7, {dock} of area 489"));
+    for (bytes, words) in [
+        (&b"RND\x07\0abcdefg"[..], "15 0: a round file of version 7: 1 and 2 are read"),
+        (b"RND\x01\0abc", "16 0: 8 bytes, and the head alone has 9"),
+        (b"RND\x02\0\0\0\0\0\x05\0ab", "16 0: 13 bytes; a round file of 5 choices has 16"),
+    ] {
+        let file = folder.file("damaged", bytes);
+        assert_eq!(said(&["round", "show", &file]), format!("{file}: refused {words}"));
+    }
 }
 
 #[test]

@@ -61,13 +61,16 @@ pub fn legend(drawn: &Drawn, at: [f64; 2]) -> String {
     });
     l.counted(scene.junctions.len(), &shades.collect::<String>(), "junction heights, low to high");
     l.over(scene);
-    if let Some(bounds) = scene.area.and_then(own_bounds) {
-        let seen = if drawn.view.shows_edge(bounds) { "" } else { ": out of sight" };
-        l.item(EDGE, &format!("edge of the area's grid cell{seen}"));
+    let edges: Vec<[f64; 4]> = scene.areas.iter().filter_map(|&area| own_bounds(area)).collect();
+    if !edges.is_empty() {
+        let whose =
+            if edges.len() > 1 { "edges of the areas' grid cells" } else { "edge of the area's grid cell" };
+        let seen = if edges.iter().any(|&b| drawn.view.shows_edge(b)) { "" } else { ": out of sight" };
+        l.item(EDGE, &format!("{whose}{seen}"));
     }
     l.item(GRID, "grid lines, 512 m apart");
     l.item(NUMBER, "a node's number; some are left out");
-    l.inset(scene);
+    l.inset(scene, &edges);
     format!("<g id=\"legend\">\n{}</g>\n", l.out)
 }
 
@@ -103,7 +106,8 @@ impl Column {
         let heads = if drawn.spacing < ARROW_ROOM { "" } else { HEADS };
         self.counted(both, &format!("{LINE}{heads}"), "links there and back, pairs");
         self.counted(scene.lines.len() - both, ONE_WAY, "link one way");
-        self.counted(scene.stubs.len() - lost, OUT, "link out of the cell");
+        let out = if scene.areas.len() > 1 { "link out of the set" } else { "link out of the cell" };
+        self.counted(scene.stubs.len() - lost, OUT, out);
         self.counted(lost, LOST, "link to no node");
     }
 
@@ -111,11 +115,11 @@ impl Column {
     fn over(&mut self, scene: &Scene) {
         let over = &scene.over;
         if let Some(t) = &over.round {
-            self.track("round", "round", t);
+            self.track("round", "round", t, scene);
             self.item(STEP, "a step of the round");
         }
         if let Some(t) = &over.way {
-            self.track("way", "short way", t);
+            self.track("way", "short way", t, scene);
         }
         if let Some((circle, within)) = &over.near {
             let [x, y, r] = circle.metres();
@@ -123,35 +127,40 @@ impl Column {
         }
     }
 
-    fn track(&mut self, class: &str, name: &str, t: &Track) {
+    fn track(&mut self, class: &str, name: &str, t: &Track, scene: &Scene) {
         let links = t.places.len().saturating_sub(1);
         self.item(&track_mark(class), &format!("{name}: {links} links, {} m", t.metres));
         self.words(&t.said);
         if class == "round" {
             self.words(&end_text(t.end));
         }
-        self.item(&ends_mark(class), &format!("start and end of the {name}"));
+        let number = |end: Option<&usize>| end.map_or(0, |&p| scene.dots[p].number);
+        let (first, last) = (number(t.places.first()), number(t.places.last()));
+        self.item(&ends_mark(class), &format!("start, node {first}, and end, node {last}"));
     }
 
-    /// The whole grid, the area's cell on it, and where the nodes are.
-    fn inset(&mut self, scene: &Scene) {
-        let Some([x0, y0, x1, y1]) = scene.area.and_then(own_bounds) else { return };
+    /// The whole grid, the areas' cells on it, and where the nodes are.
+    fn inset(&mut self, scene: &Scene, edges: &[[f64; 4]]) {
+        let [low, high] = scene.bounds();
+        let Some(&[x0, y0, x1, y1]) = edges.first() else { return };
         let (size, left, top) = (112.0, self.x, self.y + 2.0);
         let at = |x: f64, y: f64| [left + (x + 8192.0) / 16384.0 * size, top + (8192.0 - y) / 16384.0 * size];
-        let ([l, t], [r, b], [low, high]) = (at(x0, y1), at(x1, y0), scene.bounds());
         let [cx, cy] = at((low[0] + high[0]) / 2.0, (low[1] + high[1]) / 2.0);
         let out = &mut self.out;
         put!(out, "<rect class=\"map\" x=\"{left}\" y=\"{top:.1}\" width=\"{size}\" height=\"{size}\"/>\n");
-        let (w, h) = (r - l, b - t);
-        put!(out, "<rect class=\"own\" x=\"{l:.1}\" y=\"{t:.1}\" width=\"{w:.1}\" height=\"{h:.1}\"/>\n");
+        for &[x0, y0, x1, y1] in edges {
+            let ([l, t], [r, b]) = (at(x0, y1), at(x1, y0));
+            let (w, h) = (r - l, b - t);
+            put!(out, "<rect class=\"own\" x=\"{l:.1}\" y=\"{t:.1}\" width=\"{w:.1}\" height=\"{h:.1}\"/>\n");
+        }
         put!(out, "<path class=\"here\" d=\"M{:.1} {cy:.1}h8M{cx:.1} {:.1}v8\"/>\n", cx - 4.0, cy - 4.0);
-        let mut lines = vec![
-            "the grid, 32 × 32 cells".to_string(),
-            format!("x {x0} to {x1} m"),
-            format!("y {y0} to {y1} m"),
-            "□ the area's cell".to_string(),
-            "+ the nodes".to_string(),
-        ];
+        let mut lines = vec!["the grid, 32 × 32 cells".to_string()];
+        if edges.len() > 1 {
+            lines.extend([format!("□ cells of {} areas", edges.len()), "+ the nodes".into()]);
+        } else {
+            lines.extend([format!("x {x0} to {x1} m"), format!("y {y0} to {y1} m")]);
+            lines.extend(["□ the area's cell".into(), "+ the nodes".into()]);
+        }
         if scene.outside > 0 {
             lines.push(format!("{} of them outside it", scene.outside));
         }

@@ -1,4 +1,4 @@
-//! The workshop's page: T-13's lines beside the drawn round, on one A4 page on its side.
+//! The workshop's page: the printed lines beside the drawn round, on one A4 page on its side.
 use super::legend::{dot_mark, ends_mark, track_mark, Column};
 use super::plot::Drawn;
 use super::scene::Scene;
@@ -72,6 +72,7 @@ fn caption(scene: &Scene) -> String {
     let links = t.places.len().saturating_sub(1);
     l.item(&track_mark("round"), &format!("{links} links, {} m; {}", t.metres, end_text(t.end)));
     l.item(&ends_mark("round"), "start and end; numbers in pink are steps, others are nodes' numbers");
-    l.item(&(dot_mark("road", 4.0) + &dot_mark("ped", 18.0)), "road nodes, ped nodes");
+    let dots = dot_mark("road", 4.0) + &dot_mark("ped", 18.0);
+    l.item(&dots, "road nodes, ped nodes; the lines' x and y are quarters of a metre, z thirty-seconds");
     l.out
 }

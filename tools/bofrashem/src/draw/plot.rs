@@ -20,8 +20,6 @@ pub struct Drawn<'a> {
 
 /// Arrows are drawn where there is room for them.
 pub const ARROW_ROOM: f64 = 16.0;
-/// Numbers keep clear of nodes where there is room for that.
-pub const LABEL_ROOM: f64 = 26.0;
 /// Where nodes are closer than this, links are thin.
 const THIN: f64 = 6.0;
 /// Shades from the lowest to the highest value of a heightmap.
@@ -43,17 +41,19 @@ pub fn own_bounds(area: u32) -> Option<[f64; 4]> {
     numbers::cell_bounds(numbers::cell_of_area(area)).ok().map(|b| b.map(|v| v as f64))
 }
 
-/// An open arrow head on the way from a to b, at this share of it.
-pub fn arrow(out: &mut String, a: [f64; 2], b: [f64; 2], share: f64, size: f64) {
+/// An open arrow head on the way from a to b, at this share of it: one end, the tip, the other end.
+pub fn arrow(out: &mut String, a: [f64; 2], b: [f64; 2], share: f64, size: f64) -> Option<[[f64; 2]; 3]> {
     let (dx, dy) = (b[0] - a[0], b[1] - a[1]);
     let far = dx.hypot(dy);
     if far < 1e-6 {
-        return;
+        return None;
     }
     let (ux, uy) = (dx / far * size, dy / far * size);
     let [x, y] = [a[0] + dx * share, a[1] + dy * share];
-    put!(out, "M{:.2} {:.2}L{x:.2} {y:.2}", x - ux - uy * 0.6, y - uy + ux * 0.6);
-    put!(out, "L{:.2} {:.2}", x - ux + uy * 0.6, y - uy - ux * 0.6);
+    let (one, other) = ([x - ux - uy * 0.6, y - uy + ux * 0.6], [x - ux + uy * 0.6, y - uy - ux * 0.6]);
+    put!(out, "M{:.2} {:.2}L{x:.2} {y:.2}", one[0], one[1]);
+    put!(out, "L{:.2} {:.2}", other[0], other[1]);
+    Some([one, [x, y], other])
 }
 
 impl<'a> Drawn<'a> {
@@ -61,7 +61,9 @@ impl<'a> Drawn<'a> {
         let points: Vec<[f64; 2]> = scene.dots.iter().map(|d| view.at(d.at)).collect();
         let spacing = view.spacing(scene, &points);
         let [left, top, w, h] = view.plot;
-        let taken = Taken::new([left, top, left + w, top + h]);
+        let mut taken = Taken::new([left, top, left + w, top + h], &points);
+        let [x, y, wide, high] = scale_box(&view);
+        taken.mark([x, y, x + wide, y + high]);
         Drawn { scene, view, points, spacing, taken, ends: Vec::new() }
     }
 
@@ -151,10 +153,13 @@ impl<'a> Drawn<'a> {
         if !lines.is_empty() {
             put!(out, "<path class=\"grid\" data-w=\"0.9\" d=\"{lines}\"/>\n");
         }
-        if let Some([x0, y0, x1, y1]) = self.scene.area.and_then(own_bounds) {
+        let mut edges = String::new();
+        for [x0, y0, x1, y1] in self.scene.areas.iter().filter_map(|&area| own_bounds(area)) {
             let ([l, t], [r, b]) = (self.view.at([x0, y1]), self.view.at([x1, y0]));
-            let d = format!("M{l:.1} {t:.1}H{r:.1}V{b:.1}H{l:.1}z");
-            put!(out, "<path class=\"edge\" id=\"edge\" data-w=\"1.8\" d=\"{d}\"/>\n");
+            put!(edges, "M{l:.1} {t:.1}H{r:.1}V{b:.1}H{l:.1}z");
+        }
+        if !edges.is_empty() {
+            put!(out, "<path class=\"edge\" id=\"edge\" data-w=\"1.8\" d=\"{edges}\"/>\n");
         }
         out
     }
@@ -271,21 +276,26 @@ impl<'a> Drawn<'a> {
     }
 
     fn scale_bar(&self) -> String {
-        let [left, top, _, h] = self.view.plot;
         let (metres, units) = self.view.bar();
-        let (x, y, words) = (left + 16.0, top + h - 16.0, format!("{metres} m"));
-        let wide = units + words.chars().count() as f64 * 7.0 + 26.0;
+        let [left, top, wide, high] = scale_box(&self.view);
+        let (x, y) = (left + 8.0, top + 13.0);
         let mut out = String::from("<g id=\"scale\">");
         put!(
             out,
-            "<rect class=\"under\" x=\"{:.1}\" y=\"{:.1}\" width=\"{wide:.1}\" height=\"22\"/>",
-            x - 8.0,
-            y - 13.0
+            "<rect class=\"under\" x=\"{left:.1}\" y=\"{top:.1}\" width=\"{wide:.1}\" height=\"{high}\"/>"
         );
         put!(out, "<path class=\"bar\" d=\"M{x} {:.1}v7h{units:.1}v-7\"/>", y - 7.0);
-        put!(out, "<text x=\"{:.1}\" y=\"{y:.1}\">{words}</text></g>\n", x + units + 8.0);
+        put!(out, "<text x=\"{:.1}\" y=\"{y:.1}\">{metres} m</text></g>\n", x + units + 8.0);
         out
     }
+}
+
+/// Where the scale bar stands: left, top, width, height.
+fn scale_box(view: &View) -> [f64; 4] {
+    let [left, top, _, h] = view.plot;
+    let (metres, units) = view.bar();
+    let wide = units + format!("{metres} m").chars().count() as f64 * 7.0 + 26.0;
+    [left + 8.0, top + h - 29.0, wide, 22.0]
 }
 
 /// The four kinds of node: class, whether a ped node, whether without links.

@@ -1,10 +1,13 @@
 //! What there is to draw, in metres: nodes, links, junctions, and what lies over them.
+use super::html::RoundFile;
 use crate::fault::shown;
 use crate::input::Opened;
 use crate::near::Circle;
 use crate::nodes::{self, Target, Targets};
+use crate::sets::{self, Set};
 use crate::walks;
-use bofrashem::{numbers, Cell, End, Walk};
+use bofrashem::{numbers, Cell, CrossingWalk, End, Walk};
+use std::collections::HashMap;
 use std::path::Path;
 
 /// A node's mark: where, and of which kind.
@@ -51,6 +54,7 @@ pub struct Track {
 #[derive(Default)]
 pub struct Overlay {
     pub round: Option<Track>,
+    pub round_file: Option<RoundFile>,
     pub way: Option<Track>,
     pub near: Option<(Circle, Vec<usize>)>,
 }
@@ -63,7 +67,8 @@ pub struct Scene {
     pub stubs: Vec<Stub>,
     pub links: usize,
     pub junctions: Vec<Heightmap>,
-    pub area: Option<u32>,
+    /// The areas of the cells that have nodes.
+    pub areas: Vec<u32>,
     pub outside: usize,
     pub over: Overlay,
 }
@@ -84,6 +89,19 @@ impl Track {
         Track { places, metres: walks::metres(cell, walk, choices), said, end: walk.end }
     }
 
+    /// A walk that crosses, over the nodes of all members: those of a member begin at its place in `first`.
+    pub fn of_crossing(
+        set: &Set,
+        first: &[usize],
+        walk: &CrossingWalk,
+        choices: &[u8],
+        said: String,
+    ) -> Track {
+        let places = walk.visited.iter().map(|at| first[at.member as usize] + at.place as usize).collect();
+        let (_, metres) = sets::followed(set, walk, choices);
+        Track { places, metres, said, end: walk.end }
+    }
+
     pub fn of_path(path: &bofrashem::Path) -> Track {
         let places = path.places.iter().map(|&p| p as usize).collect();
         Track { places, metres: path.distance, said: "the fewest metres".into(), end: End::Done }
@@ -93,35 +111,59 @@ impl Track {
 impl Scene {
     pub fn of(opened: &Opened, over: Overlay) -> Scene {
         let cell = &opened.cell;
-        let dots: Vec<Dot> = cell
-            .nodes()
-            .iter()
-            .map(|n| Dot {
-                at: [n.position[0] as f64, n.position[1] as f64],
-                ped: n.is_ped_node(),
-                post: n.link_count() == 0,
-                number: n.node_id,
-            })
-            .collect();
-        let (lines, stubs, links) = links(cell);
+        let mut links = Links::default();
+        links.add(cell, 0, |_, _, _| None);
         let area = cell.area();
+        let held = format!("{} nodes · {} links", cell.nodes().len(), links.count);
         let subtitle = match area {
             Some(a) => {
                 let [x, y] = numbers::cell_of_area(a);
-                format!("area {a} · grid cell ({x}, {y}) · {} nodes · {links} links", dots.len())
+                format!("area {a} · grid cell ({x}, {y}) · {held}")
             }
             None => "no nodes: a yard not drawn yet".into(),
         };
+        Scene::over(&[opened], links, name(opened), subtitle, over)
+    }
+
+    /// A set's members in one picture, with the links that lead from one into another.
+    pub fn of_set(set: &Set, over: Overlay) -> Scene {
+        let (members, first) = (set.members.iter().collect::<Vec<_>>(), first(set));
+        let mut links = Links::default();
+        for (m, opened) in set.members.iter().enumerate() {
+            // where a link crosses, a walk of one choice says
+            let led = |place: usize, k: usize, target: Target| match target {
+                Target::Out(area, _) if set.yard.member_of_area(area).is_some() => {
+                    let walk = set.yard.crossing_walk(m, place, &[k as u8]).ok()?;
+                    let at = walk.visited.get(1)?;
+                    Some(first[at.member as usize] + at.place as usize)
+                }
+                _ => None,
+            };
+            links.add(&opened.cell, first[m], led);
+        }
+        let names: Vec<String> = members.iter().map(|m| name(m)).collect();
+        let nodes: usize = members.iter().map(|m| m.cell.nodes().len()).sum();
+        let areas: Vec<String> =
+            members.iter().filter_map(|m| m.cell.area()).map(|a| a.to_string()).collect();
+        let held = format!("{nodes} nodes · {} links", links.count);
+        let subtitle = format!("{} cells · areas {} · {held}", members.len(), areas.join(", "));
+        Scene::over(&members, links, names.join(" + "), subtitle, over)
+    }
+
+    fn over(members: &[&Opened], links: Links, title: String, subtitle: String, over: Overlay) -> Scene {
+        let cells = || members.iter().map(|m| &m.cell);
+        let outside = cells().filter_map(|c| Some(nodes::outside(c, c.area()?)));
+        let (count, (lines, stubs)) = (links.count, links.drawn());
         Scene {
-            title: opened.sections.file.file_name().map_or(String::new(), |name| shown(Path::new(name))),
+            title,
             subtitle,
+            dots: cells().flat_map(dots).collect(),
             lines,
             stubs,
-            links,
-            junctions: junctions(cell),
-            area,
-            outside: area.map_or(0, |a| nodes::outside(cell, a)),
-            dots,
+            links: count,
+            junctions: cells().flat_map(junctions).collect(),
+            areas: cells().filter_map(Cell::area).collect(),
+            outside: outside.sum(),
             over,
         }
     }
@@ -166,32 +208,73 @@ fn extent(all: &[[f64; 2]]) -> ([f64; 2], [f64; 2]) {
     (low, high)
 }
 
-/// Every link of every node: lines between two nodes, and stubs; and how many links there are.
-fn links(cell: &Cell) -> (Vec<Line>, Vec<Stub>, usize) {
-    let (mut targets, mut pairs, mut stubs, mut count) = (Targets::new(cell), Vec::new(), Vec::new(), 0);
-    for from in 0..cell.nodes().len() {
-        for (k, link) in cell.links_of(from).unwrap_or_default().iter().enumerate() {
-            count += 1;
-            match targets.of(from, k, link) {
-                Target::Node(to) if to >= from => pairs.push((from, to, false)),
-                Target::Node(to) => pairs.push((to, from, true)),
-                Target::Out(area, _) => stubs.push(Stub { from, towards: centre(area) }),
-                Target::NoNode => stubs.push(Stub { from, towards: None }),
+/// Where the nodes of each member begin among those of all.
+pub fn first(set: &Set) -> Vec<usize> {
+    let counts = set.members.iter().map(|m| m.cell.nodes().len());
+    counts.scan(0, |sum, n| Some(std::mem::replace(sum, *sum + n))).collect()
+}
+
+fn name(opened: &Opened) -> String {
+    opened.sections.file.file_name().map_or(String::new(), |name| shown(Path::new(name)))
+}
+
+fn dots(cell: &Cell) -> Vec<Dot> {
+    let dot = |n: &bofrashem::Node| Dot {
+        at: [n.position[0] as f64, n.position[1] as f64],
+        ped: n.is_ped_node(),
+        post: n.link_count() == 0,
+        number: n.node_id,
+    };
+    cell.nodes().iter().map(dot).collect()
+}
+
+/// Every link of every node: pairs of the lower and the higher node, and whether it leads back; stubs; how many links.
+#[derive(Default)]
+struct Links {
+    pairs: Vec<(usize, usize, bool)>,
+    stubs: Vec<Stub>,
+    count: usize,
+}
+
+impl Links {
+    /// Those of a cell whose nodes begin at this one of all; `across` says which of all a link out of the cell leads
+    /// to.
+    fn add(&mut self, cell: &Cell, first: usize, across: impl Fn(usize, usize, Target) -> Option<usize>) {
+        let (mut targets, mut known) = (Targets::new(cell), HashMap::new());
+        for place in 0..cell.nodes().len() {
+            for (k, link) in cell.links_of(place).unwrap_or_default().iter().enumerate() {
+                self.count += 1;
+                let (from, target) = (first + place, targets.of(place, k, link));
+                let to = match target {
+                    Target::Node(to) => Some(first + to),
+                    other => {
+                        *known.entry((link.area_id, link.node_id)).or_insert_with(|| across(place, k, other))
+                    }
+                };
+                match (to, target) {
+                    (Some(to), _) => self.pairs.push((from.min(to), from.max(to), to < from)),
+                    (None, Target::Out(area, _)) => self.stubs.push(Stub { from, towards: centre(area) }),
+                    (None, _) => self.stubs.push(Stub { from, towards: None }),
+                }
             }
         }
     }
-    pairs.sort_unstable();
-    pairs.dedup();
-    let mut lines: Vec<Line> = Vec::new();
-    for (low, high, back) in pairs {
-        match lines.last_mut() {
-            // the same two nodes, once there and once back
-            Some(l) if back && (l.from, l.to) == (low, high) => l.both = true,
-            _ if back => lines.push(Line { from: high, to: low, both: false }),
-            _ => lines.push(Line { from: low, to: high, both: false }),
+
+    /// A line for two nodes that are linked, and the stubs.
+    fn drawn(mut self) -> (Vec<Line>, Vec<Stub>) {
+        self.pairs.sort_unstable();
+        self.pairs.dedup();
+        let mut lines: Vec<Line> = Vec::new();
+        for (low, high, back) in self.pairs {
+            match lines.last_mut() {
+                // the same two nodes, once there and once back
+                Some(l) if back && (l.from, l.to) == (low, high) => l.both = true,
+                _ if back => lines.push(Line { from: high, to: low, both: false }),
+                _ => lines.push(Line { from: low, to: high, both: false }),
+            }
         }
+        (lines, self.stubs)
     }
-    (lines, stubs, count)
 }
 
 /// The middle of the grid cell that an area names.

@@ -1,5 +1,6 @@
 //! What lies over the yard: the round, the short way, their ends and step numbers; and the nodes' numbers.
-use super::plot::{arrow, Drawn, LABEL_ROOM};
+use super::labels::{Label, DIGIT, NEARER};
+use super::plot::{arrow, Drawn};
 use super::scene::Track;
 use super::xml::{put, Write};
 use std::collections::{HashMap, HashSet};
@@ -7,8 +8,14 @@ use std::collections::{HashMap, HashSet};
 /// More numbers of nodes than this are not written.
 const LABELS_MOST: usize = 1500;
 
+/// The width of a track's arrow heads, and what stays free beside a track.
+const HEAD: f64 = 1.8;
+const CLEAR: f64 = 1.0;
+/// The half of a start's or an end's mark, with its stroke.
+const END: f64 = 10.0;
+
 impl Drawn<'_> {
-    pub fn tracks(&self) -> String {
+    pub fn tracks(&mut self) -> String {
         let over = &self.scene.over;
         let way = over.way.as_ref().map(|t| self.track("way", t, 4.0));
         let round = over.round.as_ref().map(|t| self.track("round", t, 2.6));
@@ -16,8 +23,8 @@ impl Drawn<'_> {
     }
 
     /// A track's steps, each to the right of its link, so that there and back can be told apart. What is walked again
-    /// is drawn once.
-    fn track(&self, class: &str, track: &Track, wide: f64) -> String {
+    /// is drawn once. Nothing is written over it.
+    fn track(&mut self, class: &str, track: &Track, wide: f64) -> String {
         let (mut d, mut heads) = (String::new(), String::new());
         let mut drawn = HashSet::new();
         let (aside, size) = ((self.spacing * 0.09).clamp(0.4, 3.0), (self.spacing * 0.26).clamp(2.0, 8.5));
@@ -28,11 +35,15 @@ impl Drawn<'_> {
             let off = [-dy / far * aside, dx / far * aside];
             let (a, b) = ([a[0] + off[0], a[1] + off[1]], [b[0] + off[0], b[1] + off[1]]);
             put!(d, "M{:.2} {:.2}L{:.2} {:.2}", a[0], a[1], b[0], b[1]);
-            arrow(&mut heads, a, b, 0.55, size);
+            self.taken.stroke(a, b, wide / 2.0 + CLEAR);
+            if let Some([one, tip, other]) = arrow(&mut heads, a, b, 0.55, size) {
+                self.taken.stroke(one, tip, HEAD / 2.0 + CLEAR);
+                self.taken.stroke(tip, other, HEAD / 2.0 + CLEAR);
+            }
         }
         let mut out = format!("<g id=\"{class}\" data-steps=\"{}\">\n", track.places.len());
         for (class, w, d) in
-            [(format!("track {class}"), wide, d), (format!("track arrows {class}"), 1.8, heads)]
+            [(format!("track {class}"), wide, d), (format!("track arrows {class}"), HEAD, heads)]
         {
             if !d.is_empty() {
                 put!(out, "<path class=\"{class}\" data-w=\"{w}\" stroke-width=\"{w}\" d=\"{d}\"/>\n");
@@ -51,6 +62,9 @@ impl Drawn<'_> {
             else {
                 continue;
             };
+            for [x, y] in [first, last].map(|end| self.points[end]) {
+                self.taken.mark([x - END, y - END, x + END, y + END]);
+            }
             self.ends.extend([first, last]);
             out += &mark(self.points[first], &format!("start {class}"), "<circle r=\"8.5\"/>");
             let square = "<rect x=\"-8\" y=\"-8\" width=\"16\" height=\"16\"/>";
@@ -59,11 +73,6 @@ impl Drawn<'_> {
         if let Some((circle, _)) = &over.near {
             let [x, y, _] = circle.metres();
             out += &mark(self.view.at([x, y]), "middle", "<path class=\"point\" d=\"M-8 0h16M0 -8v16\"/>");
-        }
-        if self.spacing >= LABEL_ROOM {
-            for [x, y] in &self.points {
-                self.taken.take([x - 4.0, y - 4.0, x + 4.0, y + 4.0]);
-            }
         }
         let steps = over.round.as_ref().map_or(Vec::new(), |t| steps(t, every(self.spacing)));
         for (place, said) in steps {
@@ -74,38 +83,54 @@ impl Drawn<'_> {
 
     /// A step's number beside its node.
     fn badge(&mut self, place: usize, said: &str) -> String {
-        let ([x, y], w) = (self.points[place], 7.0 + 6.2 * said.chars().count() as f64);
-        let far = if self.ends.contains(&place) { 12.0 } else { 9.0 };
-        let Some([l, t]) = self.taken.beside([x, y], [w, 14.0], far, 1.0) else { return String::new() };
-        let (dx, dy) = (l - x, t - y);
+        let (at, w) = (self.points[place], 7.0 + 6.2 * said.chars().count() as f64);
+        let far = if self.ends.contains(&place) { END + 1.0 } else { self.radius() + 2.5 };
+        let label = Label { at, size: [w, 12.0], far, nearer: 0.5 };
+        let Some([l, t]) = self.taken.beside(&label) else { return String::new() };
+        let (dx, dy) = (l - at[0], t - at[1]);
         let mut shape =
-            format!("<rect x=\"{dx:.1}\" y=\"{dy:.1}\" width=\"{w:.1}\" height=\"14\" rx=\"7\"/>");
-        put!(shape, "<text x=\"{:.1}\" y=\"{:.1}\">{said}</text>", dx + w / 2.0, dy + 10.6);
-        mark([x, y], "step", &shape)
+            format!("<rect x=\"{dx:.1}\" y=\"{dy:.1}\" width=\"{w:.1}\" height=\"12\" rx=\"6\"/>");
+        put!(shape, "<text x=\"{:.1}\" y=\"{:.1}\">{said}</text>", dx + w / 2.0, dy + 9.6);
+        mark(at, "step", &shape)
     }
 
-    /// Numbers of nodes, as many as do not cover each other; those of what is drawn over the yard first.
+    /// Numbers of nodes, as many as can't be misread; those of what is drawn over the yard first. Nodes at one point
+    /// share a label: "2, 8".
     pub fn labels(&mut self) -> String {
-        let (room, r) = (self.spacing >= LABEL_ROOM, self.radius());
-        let (gap, near) = if room { (0.5, r + 2.5) } else { (16.0, r + 1.5) };
         let [left, top, w, h] = self.view.plot;
-        let mut done = vec![false; self.points.len()];
+        let mut together = self.together();
         let (mut out, mut count) = (String::new(), 0);
         for p in self.order() {
             let at = self.points[p];
             let inside = at[0] > left && at[0] < left + w && at[1] > top && at[1] < top + h;
-            if std::mem::replace(&mut done[p], true) || !inside || count >= LABELS_MOST {
-                continue;
-            }
-            let said = self.scene.dots[p].number.to_string();
-            let size = [5.9 * said.len() as f64 + 1.0, 11.0];
-            let far = if self.ends.contains(&p) { 11.0 } else { near };
-            if let Some([l, t]) = self.taken.beside(at, size, far, gap) {
-                count += 1;
-                put!(out, "<text x=\"{:.1}\" y=\"{:.1}\">{said}</text>\n", l + 0.5, t + 9.3);
+            let nodes = if inside && count < LABELS_MOST { together.remove(&key(at)) } else { None };
+            let Some(nodes) = nodes else { continue };
+            let said = self.numbers(&nodes);
+            let size = [DIGIT[0] * said.chars().count() as f64, DIGIT[1]];
+            let end = nodes.iter().any(|p| self.ends.contains(p));
+            let far = if end { END + 1.0 } else { self.radius() + 2.0 };
+            if let Some([l, t]) = self.taken.beside(&Label { at, size, far, nearer: NEARER }) {
+                count += nodes.len();
+                put!(out, "<text x=\"{l:.1}\" y=\"{:.1}\">{said}</text>\n", t + DIGIT[1]);
             }
         }
         format!("<g id=\"labels\" data-count=\"{count}\">\n{out}</g>\n")
+    }
+
+    /// The nodes at each point.
+    fn together(&self) -> HashMap<[u64; 2], Vec<usize>> {
+        let mut at: HashMap<[u64; 2], Vec<usize>> = HashMap::new();
+        for (p, point) in self.points.iter().enumerate() {
+            at.entry(key(*point)).or_default().push(p);
+        }
+        at
+    }
+
+    /// Numbers of nodes at one point: "7", "2, 8", "2, 8, 9 …".
+    fn numbers(&self, nodes: &[usize]) -> String {
+        let some: Vec<String> =
+            nodes.iter().take(3).map(|&p| self.scene.dots[p].number.to_string()).collect();
+        some.join(", ") + if nodes.len() > 3 { " …" } else { "" }
     }
 
     fn order(&self) -> Vec<usize> {
@@ -114,6 +139,11 @@ impl Drawn<'_> {
         let near = over.near.iter().flat_map(|(_, within)| within.iter().copied());
         tracks.chain(near).chain(0..self.points.len()).collect()
     }
+}
+
+/// A point, to look it up.
+fn key(at: [f64; 2]) -> [u64; 2] {
+    at.map(f64::to_bits)
 }
 
 /// A shape that keeps its size when the picture grows.

@@ -39,11 +39,6 @@ impl View {
         meets && !(bx0 < x0 && x1 < bx1 && by0 < y0 && y1 < by1)
     }
 
-    /// x = scale * metres + first, y = second - scale * metres.
-    pub fn offsets(&self) -> [f64; 2] {
-        self.at([0.0, 0.0])
-    }
-
     /// The usual distance of linked nodes; of nodes without links, by their room.
     pub fn spacing(&self, scene: &Scene, points: &[[f64; 2]]) -> f64 {
         let far = |a: [f64; 2], b: [f64; 2]| (a[0] - b[0]).hypot(a[1] - b[1]);
