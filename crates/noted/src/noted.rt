@@ -1,4 +1,6 @@
 // A reader or a writer, and whether it ever gave an error. Only the calls of this crate set the note.
+ghost use Rattle.std.specs.Prelude.{◌≡◌, false};
+
 #[derive(Drop)]
 pub struct Noted<T> {
     pub(crate) inner: T,
@@ -6,7 +8,9 @@ pub struct Noted<T> {
 }
 
 impl<T> Noted<T> {
-    pub fn new(inner: T) -> Noted<T> {
+    pub fn new(inner: T) -> Noted<T>
+        ensures { (result.inner ≡ inner) × (result.failed ≡ false) }
+    {
         Noted {
             inner,
             failed: false,
