@@ -87,9 +87,12 @@ test-header: $(YND_ARCHIVE)
 
 bindings: $(YND_ARCHIVE)
 	$(call need,cargo,cargo)
-	cd bindings/rust && YND_ARCHIVE=$(call whole,$(YND_ARCHIVE)) cargo test --offline --workspace $(CONTAINER)
+	@mkdir -p target && cp -p bindings/rust/Cargo.lock target/bindings.lock
+	cd bindings/rust && YND_ARCHIVE=$(call whole,$(YND_ARCHIVE)) cargo test --offline --workspace $(CONTAINER); \
+		status=$$?; cp -p ../../target/bindings.lock Cargo.lock; exit $$status
 
-# The wrapper's container takes Debian's flate2; without that an empty crate stands in its place, and the container is left out.
+# The wrapper's container takes Debian's flate2; without that an empty crate of its version, which Cargo.lock names, stands in
+# its place, and the container is left out. Cargo then writes another lock, which is put back.
 FLATE2 = $(wildcard /usr/share/cargo/registry/flate2-*)
 CONTAINER = $(if $(FLATE2),--features container --config $(call whole,tools/bofrashem/.cargo/config.toml), \
 	--config 'patch.crates-io.flate2.path="$(CURDIR)/judge/shims/flate2"')
