@@ -8,6 +8,7 @@ pub mod WrittenFew
 pub mod BackCheck
 pub mod BackAnswer
 pub mod AsRead
+pub mod AsReadKept
 pub mod BackAccepted
 pub mod UndrawnBack
 pub mod UnusedBack

@@ -5,6 +5,7 @@ ghost use Rattle.records.specs.Layout.{gap_for};
 ghost use Rattle.cells.specs.WriteChecks.{links_within, values_within, accepted, check_nodes, check_junctions};
 ghost use Rattle.cells.specs.Blocks.{heights_block, junctions_block, links_block, nodes_block};
 
+use crate::copy::copy_over;
 use crate::junction_entry::JunctionEntry;
 use crate::link::PathLink;
 use crate::node_entry::NodeEntry;
@@ -80,7 +81,7 @@ pub(crate) fn put_heights(
     let mut p = at;
     for j in junctions {
         let own = part(heights, j.heightmap_ptr as usize, value_count(j));
-        section[p..p + own.len()].copy_from_slice(own);
+        copy_over(&mut section[p..p + own.len()], own);
         p += own.len();
     }
     p

@@ -1,10 +1,22 @@
-// What is copied of the bytes of a file's arrays.
+// Entries copied one by one. The library's copies call memcpy and memmove, which the archive for C would then need from
+// outside; where a length is known, as for a record's bytes, they don't.
 ghost use Rattle.std.specs.Prelude.{◌≡◌, ◌+◌, ◌*◌, ◌/◌, ◌≤◌, length, take, drop};
 ghost use Rattle.cells.specs.Read.{links_from, values_from};
 
 use crate::link::PathLink;
 use records::layout::LINK_SIZE;
 use records::link::link_at;
+
+// The entries of another list of that length.
+#[tactic(auto, using(crate::proofs::Sequences::Filled::fill_turn, crate::proofs::Sequences::Filled::fill_all))]
+pub(crate) fn copy_over<T: Copy>(list: &mut [T], new: &[T])
+    requires { length list.old ≡ length new.now }
+    ensures { list.new ≡ new.now }
+{
+    for (i, x) in new.iter().enumerate() {
+        list[i] = *x;
+    }
+}
 
 // Record i of an array of records of `size` bytes.
 pub(crate) fn record(array: &[u8], i: usize, size: usize) -> &[u8]
@@ -32,5 +44,6 @@ pub(crate) fn copy_values(h: &[u8], from: usize, values: &mut [u8])
     requires { from + length values.old ≤ length h.now }
     ensures { values.new ≡ values_from h.now from (length values.old) }
 {
-    values.copy_from_slice(&h[from..from + values.len()]);
+    let part = &h[from..from + values.len()];
+    copy_over(values, part);
 }

@@ -5,6 +5,7 @@ ghost use Rattle.cells.specs.Nodes.{is_ped, no_entry, number_from, reordered};
 ghost use Rattle.cells.specs.Moves.{Places};
 ghost use Rattle.cells.specs.declared.node_entry.NodeEntry.{NodeEntry};
 
+use crate::copy::copy_over;
 use crate::node_entry::NodeEntry;
 
 // The nodes moved: `to[i]` is where node i goes. The nodes are then those of any list that has them so.
@@ -45,7 +46,7 @@ pub(crate) fn move_nodes(nodes: &mut [NodeEntry], scratch: &mut [u32], places: &
         × (places.now ≡ new_places (map is_ped nodes.old)) }
     ensures { nodes.new ≡ reordered nodes.old }
 {
-    scratch.copy_from_slice(places);
+    copy_over(scratch, places);
     permute(nodes, scratch);
     number_all(nodes);
 }

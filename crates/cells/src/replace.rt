@@ -4,6 +4,7 @@ ghost use Rattle.records.specs.Put.{put_in};
 ghost use Rattle.cells.specs.Edit.{held_in};
 ghost use Rattle.cells.specs.Replace.{place_for, pool_after};
 
+use crate::copy::copy_over;
 use crate::range::{Range, held_in};
 
 // c new entries in place of e from s on, of l.
@@ -62,6 +63,6 @@ pub fn put_at<T: Copy>(list: &mut [T], at: usize, new: &[T])
     ensures { list.new ≡ put_in list.old at new.now }
 {
     if at <= list.len() && new.len() <= list.len() - at {
-        list[at..at + new.len()].copy_from_slice(new);
+        copy_over(&mut list[at..at + new.len()], new);
     }
 }

@@ -1,12 +1,14 @@
 // Writing a cell into a lent section.
-ghost use Rattle.std.specs.Prelude.{◌≡◌, ◌+◌, ◌<◌, ◌≤◌, length};
+ghost use Rattle.std.specs.Prelude.{◌≡◌, ◌+◌, ◌<◌, ◌≤◌, ℕ, Ok, [], length, take};
 ghost use Rattle.records.specs.Put.{put};
 ghost use Rattle.records.specs.Layout.{sizes, places_of, header_size, lay};
-ghost use Rattle.cells.specs.Memory.{memory};
+ghost use Rattle.cells.specs.Memory.{Memory, memory};
 ghost use Rattle.cells.specs.Held.{memory_of};
 ghost use Rattle.cells.specs.Blocks.{blocks};
-ghost use Rattle.cells.specs.Write.{left, stored, write_call};
+ghost use Rattle.cells.specs.Write.{held, left, stored, write_call};
 ghost use Rattle.cells.specs.WriteCounts.{Counted};
+ghost use Rattle.cells.specs.Read.{read_of};
+ghost use Rattle.cells.specs.BackCheck.{back_tests, held_counts, lengths as lengths_of};
 
 use crate::blocks::{pad, put_heights, put_junctions, put_links, put_nodes, put_records};
 use crate::counts::{Counts, lengths};
@@ -112,8 +114,9 @@ pub(crate) fn store(h: Held, k: Counts, section: &mut [u8]) -> Result<usize, Ref
     Ok(places.total)
 }
 
-// Writes the cell that stands in the lists lent.
-#[tactic(auto, using(crate::proofs::Rules::write_laws), unfolding(crate::specs::Write::write_call))]
+// Writes the cell that stands in the lists lent. What is written is never refused on reading, whatever memory is lent
+// for it, but for lists that are too short.
+#[tactic(auto, using(crate::proofs::Rules::write_laws, crate::proofs::WritingBack::BackCheck::read_after_write), unfolding(crate::specs::Write::write_call))]
 pub fn write(
     ynd: Ynd,
     nodes: &[NodeEntry],
@@ -123,8 +126,12 @@ pub fn write(
     refs: &[NodeJunctionRef],
     section: &mut [u8],
 ) -> Result<usize, Refusal>
-    ensures { left result section.new
+    ensures written { left result section.new
         ≡ write_call (memory ynd nodes.now links.now junctions.now heights.now refs.now) section.old }
+    ensures reads_back { (n : ℕ) (lent : Memory) → result ≡ Ok n
+        → (read_of (take n section.new) [] lent).answer
+        ≡ back_tests (held_counts (held (memory ynd nodes.now links.now junctions.now heights.now refs.now)))
+        (lengths_of lent) }
 {
     let h = Held::new(ynd, nodes, links, junctions, heights, refs);
     let k = write_counts(h)?;

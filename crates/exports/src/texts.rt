@@ -2,6 +2,8 @@
 ghost use Rattle.std.specs.Prelude.{◌≡◌, length};
 ghost use Rattle.exports.specs.Texts.{version, text_of, text_put};
 
+use cells::replace::put_at;
+
 // The version: 10000 times the major number, 100 times the minor one, and the patch.
 #[unsafe(no_mangle)]
 pub extern "C" fn ynd_version() -> u32
@@ -47,7 +49,7 @@ fn text_of(number: u32) -> &'static [u8]
 
 // The text of a refusal's number, cut where the lent bytes are too few, with a zero behind it. Answers how long the
 // whole text is, the zero aside.
-#[tactic(auto, unfolding(crate::specs::Texts::text_put, records::specs::Put::put))]
+#[tactic(auto, using(records::proofs::Puts::put_fits), unfolding(crate::specs::Texts::text_put, records::specs::Put::put))]
 #[unsafe(no_mangle)]
 pub extern "C" fn ynd_refusal_text(number: u32, text: &mut [u8]) -> usize
     ensures length { result ≡ length (text_of number) }
@@ -56,7 +58,7 @@ pub extern "C" fn ynd_refusal_text(number: u32, text: &mut [u8]) -> usize
     let whole = text_of(number);
     if let Some(room) = text.len().checked_sub(1) {
         let kept = whole.len().min(room);
-        text[..kept].copy_from_slice(&whole[..kept]);
+        put_at(text, 0, &whole[..kept]);
         text[kept] = 0;
     }
     whole.len()

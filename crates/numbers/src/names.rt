@@ -26,27 +26,30 @@ fn name_of_area(area: u32) -> FileName
     requires { area < 1024 }
     ensures { result ≡ named (name_of_area area) }
 {
-    let digits = [
-        digit_of(area / 1000),
-        digit_of(area / 100),
-        digit_of(area / 10),
-        digit_of(area),
-    ];
-    let zeros = match area {
-        0..10 => 3,
-        10..100 => 2,
-        100..1000 => 1,
-        _ => 0,
-    };
-    let end = 9 - zeros;
-    let mut bytes = [0u8; 13];
-    bytes[..5].copy_from_slice(b"nodes");
-    bytes[5..end].copy_from_slice(&digits[zeros..]);
-    bytes[end..end + 4].copy_from_slice(b".ynd");
-    FileName {
-        bytes,
-        count: end + 4,
+    if area < 10 {
+        let mut bytes = *b"nodes0.ynd\0\0\0";
+        bytes[5] = digit_of(area);
+        return FileName { bytes, count: 10 };
     }
+    if area < 100 {
+        let mut bytes = *b"nodes00.ynd\0\0";
+        bytes[5] = digit_of(area / 10);
+        bytes[6] = digit_of(area);
+        return FileName { bytes, count: 11 };
+    }
+    if area < 1000 {
+        let mut bytes = *b"nodes000.ynd\0";
+        bytes[5] = digit_of(area / 100);
+        bytes[6] = digit_of(area / 10);
+        bytes[7] = digit_of(area);
+        return FileName { bytes, count: 12 };
+    }
+    let mut bytes = *b"nodes0000.ynd";
+    bytes[5] = digit_of(area / 1000);
+    bytes[6] = digit_of(area / 100);
+    bytes[7] = digit_of(area / 10);
+    bytes[8] = digit_of(area);
+    FileName { bytes, count: 13 }
 }
 
 // The file name of a cell.

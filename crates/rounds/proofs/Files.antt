@@ -2,7 +2,7 @@
 -- Assumes nothing.
 use Prim.Native.Nat.{ℕ, ◌+◌, ◌-◌, ◌%◌, ◌≤◌, ◌<◌}
 use native.Mathlib.Omega.{arith}
-use native.Mathlib.Nat.{le_of_eq, zero-add}
+use native.Mathlib.Nat.{le_of_eq}
 use mathlib.Core.Bool.{Bool, true, false, ◌&&◌}
 use mathlib.Core.Path.{◌≡◌, refl, sym, ap, ◌∙◌}
 use mathlib.Core.List.{List, [], ◌∷◌, ◌++◌}
@@ -15,8 +15,8 @@ use borrow.Author.Tests.{lt-ltb, le-ltb, eq-eqb, ltb-false}
 use Rattle.std.specs.List.{starts_with}
 use Rattle.std.proofs.lemmas.Bool.Decides.{nat_tests}
 use Rattle.records.specs.Bytes.{byte_at, le16, bytes16, number_bytes}
-use Rattle.records.specs.Put.{put}
-use Rattle.records.proofs.Puts.{then}
+use Rattle.records.specs.Put.{put, put_in}
+use Rattle.records.proofs.Puts.{length_put, put_fits, then}
 use Rattle.numbers.proofs.Refusing.{not_refused, tests}
 use Rattle.cells.proofs.Sequences.Tests.{by_test}
 use Rattle.rounds.specs.Round.{rest_bytes, file_bytes, has_version, round_left, rest_read, written_left, written}
@@ -80,17 +80,15 @@ module _ (at : ℕ) (s choices : List ℕ) (count : ℕ) (counted : count ≡ le
       rw (le-ltb _ _ whole, eq-eqb (length s) (at + 4 + le16 s (at + 2)) exactly, le-ltb _ _ room)
       (λ i. round_left (Ok (record { start = le16 s at; count = sym counted i })) (put choices 0 (drop (at + 4) s)))
 
-  pub rest_held : count ≤ length choices → (start : ℕ) (front : List ℕ) → start ≡ le16 s at
-      → front ≡ take (length s - (at + 4)) (drop (at + 4) s)
-      → round_left (Ok (record { start = start; count = count })) (front ++ drop count choices)
-      ≡ rest_read at s choices
-  unfolding put
-  rest_held h start front e f =
+  pub rest_held : count ≤ length choices → (start : ℕ) (new : List ℕ) → start ≡ le16 s at
+      → new ≡ put_in choices 0 (take (length s - (at + 4)) (drop (at + 4) s))
+      → round_left (Ok (record { start = start; count = count })) new ≡ rest_read at s choices
+  rest_held h start new e f =
       let x = drop (at + 4) s in
       let long : length x ≡ count = omega (arith, length-drop (at + 4) s) in
-      let all : front ≡ x = f ∙ take_all _ x (le_of_eq (length-drop (at + 4) s)) in
-      (λ i. round_left (Ok (record { start = e i; count = count }))
-      (all i ++ drop (sym (zero-add (length x) ∙ long) i) choices)) ∙ sym (rest_is h)
+      let all = take_all _ x (le_of_eq (length-drop (at + 4) s)) in
+      let is-put : new ≡ put choices 0 x = f ∙ ap (put_in choices 0) all ∙ put_fits choices 0 x (omega (arith, long)) in
+      (λ i. round_left (Ok (record { start = e i; count = count })) (is-put i)) ∙ sym (rest_is h)
 
 -- ---- writing
 
@@ -102,11 +100,7 @@ pub rest_long : (start count : ℕ) → length (rest_bytes start count) ≡ 4
 unfolding rest_bytes number_bytes
 rest_long start count = refl
 
--- bytes copied over the first ones of a list, or over those from a place on
-pub put_first : (l x y : List ℕ) → x ≡ y → x ++ drop (length y) l ≡ put l 0 y
-unfolding put
-put_first l x y e = rw (e, zero-add)
-
+-- bytes copied over those of a list from a place on
 pub put_next : (l : List ℕ) (at k : ℕ) (x y : List ℕ) → x ≡ y → k ≡ length y → put_mid at k l x ≡ put l at y
 unfolding put
 put_next l at k x y e h = rw (e, h, drop-drop, append_assoc)
@@ -139,15 +133,22 @@ module _ (head : List ℕ) (start : ℕ) (choices file : List ℕ) where
 
     -- the four parts, each in its place
     pub write_held : length head + 4 + length choices ≤ length file → (exit₁ exit₂ exit₃ exit₄ : List ℕ)
-        → exit₁ ≡ put file 0 head → exit₂ ≡ put exit₁ (length head) (bytes16 start)
-        → exit₃ ≡ put exit₂ (length head + 2) (bytes16 (length choices)) → exit₄ ≡ put exit₃ (length head + 4) choices
+        → exit₁ ≡ put_in file 0 head → exit₂ ≡ put exit₁ (length head) (bytes16 start)
+        → exit₃ ≡ put exit₂ (length head + 2) (bytes16 (length choices))
+        → exit₄ ≡ put_in exit₃ (length head + 4) choices
         → written_left (Ok (length head + 4 + length choices)) exit₄ ≡ written head start choices file
     unfolding file_bytes rest_bytes
     write_held h exit₁ exit₂ exit₃ exit₄ e₁ e₂ e₃ e₄ =
         let s₂ = bytes16 start in
         let s₃ = bytes16 (length choices) in
         let two : (n : ℕ) → length (bytes16 n) ≡ 2 = two_bytes in
-        let p₂ : exit₂ ≡ put file 0 (head ++ s₂) = then file exit₁ exit₂ 0 (length head) head s₂ e₁ e₂ (omega arith)
+        let p₁ : exit₁ ≡ put file 0 head = e₁ ∙ put_fits file 0 head (omega arith) in
+        let l₁ = ap length p₁ ∙ length_put file 0 head (omega arith) in
+        let l₂ = ap length e₂ ∙ length_put exit₁ (length head) s₂ (omega (arith, two start, l₁)) in
+        let l₃ = ap length e₃ ∙ length_put exit₂ (length head + 2) s₃ (omega (arith, two (length choices), l₁, l₂)) in
+        let q₄ : exit₄ ≡ put exit₃ (length head + 4) choices
+        = e₄ ∙ put_fits exit₃ (length head + 4) choices (omega (arith, l₁, l₂, l₃)) in
+        let p₂ : exit₂ ≡ put file 0 (head ++ s₂) = then file exit₁ exit₂ 0 (length head) head s₂ p₁ e₂ (omega arith)
         (omega arith) in
         let long₂ : length (head ++ s₂) ≡ length head + 2 = length-append head s₂ ∙ omega (arith, two start) in
         let p₃ : exit₃ ≡ put file 0 ((head ++ s₂) ++ s₃) = then file exit₂ exit₃ 0 (length head + 2) (head ++ s₂) s₃
@@ -155,7 +156,7 @@ module _ (head : List ℕ) (start : ℕ) (choices file : List ℕ) where
         let long₃ : length ((head ++ s₂) ++ s₃) ≡ length head + 4 = length-append (head ++ s₂) s₃
         ∙ omega (arith, two (length choices)) in
         let p₄ : exit₄ ≡ put file 0 (((head ++ s₂) ++ s₃) ++ choices) = then file exit₃ exit₄ 0 (length head + 4)
-        ((head ++ s₂) ++ s₃) choices p₃ e₄ (omega arith) (omega arith) in
+        ((head ++ s₂) ++ s₃) choices p₃ q₄ (omega arith) (omega arith) in
         let whole : ((head ++ s₂) ++ s₃) ++ choices
         ≡ bytes = ap (λ (l : List ℕ). l ++ choices) (append_assoc head s₂ s₃) in
         let room : length bytes ≤ length file = omega (arith, file_long head start choices) in

@@ -5,6 +5,7 @@ ghost use Rattle.rounds.specs.Round.{head_bytes, has_version, rest_read, round_r
 ghost use Rattle.rounds.specs.Round.{written, written_left, in_version, version_read, version_left};
 ghost use Rattle.rounds.specs.declared.file.Version.TheVariants.{One, Two};
 
+use cells::replace::put_at;
 use numbers::refusal::{Lent, Refusal};
 use records::bytes::u16_at;
 
@@ -57,7 +58,7 @@ fn read_rest(file: &[u8], at: u32, choices: &mut [u8]) -> Result<Round, Refusal>
     if choices.len() < count {
         return Err(Refusal::TooShort(Lent::List));
     }
-    choices[..count].copy_from_slice(&file[from..]);
+    put_at(choices, 0, &file[from..]);
     Ok(Round {
         start: u16_at(file, at),
         count,
@@ -122,10 +123,10 @@ fn write_after(head: &[u8], start: u16, choices: &[u8], file: &mut [u8]) -> Resu
     if file.len() < end {
         return Err(Refusal::TooShort(Lent::List));
     }
-    file[..n].copy_from_slice(head);
+    put_at(file, 0, head);
     file[n..n + 2].copy_from_slice(&start.to_le_bytes());
     file[n + 2..n + 4].copy_from_slice(&count.to_le_bytes());
-    file[n + 4..end].copy_from_slice(choices);
+    put_at(file, n + 4, choices);
     Ok(end)
 }
 

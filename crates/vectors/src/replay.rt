@@ -47,8 +47,10 @@ fn record_agrees(record: &[u8]) -> bool {
     }
 }
 
-// The kind is a byte of the file: a number and not an enum, since each has one call and nothing else.
-fn agrees(kind: u8, body: &[u8]) -> bool {
+// The kind is a byte of the file: a number and not an enum, since each has one call and nothing else. Never inlined, so
+// that the room of these is not on the stack beside that of a large file.
+#[inline(never)]
+fn small_agrees(kind: u8, body: &[u8]) -> bool {
     match kind {
         1 => crate::steps::steps(body),
         2 => crate::steps::metres(body),
@@ -61,7 +63,6 @@ fn agrees(kind: u8, body: &[u8]) -> bool {
         9 => crate::files::file(body),
         10 => crate::edits::links(body),
         11 => crate::edits::junction(body),
-        12 => crate::large::large(body),
         13 => crate::cell::walk(body),
         14 => crate::cell::sound(body),
         15 => crate::junctions::junctions(body),
@@ -75,6 +76,14 @@ fn agrees(kind: u8, body: &[u8]) -> bool {
         23 => crate::round_files::version_file(body),
         24 => crate::cell::follow_version(body),
         _ => false,
+    }
+}
+
+fn agrees(kind: u8, body: &[u8]) -> bool {
+    if kind == 12 {
+        crate::large::large(body)
+    } else {
+        small_agrees(kind, body)
     }
 }
 

@@ -18,6 +18,7 @@ use cells::link::PathLink;
 use cells::lookup::junction_of;
 use cells::node_entry::NodeEntry;
 use cells::range::{cut, part, value_count};
+use cells::replace::put_at;
 use cells::room::over_limit;
 use cells::ynd::Ynd;
 use numbers::refusal::{Lent, Refusal};
@@ -143,7 +144,7 @@ fn values_at<'a>(ynd: Ynd, junctions: &[JunctionEntry], heights: &'a [u8], place
 
 // The heightmap values of the junction at a place, copied to the front of `values`, whatever the lists that are not
 // lent.
-#[tactic(auto, using(cells::proofs::Editing::EditLaws::entry_held), unfolding(crate::specs::Shown::shown_values, records::specs::Put::put))]
+#[tactic(auto, using(cells::proofs::Editing::EditLaws::entry_held, records::proofs::Puts::put_fits), unfolding(crate::specs::Shown::shown_values))]
 pub fn shown_values(
     ynd: Ynd,
     junctions: &[JunctionEntry],
@@ -163,7 +164,7 @@ pub fn shown_values(
     if values.len() < v.len() {
         return Err(Refusal::TooShort(Lent::Heightmap));
     }
-    values[..v.len()].copy_from_slice(v);
+    put_at(values, 0, v);
     Ok(v.len())
 }
 

@@ -1,4 +1,4 @@
--- A cell in memory as reading leaves it. That every call leaves it so: drawn TidyAsRead.
+-- A cell in memory as reading leaves it. That calls leave it so: AsReadKept, and of made cells drawn TidyAsRead.
 use Prim.Native.Nat.{ℕ, ◌*◌, ◌<◌, ◌≤◌}
 use Rattle.std.specs.List.{All}
 use mathlib.Core.Path.{◌≡◌}

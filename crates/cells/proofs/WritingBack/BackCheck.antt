@@ -327,6 +327,8 @@ module _ (h : Memory) (told : Told h) where
       room_done (Err a) x = refl
 
 -- So no call writes a section that reading refuses, whatever memory it is lent, but for lists that are too short (7).
+-- That a junction's sizes have 8 bits is its type's: `write` proves it of what it is lent, and says this with no premise
+-- (clause `reads_back`).
 pub read_after_write : (m lent : Memory) → All Sized (held m).junctions → (s : List ℕ) (n : ℕ)
     → (write_call m s).answer ≡ Ok n
     → (read_of (take n (write_call m s).section) [] lent).answer ≡ back_tests (held_counts (held m)) (lengths lent)

@@ -10,5 +10,5 @@ unfolding reordered
 returns c =
     let ws = c.args.nodes.now in
     let moved = c.permute.ensures (parted is_ped ws) (parted_length ws)
-    (rw (c.copy_from_slice.ensures.after, c.requires.2) (they_lead ws)) in
+    (rw (c.copy_over.ensures, c.requires.2) (they_lead ws)) in
     c.number_all.ensures ∙ ap (number_from 0) moved
