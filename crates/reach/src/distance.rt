@@ -58,6 +58,7 @@ impl<'a> Point<'a> {
 
     // The squared distance of a node, as far as the limit. Where x alone reaches it, y is not looked at. The sum of
     // two squares passes 32 bits.
+    #[inline(always)]
     #[tactic(auto, using(crate::proofs::TurnLaws::bounded_laws))]
     pub(crate) fn distance_up_to(&self, n: &NodeEntry, limit: u64) -> u64
         ensures { result ≡ bounded limit (far_from self.now.x self.now.y n.now) }
