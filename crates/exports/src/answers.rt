@@ -35,6 +35,7 @@ pub(crate) fn answer<T: Copy>(r: Result<T, Refusal>, place: &mut usize) -> u32
 }
 
 // The value goes into the lent cell. A refusal leaves that as it was.
+#[inline(always)]
 pub(crate) fn tell<T: Copy>(r: Result<T, Refusal>, cell: &mut T, place: &mut usize) -> u32
     ensures { told result place.new cell.new ≡ value_told r cell.old }
 {
@@ -42,6 +43,7 @@ pub(crate) fn tell<T: Copy>(r: Result<T, Refusal>, cell: &mut T, place: &mut usi
 }
 
 // The same of what is made of the value.
+#[inline(always)]
 pub(crate) fn tell_as<T: Copy, U: Copy, F: Fn(T) -> U>(
     r: Result<T, Refusal>,
     form: F,
@@ -63,6 +65,7 @@ pub(crate) fn tell_as<T: Copy, U: Copy, F: Fn(T) -> U>(
 }
 
 // The cell's own words after a call on it; a refusal leaves the old ones.
+#[inline(always)]
 #[tactic(auto, unfolding(crate::specs::Cells::call_of))]
 pub(crate) fn tell_ynd(r: Result<Ynd, Refusal>, ynd: &mut Ynd, place: &mut usize) -> u32
     ensures { (nodes : List NodeEntry) (links : List PathLink) (junctions : List JunctionEntry)
