@@ -1,5 +1,5 @@
-// T-10, for the edits of must-fail/: a node keeps its unused fields, here unused4, stored in lent memory, given from
-// there, and whatever else of it changes.
+// For the edits of must-fail/: a node keeps its unused fields, here unused4, stored in lent memory, given from there,
+// and whatever else of it changes.
 ghost use Rattle.std.specs.Prelude.{◌≡◌};
 
 use cells::node::PathNode;
